@@ -1,0 +1,5 @@
+-- The vocabulary that rules, history and the code's contracts share.
+pub mod Tests
+pub mod Counting
+pub mod Functions
+pub mod Bytes

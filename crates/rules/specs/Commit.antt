@@ -1,0 +1,76 @@
+-- Page writes and cuts: the page writes of a top transaction's commit and of a recovery, and a crash among them.
+use Prim.Native.Nat.{ℕ, zero, suc}
+use mathlib.Core.Bool.{Bool, true, false, cond}
+use mathlib.Core.List.{List, [], _∷_, _++_, map}
+use mathlib.Core.Option.{Option, none, some}
+use lib.ListN.{length, take}
+use Rattle.laws.specs.Tests.{same, under}
+use Rattle.laws.specs.Counting.{those}
+use Rattle.laws.specs.Functions.{updated}
+use Rattle.rules.specs.Geometry.{Geometry, records}
+use Rattle.rules.specs.Store.{Page, Pages, intention, home, mapOf, commitPage, isNamed}
+use Rattle.rules.specs.Versions.{isSome, else}
+
+-- A page write: the page's number, and the page. One page write is atomic.
+pub data PageWrite : Type 0 where
+  sets : ℕ → Page → PageWrite
+
+unfoldable pub written : PageWrite → Pages → Pages
+written (sets n p) s = updated n p s
+
+unfoldable pub applied : List PageWrite → Pages → Pages
+applied [] s = s
+applied (w ∷ ws) s = applied ws (written w s)
+
+-- What page writes with a cut leave: the store, how many were made, and whether a crash came.
+pub record Cut (S : Type 0) : Type 0 where
+  pub store : S
+  pub made : ℕ
+  pub crashed : Bool
+
+-- Count k below the number of writes due: exactly the first k happen, then the crash. Else all happen, and there is no crash.
+unfoldable pub cutAt : ℕ → List PageWrite → Pages → Cut Pages
+cutAt k ws s = record { store = applied (take k ws) s; made = cond (under k (length ws)) k (length ws); crashed = under k (length ws) }
+
+-- the page that a transaction with these versions settles for a record
+unfoldable pub pageIn : (ℕ → Option Page) → ℕ → Page
+pageIn versions r = else (versions r) []
+
+module _ (g : Geometry) where
+  -- the intention pages, the home pages of some records
+  unfoldable pub intentions : (ℕ → Page) → List ℕ → List PageWrite
+  intentions new rs = map (λ r. sets (intention r) (new r)) rs
+
+  unfoldable pub homes : (ℕ → Page) → List ℕ → List PageWrite
+  homes new rs = map (λ r. sets (home g r) (new r)) rs
+
+  -- the commit page for a map; 0 is the empty one
+  unfoldable pub marks : ℕ → PageWrite
+  marks map = sets 0 (commitPage g map)
+
+  -- of a commit that changes these records: none for no record, else intention pages by rising record, the commit page as committed,
+  -- home pages by rising record, the commit page as empty
+  unfoldable pub commitWrites : (ℕ → Page) → ℕ → List ℕ → List PageWrite
+  commitWrites new map [] = []
+  commitWrites new map (r ∷ rs) = intentions new (r ∷ rs) ++ (marks map ∷ (homes new (r ∷ rs) ++ (marks 0 ∷ [])))
+
+  -- of a recovery over a commit page that names these records: none for no record, else their intention pages go home by rising record,
+  -- then the empty commit page
+  unfoldable pub recoverWrites : (ℕ → Page) → List ℕ → List PageWrite
+  recoverWrites planned [] = []
+  recoverWrites planned (r ∷ rs) = homes planned (r ∷ rs) ++ (marks 0 ∷ [])
+
+  -- a top transaction with these versions commits, cut at k
+  unfoldable pub commitAt : Pages → (ℕ → Option Page) → ℕ → Cut Pages
+  commitAt s versions k =
+      let changed : ℕ → Bool = λ r. isSome (versions r) in
+      cutAt k (commitWrites (pageIn versions) (mapOf g changed) (those (records g) changed)) s
+
+  -- a recovery, cut at k
+  unfoldable pub recoverAt : Pages → ℕ → Cut Pages
+  recoverAt s k = cutAt k (recoverWrites (λ r. s (intention r)) (those (records g) (isNamed g s))) s
+
+-- opens the definitions of this module: for what is proved by computing
+unfoldable pub open-commit : Unit {0}
+unfolding written applied cutAt pageIn intentions homes marks commitWrites recoverWrites commitAt recoverAt
+open-commit = tt

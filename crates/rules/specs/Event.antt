@@ -1,0 +1,149 @@
+-- The event word: its fields, the table of the fields that each kind of event uses, and the event that a word stands for.
+use Prim.Native.Nat.{ℕ, _+_, _*_, _/_, _%_, _^_}
+use mathlib.Core.Bool.{Bool, true, false, cond, _&&_, _||_}
+use mathlib.Core.List.{List, [], _∷_}
+use mathlib.Core.Option.{Option, none, some}
+use lib.ListN.{getD}
+use Rattle.laws.specs.Tests.{same, under}
+use Rattle.rules.specs.Geometry.{Geometry, records, pageSize}
+
+-- The events. A transaction is named first, then a record.
+pub data Event : Type 0 where
+  -- under a parent, or nobody
+  begin : ℕ → Event
+  lock : ℕ → ℕ → Event
+  -- at an offset, a value
+  write : ℕ → ℕ → ℕ → ℕ → Event
+  -- at an offset
+  read : ℕ → ℕ → ℕ → Event
+  -- with the count of page writes after which a crash comes
+  commit : ℕ → ℕ → Event
+  abort : ℕ → Event
+  crash : Event
+  -- with such a count
+  recover : ℕ → Event
+
+pub record Fields : Type 0 where
+  pub kind : ℕ
+  pub transaction : ℕ
+  pub rec : ℕ
+  pub offset : ℕ
+  pub count : ℕ
+  pub value : ℕ
+  -- what stands behind the value
+  pub spare : ℕ
+
+-- the field of a word that begins some bits from its end and is some bits wide
+unfoldable pub field : ℕ → ℕ → ℕ → ℕ
+field place width w = w / 2 ^ place % 2 ^ width
+
+-- Most significant first: kind 4, transaction 5, record, offset 5, count, value 8, spare bits.
+unfoldable pub fields : Geometry → ℕ → Fields
+fields g w =
+    let value : ℕ = g .spareBits in
+    let count : ℕ = value + 8 in
+    let offset : ℕ = count + g .cutBits in
+    let rec : ℕ = offset + 5 in
+    let transaction : ℕ = rec + g .recordBits in
+    let kind : ℕ = transaction + 5 in
+    record {
+      kind = field kind 4 w;
+      transaction = field transaction 5 w;
+      rec = field rec (g .recordBits) w;
+      offset = field offset 5 w;
+      count = field count (g .cutBits) w;
+      value = field value 8 w;
+      spare = field 0 (g .spareBits) w;
+    }
+
+-- the fields that a kind of event uses, after its name; no other kind is known
+pub record Uses : Type 0 where
+  pub known : Bool
+  pub transaction : Bool
+  pub rec : Bool
+  pub offset : Bool
+  pub count : Bool
+  pub value : Bool
+
+unfoldable pub row : Bool → Bool → Bool → Bool → Bool → Bool → Uses
+row k t r o c v = record { known = k; transaction = t; rec = r; offset = o; count = c; value = v }
+
+unfoldable pub noKind : Uses
+noKind = row false false false false false false
+
+unfoldable pub uses : List Uses
+uses =
+    noKind ∷  -- 0
+    row true true false false false false ∷  -- 1 begin
+    row true true true false false false ∷  -- 2 lock
+    row true true true true false true ∷  -- 3 write
+    row true true true true false false ∷  -- 4 read
+    row true true false false true false ∷  -- 5 commit
+    row true true false false false false ∷  -- 6 abort
+    row true false false false false false ∷  -- 7 crash
+    row true false false false true false ∷  -- 8 recover
+    []
+
+unfoldable pub usesOf : ℕ → Uses
+usesOf kind = getD uses kind noKind
+
+-- the kind is known, and every field that it does not use is 0
+unfoldable pub wellFormed : Fields → Bool
+wellFormed f =
+    let u = usesOf (f .kind) in
+    u .known &&
+    (u .transaction || same (f .transaction) 0) &&
+    (u .rec || same (f .rec) 0) &&
+    (u .offset || same (f .offset) 0) &&
+    (u .count || same (f .count) 0) &&
+    (u .value || same (f .value) 0) &&
+    same (f .spare) 0
+
+-- the event of a kind, with its fields
+unfoldable pub eventOf : Fields → Option Event
+eventOf f =
+    getD (
+    none ∷
+    some (begin (f .transaction)) ∷
+    some (lock (f .transaction) (f .rec)) ∷
+    some (write (f .transaction) (f .rec) (f .offset) (f .value)) ∷
+    some (read (f .transaction) (f .rec) (f .offset)) ∷
+    some (commit (f .transaction) (f .count)) ∷
+    some (abort (f .transaction)) ∷
+    some crash ∷
+    some (recover (f .count)) ∷
+    []) (f .kind) none
+
+-- the event that a word stands for; a bad event is none
+unfoldable pub decode : Geometry → ℕ → Option Event
+decode g w = let f = fields g w in cond (wellFormed f) (eventOf f) none
+
+unfoldable pub word : Geometry → ℕ → ℕ → ℕ → ℕ → ℕ → ℕ → ℕ
+word g kind transaction rec offset count value =
+    (((((kind * 2 ^ 5 + transaction) * 2 ^ g .recordBits + rec) * 2 ^ 5 + offset) * 2 ^ g .cutBits + count) * 2 ^ 8 + value) * 2 ^ g .spareBits
+
+unfoldable pub encode : Geometry → Event → ℕ
+encode g (begin t) = word g 1 t 0 0 0 0
+encode g (lock t r) = word g 2 t r 0 0 0
+encode g (write t r o v) = word g 3 t r o 0 v
+encode g (read t r o) = word g 4 t r o 0 0
+encode g (commit t k) = word g 5 t 0 0 k 0
+encode g (abort t) = word g 6 t 0 0 0 0
+encode g crash = word g 7 0 0 0 0 0
+encode g (recover k) = word g 8 0 0 0 k 0
+
+-- an event whose fields a word can hold
+unfoldable pub fits : Geometry → Event → Bool
+fits g (begin t) = under t 32
+fits g (lock t r) = under t 32 && under r (records g)
+fits g (write t r o v) = under t 32 && under r (records g) && under o pageSize && under v 256
+fits g (read t r o) = under t 32 && under r (records g) && under o pageSize
+fits g (commit t k) = under t 32 && under k (2 ^ g .cutBits)
+fits g (abort t) = under t 32
+fits g crash = true
+fits g (recover k) = under k (2 ^ g .cutBits)
+
+-- opens the definitions of this module: for what is proved by computing
+unfoldable pub open-event : Unit {0}
+unfolding field fields row noKind uses usesOf wellFormed eventOf decode word encode fits
+open-event = tt

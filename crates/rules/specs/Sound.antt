@@ -1,0 +1,46 @@
+-- Soundness of a state between two events.
+use mathlib.Core.Path.{_≡_}
+use mathlib.Core.Bool.{Bool, true, false, _||_}
+use mathlib.Core.List.{List}
+use mathlib.Core.Logic.{_⊎_}
+use mathlib.Core.Option.{Option, some}
+use Prim.Native.Nat.{ℕ, suc, _<_, _≤_}
+use lib.ListN.{length}
+use Rattle.rules.specs.Geometry.{Geometry, records, transactions, nobody, pageSize}
+use Rattle.rules.specs.Store.{Page}
+use Rattle.rules.specs.State.{Bearer, Bearers, active, depthIn, lineOf, mem, State, live, holds, retains}
+use Rattle.rules.specs.Versions.{isSome}
+use Rattle.rules.specs.Form.{Form, Medium}
+use Rattle.rules.specs.Step.{StateOf}
+
+-- on one line: one is at or beneath the other
+unfoldable pub inLine : Bearers → ℕ → ℕ → Bool
+inLine b q z = mem q (lineOf b z) || mem z (lineOf b q)
+
+pub record Sound (f : Form) (s : StateOf f) : Type 0 where
+  -- a live transaction bears one of the transaction numbers
+  pub numbered : (t : ℕ) → live s t ≡ true → t < transactions
+  -- its parent is live, or nobody
+  pub parented : (t p d : ℕ) → s .bearer t ≡ active p d → (p ≡ nobody) ⊎ (live s p ≡ true)
+  -- its depth is one more than its parent's (1 where that is nobody), and within the limit
+  pub level : (t p d : ℕ) → s .bearer t ≡ active p d → d ≡ suc (depthIn (s .bearer p))
+  pub shallow : (t : ℕ) → depthIn (s .bearer t) ≤ f .geometry .depthLimit
+  -- holders and retainers are live
+  pub holder-live : (r t : ℕ) → holds s r t ≡ true → live s t ≡ true
+  pub retainer-live : (r t : ℕ) → retains s r t ≡ true → live s t ≡ true
+  -- a lock has one holder; its retainers are on one line, and the holder is at or beneath the last
+  pub one-holder : (r t u : ℕ) → holds s r t ≡ true → holds s r u ≡ true → t ≡ u
+  pub on-one-line : (r t u : ℕ) → retains s r t ≡ true → retains s r u ≡ true → inLine (s .bearer) t u ≡ true
+  pub beneath : (r t u : ℕ) → holds s r t ≡ true → retains s r u ≡ true → mem u (lineOf (s .bearer) t) ≡ true
+  -- who has a version holds or retains the lock; a version is a page of a record
+  pub by-lock : (t r : ℕ) → isSome (s .version t r) ≡ true → (holds s r t || retains s r t) ≡ true
+  pub ranged : (t r : ℕ) → isSome (s .version t r) ≡ true → r < records (f .geometry)
+  pub paged : (t r : ℕ) (p : Page) → s .version t r ≡ some p → length p ≡ pageSize
+  -- nothing is live while down; the commit page is empty while up
+  pub idle : (t : ℕ) → s .up ≡ false → live s t ≡ false
+  pub calm : s .up ≡ true → f .medium .emptied (s .store) ≡ true
+
+-- opens the definitions of this module: for what is proved by computing
+unfoldable pub open-sound : Unit {0}
+unfolding inLine
+open-sound = tt
