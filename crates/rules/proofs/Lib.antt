@@ -1,2 +1,4 @@
 pub mod Trials
 pub mod Medium
+pub mod Tree
+pub mod Bearers
