@@ -3,3 +3,4 @@ pub mod Medium
 pub mod Tree
 pub mod Bearers
 pub mod Acceptance
+pub mod Locks
