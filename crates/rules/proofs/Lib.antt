@@ -1,2 +1,5 @@
 pub mod Trials
 pub mod Medium
+pub mod Editions
+pub mod Map
+pub mod CommitPage
