@@ -1,3 +1,4 @@
 pub mod Tests
 pub mod Those
 pub mod Bytes
+pub mod Updated

@@ -3,3 +3,5 @@ pub mod Medium
 pub mod Editions
 pub mod Map
 pub mod CommitPage
+pub mod Members
+pub mod Shows
