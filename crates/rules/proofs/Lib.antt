@@ -5,3 +5,4 @@ pub mod Map
 pub mod CommitPage
 pub mod Members
 pub mod Shows
+pub mod Cuts
