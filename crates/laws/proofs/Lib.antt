@@ -3,3 +3,6 @@ pub mod Bits
 pub mod Filled
 pub mod Booleans
 pub mod Counting
+pub mod Those
+pub mod Bytes
+pub mod Updated

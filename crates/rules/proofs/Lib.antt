@@ -4,3 +4,9 @@ pub mod Tree
 pub mod Bearers
 pub mod Acceptance
 pub mod Locks
+pub mod Editions
+pub mod Map
+pub mod CommitPage
+pub mod Members
+pub mod Shows
+pub mod Cuts
