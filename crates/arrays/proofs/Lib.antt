@@ -1,3 +1,4 @@
 pub mod Sweep
+pub mod Joined
 pub mod Modes
 pub mod View

@@ -20,11 +20,3 @@ pub open-is : (line : ℕ → Bool) (holds retains : Owners) (t r one : ℕ) (a 
 unfolding openTo
 open-is line holds retains t r one a b e f g =
     ap₂ _&&_ (f ∙ ap (λ (s : ℕ → Bool). all 24 (λ k. not (holds r k) || s k)) e) g
-
-pub sets-joined : (l : List ℕ) (t r v : ℕ) → r < length l → bits v ≡ (λ k. sets l r k || same k t) → sets (set l r v) ≡ joined t r (sets l)
-unfolding joined updated
-sets-joined l t r v h e = sets-set l r v h ∙ fun-ext (λ q. fun-ext (λ j. go q j (same? q r)))
-  where
-    go : (q j : ℕ) → Same q r → cond (same q r) (bits v) (sets l q) j ≡ (sets l q j || (same q r && same j t))
-    go q j (is f s _) = rw (s, e, f)
-    go q j (isnt f s _) = rw (s, or-false)

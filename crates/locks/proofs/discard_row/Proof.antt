@@ -10,7 +10,6 @@ use Rattle.arrays.proofs.Sweep.{Swept, swept-none, swept-all, Upto, upto-none, 
 use Rattle.laws.specs.Bits.{bits}
 use Rattle.sets.specs.Sets.{sets}
 use Rattle.laws.specs.Tests.{same}
-use Rattle.locks.proofs.Granting.{open-is, sets-joined}
 use Rattle.sets.proofs.Sets.{sets-past}
 use Rattle.locks.proofs.discard_row.Statement.{statement}
 use Rattle.locks.proofs.discard_row.Tie as tie

@@ -1,0 +1,4 @@
+pub mod Walk
+pub mod Seen
+pub mod Lifting
+pub mod Map
