@@ -4,3 +4,4 @@ pub mod Tree
 pub mod Bearers
 pub mod Acceptance
 pub mod Locks
+pub mod Owners
