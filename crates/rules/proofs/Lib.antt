@@ -5,3 +5,5 @@ pub mod Bearers
 pub mod Acceptance
 pub mod Locks
 pub mod Owners
+pub mod Parts
+pub mod Soundness

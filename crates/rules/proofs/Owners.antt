@@ -1,13 +1,13 @@
 -- The laws of locks and versions are kept: by a lock that is granted, by a version made under it, when transactions end, and when a child
 -- commits into its parent.
-use mathlib.Core.Path.{_≡_, refl, sym, ap, subst, _∙_}
-use mathlib.Core.Bool.{Bool, true, false, cond, _&&_, _||_, true≢false, false≢true, and-false, or-true}
-use mathlib.Core.List.{List, [], _∷_}
+use mathlib.Core.Path.{_≡_, refl, sym, _∙_}
+use mathlib.Core.Bool.{Bool, true, false, cond, _&&_, _||_, false≢true, and-false, or-true}
+use mathlib.Core.List.{[], _∷_}
 use mathlib.Core.Logic.{_≢_}
 use mathlib.Core.Option.{Option, none, some}
 use Prim.Native.Nat.{ℕ}
 use Rattle.laws.specs.Tests.{same}
-use Rattle.laws.proofs.Tests.{same?, Same, is, isnt, same-eq, same-refl, ne-false, Is, is?, yes′, no′}
+use Rattle.laws.proofs.Tests.{same?, Same, is, isnt, ne-false, Is, is?, yes′, no′}
 use Rattle.laws.proofs.Booleans.{or-left, or-right, clash}
 use Rattle.rules.specs.Store.{Page}
 use Rattle.rules.specs.State.{mem, Mode, nothing, reading, writing, isLock, stronger, Modes, Versions}
