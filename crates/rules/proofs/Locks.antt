@@ -10,7 +10,7 @@ use lib.ListN.{length}
 use Rattle.laws.specs.Tests.{same}
 use Rattle.laws.specs.Counting.{all}
 use Rattle.laws.proofs.Tests.{same-refl, ne-false}
-use Rattle.laws.proofs.Booleans.{and-left, and-right, or-left, or-right, refute, clash}
+use Rattle.laws.proofs.Booleans.{or-cases, and-left, and-right, or-left, or-right, refute, clash}
 use Rattle.laws.proofs.Counting.{any-false, all-true}
 use Rattle.rules.specs.Geometry.{transactions, nobody}
 use Rattle.rules.specs.State.{Bearer, Bearers, free, active, isActive, parentIn, depthIn, lineOf, mem, Modes, isLock, Versions, live, holds, retains}
@@ -19,7 +19,7 @@ use Rattle.rules.specs.Versions.{isSome}
 use Rattle.rules.specs.Form.{Form}
 use Rattle.rules.specs.Step.{StateOf, hasChild}
 use Rattle.rules.specs.Sound.{Sound, inLine}
-use Rattle.rules.proofs.Tree.{Good, Lines, Tree, isCons, own, up, antisym, shorter, or-cases}
+use Rattle.rules.proofs.Tree.{Good, Lines, Tree, isCons, own, up, antisym, shorter}
 use Rattle.rules.proofs.Bearers.{Rooted, rooted-tree, active-line, line-of-member, line-length, child-of}
 use Rattle.rules.proofs.Acceptance.{LockOk}
 
