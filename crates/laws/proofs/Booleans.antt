@@ -25,6 +25,11 @@ pub or-right : (a b : Bool) → b ≡ true → (a || b) ≡ true
 or-right true b e = refl
 or-right false b e = e
 
+-- a disjunction that holds has a side that holds
+pub or-cases : {A : Type 0} (a b : Bool) → (a || b) ≡ true → (a ≡ true → A) → (b ≡ true → A) → A
+or-cases true b e f g = f refl
+or-cases false b e f g = g e
+
 -- what cannot be true is false
 pub refute : (b : Bool) → (b ≡ true → ⊥) → b ≡ false
 refute true n = absurd (n refl)

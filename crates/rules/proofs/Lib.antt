@@ -10,3 +10,6 @@ pub mod CommitPage
 pub mod Members
 pub mod Shows
 pub mod Cuts
+pub mod Owners
+pub mod Parts
+pub mod Soundness
