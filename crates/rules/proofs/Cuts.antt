@@ -77,13 +77,17 @@ module _ (g : Geometry) where
     length-append (intentions g f (r ∷ rs)) (marks g m ∷ (homes g f (r ∷ rs) ++ (marks g 0 ∷ []))),
     length-append (homes g f (r ∷ rs)) (marks g 0 ∷ []),
     length-map (r ∷ rs) (λ r. sets (intention r) (f r)),
-    length-map (r ∷ rs) (λ r. sets (home g r) (f r))))
+    length-map (r ∷ rs) (λ r. sets (home g r) (f r)),
+  ))
 
   pub recover-length : (f : ℕ → Page) (rs : List ℕ) → length (recoverWrites g f rs) ≡ recoverDue (length rs)
   unfolding recoverWrites recoverDue homes marks
   recover-length f [] = rw (same-refl 0)
   recover-length f (r ∷ rs) = rw (ne-false (suc (length rs)) 0 (λ e. omega arith)) (omega (
-    arith, length-append (homes g f (r ∷ rs)) (marks g 0 ∷ []), length-map (r ∷ rs) (λ r. sets (home g r) (f r))))
+    arith,
+    length-append (homes g f (r ∷ rs)) (marks g 0 ∷ []),
+    length-map (r ∷ rs) (λ r. sets (home g r) (f r)),
+  ))
 
   -- the writes of a commit that changes some record
   body : (ℕ → Page) → ℕ → List ℕ → List PageWrite

@@ -6,3 +6,4 @@ pub mod CommitPage
 pub mod Members
 pub mod Shows
 pub mod Cuts
+pub mod Pages
