@@ -7,3 +7,4 @@ pub mod Members
 pub mod Shows
 pub mod Cuts
 pub mod Pages
+pub mod AtomicPages
