@@ -140,7 +140,7 @@ module _ (g : Geometry) where
 
     commit-sized : Sized (pageCount g) s → Paged v → Sized (pageCount g) (commitAt g s v k .store)
     unfolding commitAt cutAt changes changed
-    commit-sized S paged = 
+    commit-sized S paged =
         applied-sized (pageCount g) (take k (commitWrites g (pageIn v) (mapOf g (changed v)) (changes v))) s
         (fit-take (pageCount g) k (commitWrites g (pageIn v) (mapOf g (changed v)) (changes v)) (fit-commit (pageIn v) (mapOf g (changed v)) (changes v) (sound-versions v paged))) S
 
@@ -156,6 +156,67 @@ module _ (g : Geometry) where
   unfolding isSome else
   else-is none p = refl
   else-is (some q) p = refl
+
+  -- the records that the commit page names, and a recovery's counts
+  inForce : Pages → List ℕ
+  inForce s = those (records g) (isNamed g s)
+
+  unfoldable pub namedIn : Pages → ℕ
+  namedIn s = count (records g) (isNamed g s)
+
+  inForce-length : (s : Pages) → length (inForce s) ≡ namedIn s
+  unfolding inForce namedIn
+  inForce-length s = those-length (records g) (isNamed g s)
+
+  planned : Pages → ℕ → Page
+  planned s r = s (intention r)
+
+  -- the names depend on the commit page alone
+  inForce-same : (s c : Pages) → c 0 ≡ s 0 → inForce c ≡ inForce s
+  unfolding inForce isNamed names
+  inForce-same s c e = ap (λ p. those (records g) (names g p)) e
+
+  sound-planned : (s : Pages) → Sized (pageCount g) s → Sound (planned s) (inForce s)
+  unfolding Sound inForce planned intention pageCount
+  sound-planned s S q e = let k = those-below (records g) (isNamed g s) q e in (k, S .full (1 + q) (omega arith))
+
+  module _ (s : Pages) (k : ℕ) where
+    pub recover-made : recoverAt g s k .made ≡ madeOf k (recoverDue (namedIn s))
+    unfolding recoverAt cutAt madeOf inForce planned
+    recover-made = ap (madeOf k) (recover-length g (planned s) (inForce s) ∙ ap recoverDue (inForce-length s))
+
+    pub recover-crashed : recoverAt g s k .crashed ≡ under k (recoverDue (namedIn s))
+    unfolding recoverAt cutAt inForce planned
+    recover-crashed = ap (under k) (recover-length g (planned s) (inForce s) ∙ ap recoverDue (inForce-length s))
+
+    recover-page : recoverAt g s k .store 0 ≡ recoveredMark g k (inForce s) (s 0)
+    unfolding recoverAt cutAt inForce planned
+    recover-page = recover-mark g (planned s) (inForce s) k s
+
+    recover-sized : Sized (pageCount g) s → Sized (pageCount g) (recoverAt g s k .store)
+    unfolding recoverAt cutAt inForce planned
+    recover-sized S =
+        applied-sized (pageCount g) (take k (recoverWrites g (planned s) (inForce s))) s
+        (fit-take (pageCount g) k (recoverWrites g (planned s) (inForce s)) (fit-recover (planned s) (inForce s) (sound-planned s S))) S
+
+  -- a commit page that is not damaged and names no record is empty
+  names-nothing : (s : Pages) → damaged g s ≡ false → inForce s ≡ [] → emptied g s ≡ true
+  unfolding damaged emptied isDamaged isEmptied inForce
+  names-nothing s d e = go (readCommit g (s 0)) refl
+    where
+      go : (o : Option ℕ) → readCommit g (s 0) ≡ o → isEmptied o ≡ true
+      go none q = absurd (true≢false (rw q at d))
+      go (some m) q = ap (λ n. same n 0) (names-none g m (read-is g (s 0) m q .1) off) ∙ same-refl 0
+        where
+          off : (r : ℕ) → r < records g → named g m r ≡ false
+          off r h = at (is? (named g m r))
+            where
+              is-named : isNamed g s r ≡ named g m r
+              is-named = unfold isNamed mapIn in rw (lt-under r (records g) h, q)
+
+              at : Is (named g m r) → named g m r ≡ false
+              at (no′ z) = z
+              at (yes′ z) = absurd (true≢false (sym (those-all (records g) (isNamed g s) r h (is-named ∙ z)) ∙ unfold mem in ap (mem r) e))
 
   module _ (proper : Proper g) where
     module _ (s : Pages) (v : ℕ → Option Page) (k : ℕ) (empty : emptied g s ≡ true) where
@@ -177,10 +238,104 @@ module _ (g : Geometry) where
       commit-whole : commitAt g s v k .crashed ≡ false → (emptied g (commitAt g s v k .store) ≡ true) × (stored (changedIn g v) (commitAt g s v k .made) ≡ true)
       unfolding emptied commitDue
       commit-whole e =
-          let due : commitDue (changedIn g v) ≤ k = not-under k _ (sym (commit-crashed s v k) ∙ e) in
-          (ap (λ p. isEmptied (readCommit g p)) (commit-page s v k) ∙ commit-ends g proper k (mapOf g (changed v)) (changes v) (s 0) (rw (changes-length v) due) empty,
-          commit-stored s v k ∙ go due (same? (changedIn g v) 0))
+          let due : commitDue (changedIn g v) ≤ k = not-under k _ (sym (commit-crashed s v k) ∙ e) in (
+            ap (λ p. isEmptied (readCommit g p)) (commit-page s v k) ∙ commit-ends g proper k (mapOf g (changed v)) (changes v) (s 0) (rw (changes-length v) due) empty,
+            commit-stored s v k ∙ go due (same? (changedIn g v) 0),
+          )
         where
           go : cond (same (changedIn g v) 0) 0 (2 * changedIn g v + 2) ≤ k → Same (changedIn g v) 0 → (same (changedIn g v) 0 || under (changedIn g v) k) ≡ true
           go h (is a z _) = rw z
           go h (isnt a z _) = let h′ : 2 * changedIn g v + 2 ≤ k = rw z at h in rw (z, lt-under (changedIn g v) k (omega arith))
+
+    recover-whole : (s : Pages) (k : ℕ) → damaged g s ≡ false → recoverAt g s k .crashed ≡ false → emptied g (recoverAt g s k .store) ≡ true
+    unfolding emptied
+    recover-whole s k d e =
+        let due : recoverDue (namedIn s) ≤ k = not-under k _ (sym (recover-crashed s k) ∙ e) in
+        ap (λ p. isEmptied (readCommit g p)) (recover-page s k) ∙ recover-ends g proper k (inForce s) (s 0) (rw (inForce-length s) due) (names-nothing s d)
+
+    recover-keeps : (s : Pages) (k r : ℕ) → settled g (recoverAt g s k .store) r ≡ settled g s r
+    unfolding recoverAt cutAt
+    recover-keeps s k r = recover-settled g s k r proper
+
+    -- the same commit page, and the same settled records
+    pub Agree : Pages → Pages → Type 0
+    Agree s c = (c 0 ≡ s 0) × ((r : ℕ) → settled g c r ≡ settled g s r)
+
+    agree-commit : (s c : Pages) (v w : ℕ → Option Page) (k : ℕ) → emptied g s ≡ true → Ranged g v → Agree s c
+        → ((r : ℕ) → isSome (w r) ≡ isSome (v r)) → (stored (changedIn g v) (commitAt g s v k .made) ≡ true → (r : ℕ) → w r ≡ v r)
+        → Agree (commitAt g s v k .store) (commitAt g c w k .store) × (commitAt g c w k .made ≡ commitAt g s v k .made) × (commitAt g c w k .crashed ≡ commitAt g s v k .crashed)
+    unfolding Agree emptied changes changed changedIn
+    agree-commit s c v w k empty ranged A shape same-pages = (
+      (commit-page c w k ∙ ap₂ (λ (p : ℕ → Bool) (x : Page). committedMark g k (mapOf g p) (those (records g) p) x) shapes (A .0) ∙ sym (commit-page s v k), λ r. go r (is? (stored (changedIn g v) (commitAt g s v k .made)))),
+      made-same,
+      commit-crashed c w k ∙ ap (λ n. under k (commitDue n)) counts ∙ sym (commit-crashed s v k),
+    )
+      where
+        shapes : _≡_ {A = ℕ → Bool} (changed w) (changed v)
+        shapes = fun-ext shape
+
+        counts : changedIn g w ≡ changedIn g v
+        counts = ap (count (records g)) shapes
+
+        made-same : commitAt g c w k .made ≡ commitAt g s v k .made
+        made-same = commit-made c w k ∙ ap (λ n. madeOf k (commitDue n)) counts ∙ sym (commit-made s v k)
+
+        empty′ : emptied g c ≡ true
+        empty′ = ap (λ p. isEmptied (readCommit g p)) (A .0) ∙ empty
+
+        stores : stored (changedIn g w) (commitAt g c w k .made) ≡ stored (changedIn g v) (commitAt g s v k .made)
+        stores = ap₂ stored counts made-same
+
+        go : (r : ℕ) → Is (stored (changedIn g v) (commitAt g s v k .made)) → settled g (commitAt g c w k .store) r ≡ settled g (commitAt g s v k .store) r
+        go r (yes′ q) = commit-kept c w k empty′ r (λ r z. ranged r (sym (shape r) ∙ z)) (stores ∙ q) ∙ ap₂ else (same-pages q r) (A .1 r) ∙ sym (commit-kept s v k empty r ranged q)
+        go r (no′ q) = commit-lost c w k empty′ r (stores ∙ q) ∙ A .1 r ∙ sym (commit-lost s v k empty r q)
+
+    agree-recover : (s c : Pages) (k : ℕ) → Agree s c
+        → Agree (recoverAt g s k .store) (recoverAt g c k .store) × (recoverAt g c k .made ≡ recoverAt g s k .made) × (recoverAt g c k .crashed ≡ recoverAt g s k .crashed)
+    unfolding Agree
+    agree-recover s c k A = (
+      (recover-page c k ∙ ap₂ (recoveredMark g k) lists (A .0) ∙ sym (recover-page s k), λ r. recover-keeps c k r ∙ A .1 r ∙ sym (recover-keeps s k r)),
+      recover-made c k ∙ ap (λ n. madeOf k (recoverDue n)) counts ∙ sym (recover-made s k),
+      recover-crashed c k ∙ ap (λ n. under k (recoverDue n)) counts ∙ sym (recover-crashed s k),
+    )
+      where
+        lists : inForce c ≡ inForce s
+        lists = inForce-same s c (A .0)
+
+        counts : namedIn c ≡ namedIn s
+        counts = sym (inForce-length c) ∙ ap length lists ∙ inForce-length s
+
+    pub atomic-laws : MediumLaws g (atomicPages g)
+    unfolding Agree emptied damaged pageCount home
+    atomic-laws = record {
+      Shaped = Sized (pageCount g);
+      shaped-from = λ bs h. pagesOf-sized (pageCount g) bs h;
+      from-to = λ s S. pagesOf-flat (pageCount g) s S;
+      to-from = λ bs h. flat-pagesOf (pageCount g) bs h;
+      shaped-home = λ s r S h. S .full (home g r) (omega arith);
+      home-settled = λ s r e. sym (home-settled g s e r);
+      commit-kept = λ s v k r e n q. commit-kept s v k e r n q;
+      commit-lost = λ s v k r e q. commit-lost s v k e r q;
+      commit-whole = λ s v k e q. commit-whole s v k e q;
+      commit-cut = λ s v k q. commit-crash s v k q;
+      commit-shaped = λ s v k S p. commit-sized s v k S p;
+      recover-settled = λ s k r. recover-keeps s k r;
+      recover-whole = λ s k d q. recover-whole s k d q;
+      recover-shaped = λ s k S. recover-sized s k S;
+      Agree = Agree;
+      agree-refl = λ s. (refl, λ r. refl);
+      agree-settled = λ s c A r. A .1 r;
+      agree-emptied = λ s c A. ap (λ p. isEmptied (readCommit g p)) (A .0);
+      agree-damaged = λ s c A. ap (λ p. isDamaged (readCommit g p)) (A .0);
+      agree-commit = λ s c v w k e n A h f. agree-commit s c v w k e n A h f;
+      agree-recover = λ s c k A. agree-recover s c k A;
+    }
+
+    -- a shaped store, in these laws, has all its pages and nothing beyond them
+    pub shaped-sized : (s : Pages) → atomic-laws .Shaped s → Sized (pageCount g) s
+    unfolding atomic-laws
+    shaped-sized s S = S
+
+    pub sized-shaped : (s : Pages) → Sized (pageCount g) s → atomic-laws .Shaped s
+    unfolding atomic-laws
+    sized-shaped s S = S
