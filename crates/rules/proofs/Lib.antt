@@ -8,3 +8,4 @@ pub mod Shows
 pub mod Cuts
 pub mod Pages
 pub mod AtomicPages
+pub mod Event
