@@ -13,3 +13,6 @@ pub mod Cuts
 pub mod Owners
 pub mod Parts
 pub mod Soundness
+pub mod Pages
+pub mod AtomicPages
+pub mod Event
