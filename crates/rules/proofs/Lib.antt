@@ -9,3 +9,4 @@ pub mod Cuts
 pub mod Pages
 pub mod AtomicPages
 pub mod Event
+pub mod Durability
