@@ -98,11 +98,11 @@ module _ (g : Geometry) where
   fit-recover f [] h = tt
   fit-recover f (r ∷ rs) h = fit-append (pageCount g) (homes g f (r ∷ rs)) (marks g 0 ∷ []) (fit-homes f (r ∷ rs) h) fit-last
 
-  changed : (ℕ → Option Page) → ℕ → Bool
+  unfoldable pub changed : (ℕ → Option Page) → ℕ → Bool
   changed v r = isSome (v r)
 
   -- the records that versions change
-  changes : (ℕ → Option Page) → List ℕ
+  unfoldable pub changes : (ℕ → Option Page) → List ℕ
   changes v = those (records g) (changed v)
 
   changes-below : (v : ℕ → Option Page) (q : ℕ) → mem q (changes v) ≡ true → q < records g
@@ -131,10 +131,10 @@ module _ (g : Geometry) where
     unfolding commitAt cutAt changes changed
     commit-crashed = ap (under k) (commit-length g (pageIn v) (mapOf g (changed v)) (changes v) ∙ ap commitDue (changes-length v))
 
-    commit-stored : stored (changedIn g v) (commitAt g s v k .made) ≡ (same (changedIn g v) 0 || under (changedIn g v) k)
+    pub commit-stored : stored (changedIn g v) (commitAt g s v k .made) ≡ (same (changedIn g v) 0 || under (changedIn g v) k)
     commit-stored = ap (stored (changedIn g v)) commit-made ∙ stored-made (changedIn g v) k
 
-    commit-page : commitAt g s v k .store 0 ≡ committedMark g k (mapOf g (changed v)) (changes v) (s 0)
+    pub commit-page : commitAt g s v k .store 0 ≡ committedMark g k (mapOf g (changed v)) (changes v) (s 0)
     unfolding commitAt cutAt changes changed
     commit-page = commit-mark g (pageIn v) (mapOf g (changed v)) (changes v) (changes-below v) k s
 
@@ -158,7 +158,7 @@ module _ (g : Geometry) where
   else-is (some q) p = refl
 
   -- the records that the commit page names, and a recovery's counts
-  inForce : Pages → List ℕ
+  unfoldable pub inForce : Pages → List ℕ
   inForce s = those (records g) (isNamed g s)
 
   unfoldable pub namedIn : Pages → ℕ
@@ -189,7 +189,7 @@ module _ (g : Geometry) where
     unfolding recoverAt cutAt inForce planned
     recover-crashed = ap (under k) (recover-length g (planned s) (inForce s) ∙ ap recoverDue (inForce-length s))
 
-    recover-page : recoverAt g s k .store 0 ≡ recoveredMark g k (inForce s) (s 0)
+    pub recover-page : recoverAt g s k .store 0 ≡ recoveredMark g k (inForce s) (s 0)
     unfolding recoverAt cutAt inForce planned
     recover-page = recover-mark g (planned s) (inForce s) k s
 

@@ -16,3 +16,4 @@ pub mod Soundness
 pub mod Pages
 pub mod AtomicPages
 pub mod Event
+pub mod Durability
