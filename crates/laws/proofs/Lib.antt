@@ -6,3 +6,4 @@ pub mod Counting
 pub mod Those
 pub mod Bytes
 pub mod Updated
+pub mod Compared

@@ -11,7 +11,6 @@ use Rattle.laws.proofs.Tests.{same?, Same, is, isnt, same-eq, same-refl, ne-fal
 use Rattle.rules.specs.Geometry.{Geometry, records}
 use Rattle.rules.specs.Store.{bitsFrom, named, mapOf}
 
--- a map of n bits
 pub bits-lt : (n : ℕ) (p : ℕ → Bool) → bitsFrom n p < 2 ^ n
 unfolding bitsFrom
 bits-lt zero p = omega arith
