@@ -4,3 +4,4 @@ pub mod Filled
 pub mod Those
 pub mod Bytes
 pub mod Updated
+pub mod Compared
