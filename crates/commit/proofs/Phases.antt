@@ -1,29 +1,21 @@
 -- Phases of page writes compose: what one leaves of the count is the count of the next. A last single page write tells whether a crash came.
-use mathlib.Core.Path.{_≡_, refl, sym, ap, ap₂, _∙_}
+use mathlib.Core.Path.{_≡_, sym, ap, ap₂, _∙_}
 use mathlib.Core.Bool.{Bool, true, false, cond}
 use mathlib.Core.List.{List, [], _∷_, _++_, append-nil}
 use mathlib.Core.Logic.{dite}
-use Prim.Native.Nat.{ℕ, zero, suc, _+_, _-_, _≤_, _<_}
+use Prim.Native.Nat.{ℕ, _+_, _-_, _≤_, _<_}
 use native.Mathlib.Decide.{decLt}
 use native.Mathlib.Omega.{arith}
 use lib.ListN.{length, take, length-append}
 use lib.Seq.{take-append-le, take-append-add, take-all, take-nil}
-use borrow.Author.Tests.{le-ltb}
 use Rattle.laws.specs.Tests.{same, under}
 use Rattle.laws.specs.Functions.{updated}
 use Rattle.laws.proofs.Tests.{lt-under, under-lt, not-under, Same, same?, is, isnt}
 use Rattle.rules.specs.Store.{Page, Pages}
 use Rattle.rules.specs.Commit.{PageWrite, sets, written, applied, cutAt}
-use Rattle.commit.specs.Phase.{Phase, Leaves, due}
-
-pub ge-under : (a b : ℕ) → b ≤ a → under a b ≡ false
-unfolding under
-ge-under a b h = le-ltb a b h
-
-pub applied-append : (a b : List PageWrite) (s : Pages) → applied (a ++ b) s ≡ applied b (applied a s)
-unfolding applied
-applied-append [] b s = refl
-applied-append (w ∷ a) b s = applied-append a b (written w s)
+use Rattle.rules.proofs.Cuts.{not-lt-under}
+use Rattle.rules.proofs.Shows.{applied-append}
+use Rattle.commit.specs.Phase.{Phase, Leaves}
 
 take-both : (k : ℕ) (p q : List PageWrite) → take k (p ++ q) ≡ take k p ++ take (k - length p) q
 take-both k p q =
@@ -89,4 +81,4 @@ phase-last {k = k} {n = n} {ws = ws} {p = p} {a = a} h g = leaves (same a 0) (go
 
     go : Same a 0 → under k (length (ws ++ (sets n p ∷ []))) ≡ same a 0
     go (is e q q′) = lt-under k (length (ws ++ (sets n p ∷ []))) (omega (arith, long, h .count)) ∙ sym q
-    go (isnt e q q′) = ge-under k (length (ws ++ (sets n p ∷ []))) (omega (arith, long, h .count)) ∙ sym q
+    go (isnt e q q′) = not-lt-under k (length (ws ++ (sets n p ∷ []))) (omega (arith, long, h .count)) ∙ sym q

@@ -1,31 +1,35 @@
 -- The page writes of a commit and of a recovery as phases: a sweep over the records, a commit page, and so on; and the rules' cut of them.
 use mathlib.Core.Path.{_≡_, refl, sym, ap, ap₂, subst⁻¹, _∙_}
-use mathlib.Core.Bool.{Bool, true, false, cond, _&&_}
+use mathlib.Core.Bool.{Bool, true, false, cond, _&&_, true≢false}
 use mathlib.Core.List.{List, [], _∷_, _++_, map, append-assoc}
 use mathlib.Core.Logic.{_≢_}
 use mathlib.Core.Option.{Option, none, some}
-use Prim.Native.Nat.{ℕ, zero, suc, _+_, _-_, _*_, _/_, _%_, _^_, _≤_, _<_}
+use Prim.Native.Nat.{ℕ, _+_, _-_, _^_, _<_}
 use native.Mathlib.Omega.{arith}
 use lib.ListN.{length, take}
 use lib.Seq.{take-nil}
 use Rattle.laws.specs.Tests.{same, under}
 use Rattle.laws.specs.Counting.{those}
-use Rattle.laws.proofs.Tests.{lt-under}
+use Rattle.laws.proofs.Tests.{lt-under, Is, is?, yes′, no′}
+use Rattle.laws.proofs.Those.{those-same, those-none}
 use Rattle.rules.specs.Geometry.{Geometry, records}
-use Rattle.rules.specs.Store.{Page, Pages, pagesOf, intention, home, bitsFrom, mapOf, named, commitPage, readCommit, mapIn, isNamed}
+use Rattle.rules.specs.Store.{Page, Pages, intention, home, mapOf, named, commitPage, readCommit, mapIn, isNamed}
 use Rattle.rules.specs.Versions.{isSome, else}
 use Rattle.rules.specs.Commit.{PageWrite, sets, applied, cutAt, pageIn, intentions, homes, marks, commitWrites, recoverWrites, commitAt, recoverAt}
+use Rattle.rules.proofs.Cuts.{not-lt-under}
+use Rattle.rules.proofs.Map.{mapOf-named, mapOf-same, named-zero, names-none}
+use Rattle.rules.proofs.Members.{those-all}
+use Rattle.rules.specs.State.{mem}
 use Rattle.rules.specs.Editions.{geometry1}
 use Rattle.commit.specs.Phase.{Phase, Leaves, sweep, copies, topSlot, versionsIn}
-use Rattle.commit.proofs.Phases.{phase-then, phase-last, ge-under}
-use Rattle.commit.proofs.Sweeps.{those-same, bits-same, those-none, sweep-same}
-use Rattle.commit.proofs.Maps.{map-of-named, named-zero, bits-none}
+use Rattle.commit.proofs.Phases.{phase-then, phase-last}
+use Rattle.commit.proofs.Sweeps.{sweep-same}
 
 -- nothing to write
 none-left : (k : ℕ) (s : Pages) {ws : List PageWrite} → ws ≡ [] → Leaves (cutAt k ws s) s 0 false
 unfolding cutAt applied
 none-left k s {ws} e =
-    let u : under k (length ws) ≡ false = ap (λ (l : List PageWrite). under k (length l)) e ∙ ge-under k 0 (omega arith) in
+    let u : under k (length ws) ≡ false = ap (λ (l : List PageWrite). under k (length l)) e ∙ not-lt-under k 0 (omega arith) in
     record {
       store = sym (ap (λ (l : List PageWrite). applied (take k l) s) e ∙ ap (λ (l : List PageWrite). applied l s) (take-nil k));
       made = sym (ap₂ (λ (b : Bool) (l : List PageWrite). cond b k (length l)) u e);
@@ -46,8 +50,12 @@ recover-some g new (r ∷ rs) h = refl
 
 -- a map that isn't 0 names some record
 some-named : (map : ℕ) → map < 2 ^ 16 → map ≢ 0 → those 16 (named geometry1 map) ≢ []
-unfolding mapOf records
-some-named map small h e = h (sym (map-of-named geometry1 map small) ∙ bits-none 16 (named geometry1 map) e)
+unfolding records mem
+some-named map small h e = h (names-none geometry1 map small (λ r lt. go r lt (is? (named geometry1 map r))))
+  where
+    go : (r : ℕ) → r < 16 → Is (named geometry1 map r) → named geometry1 map r ≡ false
+    go r lt (no′ q) = q
+    go r lt (yes′ q) = absurd (true≢false (sym (those-all 16 (named geometry1 map) r lt q) ∙ ap (mem r) e))
 
 -- the versions as the sweeps see them
 module _ (map : ℕ) (work : List ℕ) (r : ℕ) (lt : r < 16) where
@@ -73,8 +81,8 @@ module _ (map : ℕ) (work : List ℕ) where
   those-is = those-same 16 changed-is
 
   map-is : map < 2 ^ 16 → mapOf geometry1 (λ r. isSome (versionsIn map work r)) ≡ map
-  unfolding records mapOf
-  map-is small = bits-same 16 changed-is ∙ map-of-named geometry1 map small
+  unfolding records
+  map-is small = mapOf-same geometry1 (λ r. isSome (versionsIn map work r)) (named geometry1 map) changed-is ∙ mapOf-named geometry1 map small
 
   intentions-are : intentions geometry1 (pageIn (versionsIn map work)) (those 16 (named geometry1 map)) ≡ sweep (named geometry1 map) (copies 1 (topSlot work)) 16
   unfolding intentions sweep intention copies
@@ -111,13 +119,13 @@ module _ (map : ℕ) (work : List ℕ) where
 
 -- a recovery over a commit page that says this map
 module _ (map k : ℕ) (s : Pages) (says : readCommit geometry1 (s 0) ≡ some map) where
-  named-is : (r : ℕ) → isNamed geometry1 s r ≡ named geometry1 map r
-  unfolding isNamed mapIn
-  named-is r = ap (λ o. named geometry1 (mapIn o) r) says
+  named-is : (r : ℕ) → r < 16 → isNamed geometry1 s r ≡ named geometry1 map r
+  unfolding isNamed mapIn records
+  named-is r lt = ap₂ (λ (b : Bool) (o : Option ℕ). b && named geometry1 (mapIn o) r) (lt-under r 16 lt) says
 
   names-are : those (records geometry1) (isNamed geometry1 s) ≡ those 16 (named geometry1 map)
   unfolding records
-  names-are = those-same 16 (λ r lt. named-is r)
+  names-are = those-same 16 named-is
 
   pub recover-none : map ≡ 0 → Leaves (recoverAt geometry1 s k) s 0 false
   unfolding recoverAt recoverWrites
