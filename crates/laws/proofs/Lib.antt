@@ -1,4 +1,5 @@
 pub mod Tests
+pub mod Booleans
 pub mod Those
 pub mod Bytes
 pub mod Updated

@@ -10,3 +10,4 @@ pub mod Pages
 pub mod AtomicPages
 pub mod Event
 pub mod Durability
+pub mod Fresh
