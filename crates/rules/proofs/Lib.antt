@@ -7,3 +7,14 @@ pub mod Locks
 pub mod Owners
 pub mod Parts
 pub mod Soundness
+pub mod Editions
+pub mod Map
+pub mod CommitPage
+pub mod Members
+pub mod Shows
+pub mod Cuts
+pub mod Pages
+pub mod AtomicPages
+pub mod Event
+pub mod Durability
+pub mod Fresh
