@@ -1,8 +1,7 @@
 -- A commit and a recovery cut anywhere: the pages that are there then, how many writes are due, and what is settled.
-use mathlib.Core.Path.{_≡_, refl, sym, _∙_, ap, subst, subst⁻¹}
-use mathlib.Core.Bool.{Bool, true, false, cond, _&&_, _||_, true≢false, false≢true}
-use mathlib.Core.List.{List, [], _∷_, _++_, map}
-use mathlib.Core.Option.{Option, none, some}
+use mathlib.Core.Path.{_≡_, refl, sym, _∙_, ap, subst⁻¹}
+use mathlib.Core.Bool.{Bool, true, false, cond, _||_, true≢false}
+use mathlib.Core.List.{List, [], _∷_, _++_}
 use Prim.Native.Nat.{ℕ, zero, suc, _+_, _-_, _*_, _^_, _≤_, _<_}
 use native.Mathlib.Omega.{arith}
 use lib.ListN.{length, take, length-append, length-map}
@@ -10,7 +9,7 @@ use lib.Pow.{pow-pos}
 use lib.Seq.{take-append-le, take-append-add, take-all}
 use Rattle.laws.specs.Tests.{same, under}
 use Rattle.laws.specs.Counting.{those}
-use Rattle.laws.proofs.Tests.{same?, Same, is, isnt, same-refl, ne-false, Is, is?, yes′, no′, under-lt, lt-under, not-under}
+use Rattle.laws.proofs.Tests.{same-refl, ne-false, Is, is?, yes′, no′, under-lt, lt-under, not-under}
 use Rattle.rules.specs.Geometry.{Geometry, Proper, records}
 use Rattle.rules.specs.Store.{Page, Pages, intention, home, mapOf, commitPage, readCommit, isDamaged, isEmptied, emptied, isNamed, settled}
 use Rattle.rules.specs.State.{mem}

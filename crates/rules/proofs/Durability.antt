@@ -1,17 +1,17 @@
 -- What the stable store promises, for readers: a commit settles all its versions or none wherever it is cut, recovery cut any number of times
 -- changes no settled record, neither damages the commit page, and how many page writes each takes.
 use mathlib.Core.Path.{_≡_, refl, sym, _∙_, ap}
-use mathlib.Core.Bool.{Bool, true, false, cond}
+use mathlib.Core.Bool.{true, false, cond}
 use mathlib.Core.List.{List, [], _∷_}
 use mathlib.Core.Logic.{_⊎_, inl, inr}
 use mathlib.Core.Option.{Option}
-use Prim.Native.Nat.{ℕ, suc, _+_, _*_, _<_}
+use Prim.Native.Nat.{ℕ, _+_, _*_, _<_}
 use Rattle.laws.specs.Tests.{same, under}
 use Rattle.laws.proofs.Tests.{Is, is?, yes′, no′, under-lt}
 use Rattle.rules.specs.Geometry.{Geometry, Proper}
 use Rattle.rules.specs.Store.{Page, Pages, readCommit, isDamaged, damaged, emptied, settled}
-use Rattle.rules.specs.Versions.{isSome, else}
-use Rattle.rules.specs.Commit.{Cut, commitAt, recoverAt}
+use Rattle.rules.specs.Versions.{else}
+use Rattle.rules.specs.Commit.{commitAt, recoverAt}
 use Rattle.rules.specs.Form.{atomicPages}
 use Rattle.rules.proofs.Medium.{changedIn, stored, Ranged, MediumLaws}
 use Rattle.rules.proofs.Map.{mapOf-lt}

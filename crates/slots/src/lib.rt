@@ -5,8 +5,7 @@ ghost use Prim.Native.Nat.{ℕ, _+_, _*_, _-_, _<_, _≤_};
 ghost use lib.ListN.{length, getD, set};
 ghost use Rattle.laws.specs.Functions.{updated};
 ghost use Rattle.laws.specs.Bits.{bits};
-ghost use Rattle.rules.specs.Store.{pagesOf, mapOf};
-ghost use Rattle.rules.specs.Editions.{geometry1};
+ghost use Rattle.rules.specs.Store.{pagesOf};
 ghost use Rattle.sets.specs.Sets.{sets};
 ghost use Rattle.arrays.specs.View.{slot, seen};
 ghost use Rattle.slots.specs.Parts.{Sources, Climbing, Climbed, Written, lifted};
@@ -146,27 +145,4 @@ pub fn lift(writers: &[u32; 16], work: &mut [u8], t: u8, d: u8)
     for r in 0..16 {
         lift_row(writers, work, t, d, r);
     }
-}
-
-// A bit: t is in w.
-fn bit(w: u32, t: u8) -> u16
-    requires { ⌜ t < 24 ⌝ }
-    ensures { λ b. ⌜ (b ≡ cond (bits w t) 1 0) × (b < 2) ⌝ }
-{
-    if sets::contains(w, t) {
-        return 1;
-    }
-    0
-}
-
-// The map of the records that t has a version of, as the commit page has it.
-pub fn written_map(writers: &[u32; 16], t: u8) -> u16
-    requires { ⌜ t < 24 ⌝ }
-    ensures { λ m. ⌜ m ≡ mapOf geometry1 (λ r. sets (now (writers .entry)) r t) ⌝ }
-{
-    let mut m = 0u16;
-    for r in 0..16 {
-        m = m * 2 + bit(writers[r], t);
-    }
-    m
 }
