@@ -1,3 +1,8 @@
 pub mod Rules
 pub mod Steps
 pub mod Ends
+pub mod Falls
+pub mod Begins
+pub mod Commits
+pub mod ByKind
+pub mod Playing

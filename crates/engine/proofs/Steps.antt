@@ -1,5 +1,5 @@
 -- Locks, reads and writes: what the changes of the arrays are in the rules.
-use mathlib.Core.Path.{_≡_, refl, sym, ap, ap₂, subst, _∙_, fun-ext}
+use mathlib.Core.Path.{_≡_, refl, sym, ap, ap₂, subst, subst⁻¹, _∙_, fun-ext}
 use mathlib.Core.Bool.{Bool, true, false, not, cond, _&&_, _||_, or-true, and-false}
 use mathlib.Core.List.{List, [], _∷_}
 use mathlib.Core.Logic.{_≢_, _⊎_, inl, inr}
@@ -51,6 +51,9 @@ finishes x y e s v q w F = stepped x y e s (done v) (answer 0 v) q w refl F
 pub unmoved : (x : Arrays) (e : Option Event) (n : ℕ) → Formed x → step edition1 (view x) e ≡ record { state = view x; answer = refused n } → Stepped x e (answer n 0) x
 unfolding saying numberOf valueOf
 unmoved x e n F q = stepped x x e (view x) (refused n) (answer n 0) q refl refl F
+
+pub retold : (x y : Arrays) (e f : Option Event) (a : Answer) → f ≡ e → Stepped x e a y → Stepped x f a y
+retold x y e f a q T = subst⁻¹ (λ (e : Option Event). Stepped x e a y) q T
 
 pub state-eq : {s t : State Pages} → s .up ≡ t .up → s .bearer ≡ t .bearer → s .held ≡ t .held → s .retained ≡ t .retained → s .version ≡ t .version → s .store ≡ t .store → s ≡ t
 state-eq a b c d e f = λ i. record { up = a i; bearer = b i; held = c i; retained = d i; version = e i; store = f i }
