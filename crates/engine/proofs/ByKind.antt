@@ -24,10 +24,10 @@ use Rattle.rules.proofs.Soundness.{sound-step, sound-bad}
 use Rattle.event.specs.Meaning.{meaning, fieldsOf, InRange}
 use Rattle.event.specs.declared.Event.{Event as Fields}
 use Rattle.event.proofs.Meaning.{means-begin, means-lock, means-write, means-read, means-commit, means-abort}
-use Rattle.engine.specs.Whole.{Arrays, view, Intact, Stepped}
-use Rattle.engine.specs.declared.Answer.{Answer}
-use Rattle.engine.proofs.Rules.{begin-down, lock-down, write-down, read-down, commit-down, abort-down, lock-unknown, write-unknown, read-unknown, commit-unknown, abort-unknown}
-use Rattle.engine.proofs.Steps.{answer, unmoved, up-is, down-is, not-live}
+use Rattle.events.specs.Whole.{Arrays, view, Intact, Stepped}
+use Rattle.events.specs.declared.Answer.{Answer}
+use Rattle.events.proofs.Rules.{begin-down, lock-down, write-down, read-down, commit-down, abort-down, lock-unknown, write-unknown, read-unknown, commit-unknown, abort-unknown}
+use Rattle.events.proofs.Steps.{answer, unmoved, up-is, down-is, not-live}
 
 abbrev pub laws1 : MediumLaws geometry1 (atomicPages geometry1)
 laws1 = atomic-laws geometry1 proper1

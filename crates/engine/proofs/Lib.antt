@@ -1,8 +1,2 @@
-pub mod Rules
-pub mod Steps
-pub mod Ends
-pub mod Falls
-pub mod Begins
-pub mod Commits
 pub mod ByKind
 pub mod Playing

@@ -16,10 +16,10 @@ use Rattle.rules.specs.Run.{Played, words, answerBytes, play, eventsIn}
 use Rattle.rules.specs.Editions.{geometry1, edition1}
 use Rattle.rules.proofs.Medium.{MediumLaws}
 use Rattle.event.proofs.Words.{words-next}
-use Rattle.engine.specs.Whole.{Arrays, view, Intact, saying, Stepped}
+use Rattle.events.specs.Whole.{Arrays, view, Intact, saying, Stepped}
 use Rattle.engine.specs.Portion.{played, Portion}
-use Rattle.engine.specs.declared.Answer.{Answer}
-use Rattle.engine.proofs.Steps.{retold}
+use Rattle.events.specs.declared.Answer.{Answer}
+use Rattle.events.proofs.Steps.{retold}
 use Rattle.engine.proofs.ByKind.{laws1}
 
 -- the words from place k on, of n

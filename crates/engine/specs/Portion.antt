@@ -6,7 +6,7 @@ use lib.ListN.{drop}
 use Rattle.rules.specs.Form.{Medium}
 use Rattle.rules.specs.Run.{Played, words, answerBytes, play, eventsIn}
 use Rattle.rules.specs.Editions.{geometry1, edition1}
-use Rattle.engine.specs.Whole.{Arrays, arrays, view, Intact}
+use Rattle.events.specs.Whole.{Arrays, arrays, view, Intact}
 use Rattle.engine.specs.declared.Engine.{Engine}
 
 abbrev pub whole : Engine → List ℕ → List ℕ → Arrays

@@ -7,17 +7,17 @@ use lib.ListN.{length, getD, set}
 use mathlib.Core.Option.{some}
 use Rattle.rules.specs.Event.{begin, lock, write, read, commit, abort, crash, recover}
 use Rattle.event.proofs.Meaning.{means-bad, means-begin, means-lock, means-write, means-read, means-commit, means-abort, means-crash, means-recover}
-use Rattle.engine.proofs.Steps.{retold, sources}
+use Rattle.events.proofs.Steps.{retold, sources}
 use borrow.Author.Needs.{needs}
 use Rattle.engine.proofs.named_event.Statement.{statement}
 use Rattle.engine.proofs.named_event.Tie as tie
 use Rattle.engine.proofs.named_event.Reads as reads
 use Rattle.engine.proofs.named_event.Lts as lts
-use Rattle.engine.proofs.abort_event.Reads as abort-event-reads
-use Rattle.engine.proofs.commit_event.Reads as commit-event-reads
-use Rattle.engine.proofs.lock_event.Reads as lock-event-reads
-use Rattle.engine.proofs.read_event.Reads as read-event-reads
-use Rattle.engine.proofs.write_event.Reads as write-event-reads
+use Rattle.events.proofs.abort_event.Reads as abort-event-reads
+use Rattle.events.proofs.commit_event.Reads as commit-event-reads
+use Rattle.events.proofs.lock_event.Reads as lock-event-reads
+use Rattle.events.proofs.read_event.Reads as read-event-reads
+use Rattle.events.proofs.write_event.Reads as write-event-reads
 
 cast-r : tie.Need-cast-r
 cast-r c = search needs

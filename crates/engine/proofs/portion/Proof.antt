@@ -5,7 +5,7 @@ use Prim.Native.Nat.{ℕ, suc, _+_, _*_, _-_, _/_, _%_, _<_, _≤_}
 use native.Mathlib.Omega.{arith}
 use lib.ListN.{length, getD, set}
 use borrow.Author.Needs.{needs}
-use Rattle.engine.specs.Whole.{arrays}
+use Rattle.events.specs.Whole.{arrays}
 use Rattle.engine.proofs.Playing.{Playing, playing-none, playing-next, playing-all}
 use Rattle.engine.proofs.portion.Statement.{statement}
 use Rattle.engine.proofs.portion.Tie as tie

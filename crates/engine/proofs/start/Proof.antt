@@ -4,7 +4,7 @@ use mathlib.Core.List.{List}
 use Prim.Native.Nat.{ℕ, suc, _+_, _*_, _-_, _/_, _%_, _<_, _≤_}
 use native.Mathlib.Omega.{arith}
 use lib.ListN.{length, getD, set}
-use Rattle.engine.proofs.Falls.{crash-steps, zeros-intact, zeros-down, damaged-is, map-is, recover-refuses-3, recover-refuses-4, recover-cut, recover-steps}
+use Rattle.events.proofs.Falls.{crash-steps, zeros-intact, zeros-down, damaged-is, map-is, recover-refuses-3, recover-refuses-4, recover-cut, recover-steps}
 use Rattle.engine.proofs.start.Statement.{statement}
 use Rattle.engine.proofs.start.Tie as tie
 use Rattle.engine.proofs.start.Reads as reads

@@ -8,8 +8,8 @@ use mathlib.Core.Option.{some}
 use Rattle.rules.specs.Event.{begin, lock, write, read, commit, abort, crash, recover}
 use Rattle.event.proofs.Meaning.{means-bad, means-begin, means-lock, means-write, means-read, means-commit, means-abort, means-crash, means-recover}
 use Rattle.engine.proofs.ByKind.{down-steps, unknown-steps, keeps}
-use Rattle.engine.proofs.Steps.{retold, unmoved, sources, not-live, not-live-past}
-use Rattle.engine.proofs.Rules.{bad-refused}
+use Rattle.events.proofs.Steps.{retold, unmoved, sources, not-live, not-live-past}
+use Rattle.events.proofs.Rules.{bad-refused}
 use Rattle.rules.specs.Step.{step}
 use Rattle.rules.specs.Editions.{edition1}
 use borrow.Author.Needs.{needs}
@@ -17,10 +17,10 @@ use Rattle.engine.proofs.step.Statement.{statement}
 use Rattle.engine.proofs.step.Tie as tie
 use Rattle.engine.proofs.step.Reads as reads
 use Rattle.engine.proofs.step.Lts as lts
-use Rattle.engine.proofs.begin_event.Reads as begin-event-reads
-use Rattle.engine.proofs.crash_event.Reads as crash-event-reads
+use Rattle.events.proofs.begin_event.Reads as begin-event-reads
+use Rattle.events.proofs.crash_event.Reads as crash-event-reads
 use Rattle.engine.proofs.named_event.Reads as named-event-reads
-use Rattle.engine.proofs.recover_event.Reads as recover-event-reads
+use Rattle.events.proofs.recover_event.Reads as recover-event-reads
 
 returns : tie.Need-returns
 returns c = keeps _ _ (c .before .before .before .args .e) _ (c .before .before .before .pre .0) (c .before .before .before .pre .1) (unmoved _ _ 1 (c .before .before .before .pre .1 .form) (ap (step edition1 _) (means-bad (c .before .before .before .args .e) (c .if1 .taken)) ∙ bad-refused edition1 _))

@@ -28,9 +28,9 @@ use Rattle.arrays.proofs.View.{depth-is, active-is, idle-is, deep-is, some-is}
 use Rattle.arrays.proofs.Modes.{lock-is, grantable-is, joined-granted}
 use Rattle.locks.specs.Granting.{Granting}
 use Rattle.slots.specs.Parts.{Sources, Written}
-use Rattle.engine.specs.Whole.{Arrays, arrays, view, lineIn, Formed, Intact, saying, Stepped, Ready}
-use Rattle.engine.specs.declared.Answer.{Answer}
-use Rattle.engine.proofs.Rules.{lock-done, lock-refused, read-done, read-refused, write-done, write-refused}
+use Rattle.events.specs.Whole.{Arrays, arrays, view, lineIn, Formed, Intact, saying, Stepped, Ready}
+use Rattle.events.specs.declared.Answer.{Answer}
+use Rattle.events.proofs.Rules.{lock-done, lock-refused, read-done, read-refused, write-done, write-refused}
 
 abbrev pub answer : ℕ → ℕ → Answer
 answer n v = record { number = n; value = v }

@@ -4,15 +4,15 @@ use mathlib.Core.List.{List}
 use Prim.Native.Nat.{ℕ, suc, _+_, _*_, _-_, _/_, _%_, _<_, _≤_}
 use native.Mathlib.Omega.{arith}
 use lib.ListN.{length, getD, set}
-use Rattle.engine.proofs.Commits.{child-test, commit-refuses, top-steps, top-cut, child-steps}
+use Rattle.events.proofs.Commits.{child-test, commit-refuses, top-steps, top-cut, child-steps}
 use borrow.Author.Needs.{needs}
-use Rattle.engine.proofs.commit_top.Statement.{statement}
-use Rattle.engine.proofs.commit_top.Tie as tie
-use Rattle.engine.proofs.commit_top.Reads as reads
-use Rattle.engine.proofs.commit_top.Lts as lts
+use Rattle.events.proofs.commit_top.Statement.{statement}
+use Rattle.events.proofs.commit_top.Tie as tie
+use Rattle.events.proofs.commit_top.Reads as reads
+use Rattle.events.proofs.commit_top.Lts as lts
 use Rattle.commit.proofs.commit_pages.Reads as commit-pages-reads
 use Rattle.commitpage.proofs.map_of.Reads as map-of-reads
-use Rattle.engine.proofs.fall.Reads as fall-reads
+use Rattle.events.proofs.fall.Reads as fall-reads
 use Rattle.locks.proofs.discard.Reads as discard-reads
 use Rattle.sets.proofs.single.Reads as single-reads
 use Rattle.transactions.proofs.retire.Reads as retire-reads

@@ -15,7 +15,7 @@ use Rattle.rules.specs.Sound.{Sound}
 use Rattle.rules.specs.Editions.{edition1}
 use Rattle.sets.specs.Sets.{sets}
 use Rattle.arrays.specs.View.{bearersOf, modesOf, versionsOf}
-use Rattle.engine.specs.declared.Answer.{Answer}
+use Rattle.events.specs.declared.Answer.{Answer}
 
 -- up is 1, else the engine is down
 pub record Arrays : Type 0 where

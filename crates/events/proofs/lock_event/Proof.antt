@@ -4,12 +4,12 @@ use mathlib.Core.List.{List}
 use Prim.Native.Nat.{ℕ, suc, _+_, _*_, _-_, _/_, _%_, _<_, _≤_}
 use native.Mathlib.Omega.{arith}
 use lib.ListN.{length, getD, set}
-use Rattle.engine.proofs.Steps.{lock-steps, lock-refuses}
+use Rattle.events.proofs.Steps.{lock-steps, lock-refuses}
 use borrow.Author.Needs.{needs}
-use Rattle.engine.proofs.lock_event.Statement.{statement}
-use Rattle.engine.proofs.lock_event.Tie as tie
-use Rattle.engine.proofs.lock_event.Reads as reads
-use Rattle.engine.proofs.lock_event.Lts as lts
+use Rattle.events.proofs.lock_event.Statement.{statement}
+use Rattle.events.proofs.lock_event.Tie as tie
+use Rattle.events.proofs.lock_event.Reads as reads
+use Rattle.events.proofs.lock_event.Lts as lts
 use Rattle.locks.proofs.lock.Reads as lock-reads
 
 lock-requires : tie.Need-lock-requires

@@ -28,9 +28,9 @@ use Rattle.arrays.specs.View.{Owners, bearerAt, bearersOf, modeOf, modesOf, slo
 use Rattle.commitpage.specs.Heard.{heard}
 use Rattle.commitpage.specs.declared.CommitMap.{CommitMap}
 use Rattle.commit.specs.Phase.{Leaves}
-use Rattle.engine.specs.Whole.{Arrays, arrays, view, lineIn, Formed, Intact, saying, Stepped}
-use Rattle.engine.proofs.Rules.{crash-done, recover-up, recover-damaged, recover-done}
-use Rattle.engine.proofs.Steps.{answer, stepped, finishes, unmoved, state-eq, up-is, down-is}
+use Rattle.events.specs.Whole.{Arrays, arrays, view, lineIn, Formed, Intact, saying, Stepped}
+use Rattle.events.proofs.Rules.{crash-done, recover-up, recover-damaged, recover-done}
+use Rattle.events.proofs.Steps.{answer, stepped, finishes, unmoved, state-eq, up-is, down-is}
 
 module _ (work store : List ℕ) where
   abbrev z : ℕ → List ℕ

@@ -20,9 +20,9 @@ use Rattle.sets.specs.Sets.{sets}
 use Rattle.arrays.specs.View.{Owners, bearerAt, bearersOf, modesOf, slot, versionsOf}
 use Rattle.arrays.specs.Changes.{less, leaving, Rows, places, cleared, Cleared}
 use Rattle.arrays.proofs.Modes.{leaving-discarded}
-use Rattle.engine.specs.Whole.{Arrays, arrays, view, lineIn, Formed, Intact, Stepped, Ready}
-use Rattle.engine.proofs.Rules.{abort-done}
-use Rattle.engine.proofs.Steps.{answer, finishes, state-eq, up-is, live-is}
+use Rattle.events.specs.Whole.{Arrays, arrays, view, lineIn, Formed, Intact, Stepped, Ready}
+use Rattle.events.proofs.Rules.{abort-done}
+use Rattle.events.proofs.Steps.{answer, finishes, state-eq, up-is, live-is}
 
 bearer-at : (b : Bool) (p d : ℕ) → bearerAt (cond b 0 p) (cond b 0 d) ≡ cond b free (bearerAt p d)
 unfolding bearerAt

@@ -4,16 +4,16 @@ use mathlib.Core.List.{List}
 use Prim.Native.Nat.{ℕ, suc, _+_, _*_, _-_, _/_, _%_, _<_, _≤_}
 use native.Mathlib.Omega.{arith}
 use lib.ListN.{length, getD, set}
-use Rattle.engine.proofs.Commits.{child-test, commit-refuses, top-steps, top-cut, child-steps}
+use Rattle.events.proofs.Commits.{child-test, commit-refuses, top-steps, top-cut, child-steps}
 use Rattle.sets.specs.Sets.{sets}
 use Rattle.rules.specs.Store.{pagesOf}
 use Rattle.slots.specs.Parts.{lifted}
 use Rattle.slots.proofs.Walk.{parent-below}
 use borrow.Author.Needs.{needs}
-use Rattle.engine.proofs.commit_child.Statement.{statement}
-use Rattle.engine.proofs.commit_child.Tie as tie
-use Rattle.engine.proofs.commit_child.Reads as reads
-use Rattle.engine.proofs.commit_child.Lts as lts
+use Rattle.events.proofs.commit_child.Statement.{statement}
+use Rattle.events.proofs.commit_child.Tie as tie
+use Rattle.events.proofs.commit_child.Reads as reads
+use Rattle.events.proofs.commit_child.Lts as lts
 use Rattle.locks.proofs.pass.Reads as pass-reads
 use Rattle.slots.proofs.lift.Reads as lift-reads
 use Rattle.transactions.proofs.retire.Reads as retire-reads

@@ -4,12 +4,12 @@ use mathlib.Core.List.{List}
 use Prim.Native.Nat.{ℕ, suc, _+_, _*_, _-_, _/_, _%_, _<_, _≤_}
 use native.Mathlib.Omega.{arith}
 use lib.ListN.{length, getD, set}
-use Rattle.engine.proofs.Ends.{abort-steps}
+use Rattle.events.proofs.Ends.{abort-steps}
 use borrow.Author.Needs.{needs}
-use Rattle.engine.proofs.abort_event.Statement.{statement}
-use Rattle.engine.proofs.abort_event.Tie as tie
-use Rattle.engine.proofs.abort_event.Reads as reads
-use Rattle.engine.proofs.abort_event.Lts as lts
+use Rattle.events.proofs.abort_event.Statement.{statement}
+use Rattle.events.proofs.abort_event.Tie as tie
+use Rattle.events.proofs.abort_event.Reads as reads
+use Rattle.events.proofs.abort_event.Lts as lts
 use Rattle.locks.proofs.discard.Reads as discard-reads
 use Rattle.transactions.proofs.descendants.Reads as descendants-reads
 use Rattle.transactions.proofs.end.Reads as end-reads

@@ -29,9 +29,9 @@ use Rattle.sets.proofs.Sets.{sets-set}
 use Rattle.arrays.specs.View.{bearerAt, bearersOf, slot, versionsOf}
 use Rattle.arrays.specs.Changes.{Row}
 use Rattle.arrays.proofs.View.{depth-is, free-is}
-use Rattle.engine.specs.Whole.{Arrays, arrays, view, lineIn, Formed, Intact, Stepped}
-use Rattle.engine.proofs.Rules.{full, not-full, begin-unknown, begin-deep, begin-full, begin-done}
-use Rattle.engine.proofs.Steps.{answer, finishes, unmoved, state-eq, up-is, live-is, not-live, wrote-is}
+use Rattle.events.specs.Whole.{Arrays, arrays, view, lineIn, Formed, Intact, Stepped}
+use Rattle.events.proofs.Rules.{full, not-full, begin-unknown, begin-deep, begin-full, begin-done}
+use Rattle.events.proofs.Steps.{answer, finishes, unmoved, state-eq, up-is, live-is, not-live, wrote-is}
 
 -- the lowest place with depth 0 is the lowest free number
 first-free : (x : Arrays) (f : ℕ) → f ≡ lowest 24 (λ u. same (getD (x .depth) u 0) 0) → f ≡ firstFree (view x)

@@ -5,12 +5,12 @@ use Prim.Native.Nat.{ℕ, suc, _+_, _*_, _-_, _/_, _%_, _<_, _≤_}
 use native.Mathlib.Omega.{arith}
 use lib.ListN.{length, getD, set}
 use Rattle.sets.specs.Sets.{sets}
-use Rattle.engine.proofs.Steps.{write-steps, write-refuses}
+use Rattle.events.proofs.Steps.{write-steps, write-refuses}
 use borrow.Author.Needs.{needs}
-use Rattle.engine.proofs.write_event.Statement.{statement}
-use Rattle.engine.proofs.write_event.Tie as tie
-use Rattle.engine.proofs.write_event.Reads as reads
-use Rattle.engine.proofs.write_event.Lts as lts
+use Rattle.events.proofs.write_event.Statement.{statement}
+use Rattle.events.proofs.write_event.Tie as tie
+use Rattle.events.proofs.write_event.Reads as reads
+use Rattle.events.proofs.write_event.Lts as lts
 use Rattle.sets.proofs.contains.Reads as contains-reads
 use Rattle.slots.proofs.write.Reads as write-reads
 

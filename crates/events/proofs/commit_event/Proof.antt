@@ -4,14 +4,14 @@ use mathlib.Core.List.{List}
 use Prim.Native.Nat.{ℕ, suc, _+_, _*_, _-_, _/_, _%_, _<_, _≤_}
 use native.Mathlib.Omega.{arith}
 use lib.ListN.{length, getD, set}
-use Rattle.engine.proofs.Commits.{child-test, commit-refuses, top-steps, top-cut, child-steps}
+use Rattle.events.proofs.Commits.{child-test, commit-refuses, top-steps, top-cut, child-steps}
 use borrow.Author.Needs.{needs}
-use Rattle.engine.proofs.commit_event.Statement.{statement}
-use Rattle.engine.proofs.commit_event.Tie as tie
-use Rattle.engine.proofs.commit_event.Reads as reads
-use Rattle.engine.proofs.commit_event.Lts as lts
-use Rattle.engine.proofs.commit_child.Reads as commit-child-reads
-use Rattle.engine.proofs.commit_top.Reads as commit-top-reads
+use Rattle.events.proofs.commit_event.Statement.{statement}
+use Rattle.events.proofs.commit_event.Tie as tie
+use Rattle.events.proofs.commit_event.Reads as reads
+use Rattle.events.proofs.commit_event.Lts as lts
+use Rattle.events.proofs.commit_child.Reads as commit-child-reads
+use Rattle.events.proofs.commit_top.Reads as commit-top-reads
 use Rattle.transactions.proofs.has_child.Reads as has-child-reads
 
 has-child-requires : tie.Need-has-child-requires

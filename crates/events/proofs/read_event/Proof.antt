@@ -5,12 +5,12 @@ use Prim.Native.Nat.{ℕ, suc, _+_, _*_, _-_, _/_, _%_, _<_, _≤_}
 use native.Mathlib.Omega.{arith}
 use lib.ListN.{length, getD, set}
 use Rattle.sets.specs.Sets.{sets}
-use Rattle.engine.proofs.Steps.{read-steps, read-refuses}
+use Rattle.events.proofs.Steps.{read-steps, read-refuses}
 use borrow.Author.Needs.{needs}
-use Rattle.engine.proofs.read_event.Statement.{statement}
-use Rattle.engine.proofs.read_event.Tie as tie
-use Rattle.engine.proofs.read_event.Reads as reads
-use Rattle.engine.proofs.read_event.Lts as lts
+use Rattle.events.proofs.read_event.Statement.{statement}
+use Rattle.events.proofs.read_event.Tie as tie
+use Rattle.events.proofs.read_event.Reads as reads
+use Rattle.events.proofs.read_event.Lts as lts
 use Rattle.sets.proofs.contains.Reads as contains-reads
 use Rattle.slots.proofs.read.Reads as read-reads
 

@@ -4,13 +4,13 @@ use mathlib.Core.List.{List}
 use Prim.Native.Nat.{ℕ, suc, _+_, _*_, _-_, _/_, _%_, _<_, _≤_}
 use native.Mathlib.Omega.{arith}
 use lib.ListN.{length, getD, set}
-use Rattle.engine.proofs.Falls.{crash-steps, zeros-intact, zeros-down, damaged-is, map-is, recover-refuses-3, recover-refuses-4, recover-cut, recover-steps}
+use Rattle.events.proofs.Falls.{crash-steps, zeros-intact, zeros-down, damaged-is, map-is, recover-refuses-3, recover-refuses-4, recover-cut, recover-steps}
 use borrow.Author.Needs.{needs}
-use Rattle.engine.proofs.crash_event.Statement.{statement}
-use Rattle.engine.proofs.crash_event.Tie as tie
-use Rattle.engine.proofs.crash_event.Reads as reads
-use Rattle.engine.proofs.crash_event.Lts as lts
-use Rattle.engine.proofs.fall.Reads as fall-reads
+use Rattle.events.proofs.crash_event.Statement.{statement}
+use Rattle.events.proofs.crash_event.Tie as tie
+use Rattle.events.proofs.crash_event.Reads as reads
+use Rattle.events.proofs.crash_event.Lts as lts
+use Rattle.events.proofs.fall.Reads as fall-reads
 
 fall-requires : tie.Need-fall-requires
 fall-requires c κs = search needs

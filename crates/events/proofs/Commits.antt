@@ -35,11 +35,11 @@ use Rattle.arrays.proofs.Modes.{heirs-held, heirs-retained}
 use Rattle.slots.specs.Parts.{lifted}
 use Rattle.slots.proofs.Lifting.{hit, miss-depth, miss-row}
 use Rattle.commit.specs.Phase.{Leaves, topSlot, versionsIn}
-use Rattle.engine.specs.Whole.{Arrays, arrays, view, lineIn, Formed, Intact, saying, Stepped, Ready}
-use Rattle.engine.proofs.Rules.{commit-done, commit-refused}
-use Rattle.engine.proofs.Steps.{answer, stepped, finishes, unmoved, state-eq, up-is, live-is, wrote-is, depth-of, shallow, writer-deep}
-use Rattle.engine.proofs.Ends.{bearers-cleared, lines-cleared, rest-is, rest-form}
-use Rattle.engine.proofs.Falls.{zeros, zeros-down, zeros-formed, Fallen, fallen}
+use Rattle.events.specs.Whole.{Arrays, arrays, view, lineIn, Formed, Intact, saying, Stepped, Ready}
+use Rattle.events.proofs.Rules.{commit-done, commit-refused}
+use Rattle.events.proofs.Steps.{answer, stepped, finishes, unmoved, state-eq, up-is, live-is, wrote-is, depth-of, shallow, writer-deep}
+use Rattle.events.proofs.Ends.{bearers-cleared, lines-cleared, rest-is, rest-form}
+use Rattle.events.proofs.Falls.{zeros, zeros-down, zeros-formed, Fallen, fallen}
 
 -- the test for a child
 pub child-test : (x : Arrays) (t : ℕ) (b : Bool) → b ≡ any 24 (λ u. not (same (getD (x .depth) u 0) 0) && same (getD (x .parent) u 0) t) → b ≡ hasChild (view x) t

@@ -4,12 +4,12 @@ use mathlib.Core.List.{List}
 use Prim.Native.Nat.{ℕ, suc, _+_, _*_, _-_, _/_, _%_, _<_, _≤_}
 use native.Mathlib.Omega.{arith}
 use lib.ListN.{length, getD, set}
-use Rattle.engine.proofs.Begins.{full-steps, named-of, free-place, begin-placed, begin-refuses-5, begin-refuses-6}
+use Rattle.events.proofs.Begins.{full-steps, named-of, free-place, begin-placed, begin-refuses-5, begin-refuses-6}
 use borrow.Author.Needs.{needs}
-use Rattle.engine.proofs.begin_under.Statement.{statement}
-use Rattle.engine.proofs.begin_under.Tie as tie
-use Rattle.engine.proofs.begin_under.Reads as reads
-use Rattle.engine.proofs.begin_under.Lts as lts
+use Rattle.events.proofs.begin_under.Statement.{statement}
+use Rattle.events.proofs.begin_under.Tie as tie
+use Rattle.events.proofs.begin_under.Reads as reads
+use Rattle.events.proofs.begin_under.Lts as lts
 use Rattle.transactions.proofs.first_free.Reads as first-free-reads
 use Rattle.transactions.proofs.place.Reads as place-reads
 

@@ -4,13 +4,13 @@ use mathlib.Core.List.{List}
 use Prim.Native.Nat.{ℕ, suc, _+_, _*_, _-_, _/_, _%_, _<_, _≤_}
 use native.Mathlib.Omega.{arith}
 use lib.ListN.{length, getD, set}
-use Rattle.engine.proofs.Falls.{crash-steps, zeros-intact, zeros-down, damaged-is, map-is, recover-refuses-3, recover-refuses-4, recover-cut, recover-steps}
+use Rattle.events.proofs.Falls.{crash-steps, zeros-intact, zeros-down, damaged-is, map-is, recover-refuses-3, recover-refuses-4, recover-cut, recover-steps}
 use Rattle.laws.proofs.Booleans.{not-true, not-false}
 use borrow.Author.Needs.{needs}
-use Rattle.engine.proofs.recover_event.Statement.{statement}
-use Rattle.engine.proofs.recover_event.Tie as tie
-use Rattle.engine.proofs.recover_event.Reads as reads
-use Rattle.engine.proofs.recover_event.Lts as lts
+use Rattle.events.proofs.recover_event.Statement.{statement}
+use Rattle.events.proofs.recover_event.Tie as tie
+use Rattle.events.proofs.recover_event.Reads as reads
+use Rattle.events.proofs.recover_event.Lts as lts
 use Rattle.commit.proofs.read_map.Reads as read-map-reads
 use Rattle.commit.proofs.recover_pages.Reads as recover-pages-reads
 

@@ -4,20 +4,20 @@ use mathlib.Core.List.{List}
 use Prim.Native.Nat.{ℕ, suc, _+_, _*_, _-_, _/_, _%_, _<_, _≤_}
 use native.Mathlib.Omega.{arith}
 use lib.ListN.{length, getD, set}
-use Rattle.engine.proofs.Begins.{full-steps, named-of, free-place, begin-placed, begin-refuses-5, begin-refuses-6}
+use Rattle.events.proofs.Begins.{full-steps, named-of, free-place, begin-placed, begin-refuses-5, begin-refuses-6}
 use Rattle.sets.specs.Sets.{sets}
 use mathlib.Core.Option.{some}
 use lib.ListN.{List·getD-eq-default}
 use Rattle.laws.proofs.Bits.{bits-zero}
 use Rattle.sets.proofs.Sets.{sets-past}
 use Rattle.rules.specs.Event.{begin}
-use Rattle.engine.proofs.Steps.{retold}
+use Rattle.events.proofs.Steps.{retold}
 use borrow.Author.Needs.{needs}
-use Rattle.engine.proofs.begin_event.Statement.{statement}
-use Rattle.engine.proofs.begin_event.Tie as tie
-use Rattle.engine.proofs.begin_event.Reads as reads
-use Rattle.engine.proofs.begin_event.Lts as lts
-use Rattle.engine.proofs.begin_under.Reads as begin-under-reads
+use Rattle.events.proofs.begin_event.Statement.{statement}
+use Rattle.events.proofs.begin_event.Tie as tie
+use Rattle.events.proofs.begin_event.Reads as reads
+use Rattle.events.proofs.begin_event.Lts as lts
+use Rattle.events.proofs.begin_under.Reads as begin-under-reads
 
 begin-under-requires : tie.Need-begin-under-requires
 begin-under-requires c κs = (search needs, sym (List·getD-eq-default (c .before .before .before .before .args .depth .now) 0 {n = 31} (let k = c .before .before .before .before .pre .1 in omega arith)), fun-ext (λ k. bits-zero k ∙ sym (sets-past (c .before .before .before .before .args .line .now) 31 k (let m = c .before .before .before .before .pre .2 in omega arith))), λ z. refl)
