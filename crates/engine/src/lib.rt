@@ -5,13 +5,45 @@ ghost use Prim.Native.Nat.{ℕ, _+_, _*_, _<_, _≤_};
 ghost use lib.ListN.{length, getD, set};
 ghost use Rattle.rules.specs.Store.{pagesOf};
 ghost use Rattle.rules.specs.State.{down};
+ghost use Rattle.numbers.specs.Named.{transactionOf, recordOf};
 ghost use Rattle.event.specs.Meaning.{meaning, InRange};
 ghost use Rattle.events.specs.Whole.{Arrays, arrays, view, Intact, Stepped, Ready};
 ghost use Rattle.engine.specs.Portion.{whole, Portion};
 use event::Event;
 use events::Answer;
+use numbers::RecordNamed;
+use numbers::RecordNumber;
+use numbers::TransactionNamed;
+use numbers::TransactionNumber;
 
-// An event of a live transaction.
+// An event of a live transaction at a record.
+fn record_event(
+    up: &mut u8,
+    parent: &mut [u8; 24],
+    depth: &mut [u8; 24],
+    line: &mut [u32; 24],
+    held: &mut [u32; 16],
+    retained: &mut [u32; 16],
+    writers: &mut [u32; 16],
+    work: &mut [u8],
+    store: &mut [u8],
+    e: Event,
+    t: TransactionNumber,
+    r: RecordNumber,
+) -> Answer
+    requires { ⌜ (transactionOf t ≡ e .transaction) × (recordOf r ≡ e .rec) × (1 < e .kind) × (e .kind < 5) × InRange e × Intact (arrays (now up) (now parent) (now depth) (now line) (now held) (now retained) (now writers) (now work) (now store)) × Ready (arrays (now up) (now parent) (now depth) (now line) (now held) (now retained) (now writers) (now work) (now store)) (transactionOf t) ⌝ }
+    ensures { λ a. ⌜ Stepped (arrays (now (up .entry)) (now (parent .entry)) (now (depth .entry)) (now (line .entry)) (now (held .entry)) (now (retained .entry)) (now (writers .entry)) (now (work .entry)) (now (store .entry))) (meaning e) a (arrays (now (up .exit)) (now (parent .exit)) (now (depth .exit)) (now (line .exit)) (now (held .exit)) (now (retained .exit)) (now (writers .exit)) (now (work .exit)) (now (store .exit))) ⌝ }
+{
+    let o = e.offset as usize;
+    let kind = e.kind;
+    match kind {
+        2 => events::lock_event(line, held, retained, t, r),
+        3 => events::write_event(parent, depth, held, writers, work, store, t, r, o, e.value),
+        _ => events::read_event(parent, depth, held, writers, work, store, t, r, o),
+    }
+}
+
+// An event of a transaction: refused with 5 unless it is live.
 fn named_event(
     up: &mut u8,
     parent: &mut [u8; 24],
@@ -23,19 +55,20 @@ fn named_event(
     work: &mut [u8],
     store: &mut [u8],
     e: Event,
-    t: u8,
+    t: TransactionNumber,
 ) -> Answer
-    requires { ⌜ (t < 24) × (t ≡ e .transaction) × (1 < e .kind) × (e .kind < 7) × InRange e × Intact (arrays (now up) (now parent) (now depth) (now line) (now held) (now retained) (now writers) (now work) (now store)) × Ready (arrays (now up) (now parent) (now depth) (now line) (now held) (now retained) (now writers) (now work) (now store)) t ⌝ }
+    requires { ⌜ (transactionOf t ≡ e .transaction) × (1 < e .kind) × (e .kind < 7) × InRange e × Intact (arrays (now up) (now parent) (now depth) (now line) (now held) (now retained) (now writers) (now work) (now store)) × (now up ≡ 1) ⌝ }
     ensures { λ a. ⌜ Stepped (arrays (now (up .entry)) (now (parent .entry)) (now (depth .entry)) (now (line .entry)) (now (held .entry)) (now (retained .entry)) (now (writers .entry)) (now (work .entry)) (now (store .entry))) (meaning e) a (arrays (now (up .exit)) (now (parent .exit)) (now (depth .exit)) (now (line .exit)) (now (held .exit)) (now (retained .exit)) (now (writers .exit)) (now (work .exit)) (now (store .exit))) ⌝ }
 {
-    let r = e.rec as usize;
-    let o = e.offset as usize;
     let kind = e.kind;
-    match kind {
-        2 => events::lock_event(line, held, retained, t, r),
-        3 => events::write_event(parent, depth, held, writers, work, store, t, r, o, e.value),
-        4 => events::read_event(parent, depth, held, writers, work, store, t, r, o),
-        5 => events::commit_event(
+    if depth[e.transaction as usize] == 0 {
+        return Answer {
+            number: 5,
+            value: 0,
+        };
+    }
+    if kind == 5 {
+        return events::commit_event(
             up,
             parent,
             depth,
@@ -47,8 +80,30 @@ fn named_event(
             store,
             t,
             e.count,
+        );
+    }
+    if kind == 6 {
+        return events::abort_event(parent, depth, line, held, retained, writers, t);
+    }
+    match RecordNumber::checked(e.rec) {
+        RecordNamed::Number(r) => record_event(
+            up,
+            parent,
+            depth,
+            line,
+            held,
+            retained,
+            writers,
+            work,
+            store,
+            e,
+            t,
+            r,
         ),
-        _ => events::abort_event(parent, depth, line, held, retained, writers, t),
+        RecordNamed::NoSuchRecord => Answer {
+            number: 1,
+            value: 0,
+        },
     }
 }
 
@@ -91,31 +146,25 @@ fn step(
     if kind == 1 {
         return events::begin_event(parent, depth, line, t);
     }
-    if 24 <= t {
-        return Answer {
+    match TransactionNumber::checked(t) {
+        TransactionNamed::Number(n) => named_event(
+            up,
+            parent,
+            depth,
+            line,
+            held,
+            retained,
+            writers,
+            work,
+            store,
+            e,
+            n,
+        ),
+        TransactionNamed::NoSuchTransaction => Answer {
             number: 5,
             value: 0,
-        };
+        },
     }
-    if depth[t as usize] == 0 {
-        return Answer {
-            number: 5,
-            value: 0,
-        };
-    }
-    named_event(
-        up,
-        parent,
-        depth,
-        line,
-        held,
-        retained,
-        writers,
-        work,
-        store,
-        e,
-        t,
-    )
 }
 
 // The answer to event k.

@@ -55,6 +55,11 @@ unmoved x e n F q = stepped x x e (view x) (refused n) (answer n 0) q refl refl 
 pub retold : (x y : Arrays) (e f : Option Event) (a : Answer) → f ≡ e → Stepped x e a y → Stepped x f a y
 retold x y e f a q T = subst⁻¹ (λ (e : Option Event). Stepped x e a y) q T
 
+-- the numbers are given by checked ones
+pub numbered : (x y : Arrays) (a : Answer) (e : ℕ → ℕ → Event) (n t m r : ℕ) → n ≡ t → m ≡ r → (Ready x n → Stepped x (some (e n m)) a y) → Ready x t → Stepped x (some (e t r)) a y
+numbered x y a e n t m r p q f R =
+    subst (λ (r : ℕ). Stepped x (some (e t r)) a y) q (subst (λ (t : ℕ). Stepped x (some (e t m)) a y) p (f (subst⁻¹ (Ready x) p R)))
+
 pub state-eq : {s t : State Pages} → s .up ≡ t .up → s .bearer ≡ t .bearer → s .held ≡ t .held → s .retained ≡ t .retained → s .version ≡ t .version → s .store ≡ t .store → s ≡ t
 state-eq a b c d e f = λ i. record { up = a i; bearer = b i; held = c i; retained = d i; version = e i; store = f i }
 

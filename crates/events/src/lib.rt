@@ -16,7 +16,10 @@ ghost use Rattle.rules.specs.Event.{begin, lock, write, read, commit, abort, cr
 ghost use Rattle.rules.specs.Step.{hasChild};
 ghost use Rattle.sets.specs.Sets.{sets};
 ghost use Rattle.slots.specs.Parts.{Sources};
+ghost use Rattle.numbers.specs.Named.{transactionOf, recordOf};
 ghost use Rattle.events.specs.Whole.{Arrays, arrays, view, Intact, Stepped, Ready};
+use numbers::RecordNumber;
+use numbers::TransactionNumber;
 
 // An answer's two bytes.
 pub struct Answer {
@@ -31,13 +34,15 @@ pub fn lock_event(
     line: &[u32; 24],
     held: &mut [u32; 16],
     retained: &[u32; 16],
-    t: u8,
-    r: usize,
+    t: TransactionNumber,
+    r: RecordNumber,
 ) -> Answer
-    requires { ⌜ (t < 24) × (r < 16) × (length (now held) ≡ 16) ⌝ }
-    ensures { λ a. ⌜ ((up : ℕ) (parent depth writers work store : List ℕ) → Intact (arrays up parent depth (now (line .entry)) (now (held .entry)) (now (retained .entry)) writers work store) → Ready (arrays up parent depth (now (line .entry)) (now (held .entry)) (now (retained .entry)) writers work store) t → Stepped (arrays up parent depth (now (line .entry)) (now (held .entry)) (now (retained .entry)) writers work store) (some (lock t r)) a (arrays up parent depth (now (line .entry)) (now (held .exit)) (now (retained .entry)) writers work store)) ⌝ }
+    requires { ⌜ (length (now held) ≡ 16) ⌝ }
+    ensures { λ a. ⌜ ((up : ℕ) (parent depth writers work store : List ℕ) → Intact (arrays up parent depth (now (line .entry)) (now (held .entry)) (now (retained .entry)) writers work store) → Ready (arrays up parent depth (now (line .entry)) (now (held .entry)) (now (retained .entry)) writers work store) (transactionOf t) → Stepped (arrays up parent depth (now (line .entry)) (now (held .entry)) (now (retained .entry)) writers work store) (some (lock (transactionOf t) (recordOf r))) a (arrays up parent depth (now (line .entry)) (now (held .exit)) (now (retained .entry)) writers work store)) ⌝ }
 {
-    let ok = locks::lock(line, held, retained, t, r);
+    let n = t.number();
+    let q = r.index();
+    let ok = locks::lock(line, held, retained, n, q);
     if ok {
         return Answer {
             number: 0,
@@ -58,17 +63,19 @@ pub fn read_event(
     writers: &[u32; 16],
     work: &[u8],
     store: &[u8],
-    t: u8,
-    r: usize,
+    t: TransactionNumber,
+    r: RecordNumber,
     o: usize,
 ) -> Answer
-    requires { ⌜ (t < 24) × (r < 16) × (o < 32) × (length (now work) ≡ 4096) × (length (now store) ≡ 1056) × Sources (now parent) (now depth) ⌝ }
-    ensures { λ a. ⌜ ((up : ℕ) (line retained : List ℕ) → Intact (arrays up (now (parent .entry)) (now (depth .entry)) line (now (held .entry)) retained (now (writers .entry)) (now (work .entry)) (now (store .entry))) → Ready (arrays up (now (parent .entry)) (now (depth .entry)) line (now (held .entry)) retained (now (writers .entry)) (now (work .entry)) (now (store .entry))) t → Stepped (arrays up (now (parent .entry)) (now (depth .entry)) line (now (held .entry)) retained (now (writers .entry)) (now (work .entry)) (now (store .entry))) (some (read t r o)) a (arrays up (now (parent .entry)) (now (depth .entry)) line (now (held .entry)) retained (now (writers .entry)) (now (work .entry)) (now (store .entry)))) ⌝ }
+    requires { ⌜ (o < 32) × (length (now work) ≡ 4096) × (length (now store) ≡ 1056) × Sources (now parent) (now depth) ⌝ }
+    ensures { λ a. ⌜ ((up : ℕ) (line retained : List ℕ) → Intact (arrays up (now (parent .entry)) (now (depth .entry)) line (now (held .entry)) retained (now (writers .entry)) (now (work .entry)) (now (store .entry))) → Ready (arrays up (now (parent .entry)) (now (depth .entry)) line (now (held .entry)) retained (now (writers .entry)) (now (work .entry)) (now (store .entry))) (transactionOf t) → Stepped (arrays up (now (parent .entry)) (now (depth .entry)) line (now (held .entry)) retained (now (writers .entry)) (now (work .entry)) (now (store .entry))) (some (read (transactionOf t) (recordOf r) o)) a (arrays up (now (parent .entry)) (now (depth .entry)) line (now (held .entry)) retained (now (writers .entry)) (now (work .entry)) (now (store .entry)))) ⌝ }
 {
-    if sets::contains(held[r], t) {
+    let n = t.number();
+    let q = r.index();
+    if sets::contains(held[q], n) {
         return Answer {
             number: 0,
-            value: slots::read(parent, depth, writers, work, store, t, r, o),
+            value: slots::read(parent, depth, writers, work, store, n, q, o),
         };
     }
     Answer {
@@ -85,16 +92,18 @@ pub fn write_event(
     writers: &mut [u32; 16],
     work: &mut [u8],
     store: &[u8],
-    t: u8,
-    r: usize,
+    t: TransactionNumber,
+    r: RecordNumber,
     o: usize,
     v: u8,
 ) -> Answer
-    requires { ⌜ (t < 24) × (r < 16) × (o < 32) × (length (now work) ≡ 4096) × (length (now store) ≡ 1056) × (length (now writers) ≡ 16) × (0 < getD (now depth) t 0) × Sources (now parent) (now depth) ⌝ }
-    ensures { λ a. ⌜ ((up : ℕ) (line retained : List ℕ) → Intact (arrays up (now (parent .entry)) (now (depth .entry)) line (now (held .entry)) retained (now (writers .entry)) (now (work .entry)) (now (store .entry))) → Ready (arrays up (now (parent .entry)) (now (depth .entry)) line (now (held .entry)) retained (now (writers .entry)) (now (work .entry)) (now (store .entry))) t → Stepped (arrays up (now (parent .entry)) (now (depth .entry)) line (now (held .entry)) retained (now (writers .entry)) (now (work .entry)) (now (store .entry))) (some (write t r o v)) a (arrays up (now (parent .entry)) (now (depth .entry)) line (now (held .entry)) retained (now (writers .exit)) (now (work .exit)) (now (store .entry)))) ⌝ }
+    requires { ⌜ (o < 32) × (length (now work) ≡ 4096) × (length (now store) ≡ 1056) × (length (now writers) ≡ 16) × (0 < getD (now depth) (transactionOf t) 0) × Sources (now parent) (now depth) ⌝ }
+    ensures { λ a. ⌜ ((up : ℕ) (line retained : List ℕ) → Intact (arrays up (now (parent .entry)) (now (depth .entry)) line (now (held .entry)) retained (now (writers .entry)) (now (work .entry)) (now (store .entry))) → Ready (arrays up (now (parent .entry)) (now (depth .entry)) line (now (held .entry)) retained (now (writers .entry)) (now (work .entry)) (now (store .entry))) (transactionOf t) → Stepped (arrays up (now (parent .entry)) (now (depth .entry)) line (now (held .entry)) retained (now (writers .entry)) (now (work .entry)) (now (store .entry))) (some (write (transactionOf t) (recordOf r) o v)) a (arrays up (now (parent .entry)) (now (depth .entry)) line (now (held .entry)) retained (now (writers .exit)) (now (work .exit)) (now (store .entry)))) ⌝ }
 {
-    if sets::contains(held[r], t) {
-        slots::write(parent, depth, writers, work, store, t, r, o, v);
+    let n = t.number();
+    let q = r.index();
+    if sets::contains(held[q], n) {
+        slots::write(parent, depth, writers, work, store, n, q, o, v);
         return Answer {
             number: 0,
             value: 0,
@@ -280,19 +289,20 @@ pub fn commit_event(
     writers: &mut [u32; 16],
     work: &mut [u8],
     store: &mut [u8],
-    t: u8,
+    t: TransactionNumber,
     k: u8,
 ) -> Answer
-    requires { ⌜ (t < 24) × (length (now parent) ≡ 24) × (length (now depth) ≡ 24) × (length (now line) ≡ 24) × (length (now held) ≡ 16) × (length (now retained) ≡ 16) × (length (now writers) ≡ 16) × (length (now work) ≡ 4096) × (length (now store) ≡ 1056) × (0 < getD (now depth) t 0) × Sources (now parent) (now depth) ⌝ }
-    ensures { λ a. ⌜ (Intact (arrays (now (up .entry)) (now (parent .entry)) (now (depth .entry)) (now (line .entry)) (now (held .entry)) (now (retained .entry)) (now (writers .entry)) (now (work .entry)) (now (store .entry))) → Ready (arrays (now (up .entry)) (now (parent .entry)) (now (depth .entry)) (now (line .entry)) (now (held .entry)) (now (retained .entry)) (now (writers .entry)) (now (work .entry)) (now (store .entry))) t → Stepped (arrays (now (up .entry)) (now (parent .entry)) (now (depth .entry)) (now (line .entry)) (now (held .entry)) (now (retained .entry)) (now (writers .entry)) (now (work .entry)) (now (store .entry))) (some (commit t k)) a (arrays (now (up .exit)) (now (parent .exit)) (now (depth .exit)) (now (line .exit)) (now (held .exit)) (now (retained .exit)) (now (writers .exit)) (now (work .exit)) (now (store .exit)))) ⌝ }
+    requires { ⌜ (length (now parent) ≡ 24) × (length (now depth) ≡ 24) × (length (now line) ≡ 24) × (length (now held) ≡ 16) × (length (now retained) ≡ 16) × (length (now writers) ≡ 16) × (length (now work) ≡ 4096) × (length (now store) ≡ 1056) × (0 < getD (now depth) (transactionOf t) 0) × Sources (now parent) (now depth) ⌝ }
+    ensures { λ a. ⌜ (Intact (arrays (now (up .entry)) (now (parent .entry)) (now (depth .entry)) (now (line .entry)) (now (held .entry)) (now (retained .entry)) (now (writers .entry)) (now (work .entry)) (now (store .entry))) → Ready (arrays (now (up .entry)) (now (parent .entry)) (now (depth .entry)) (now (line .entry)) (now (held .entry)) (now (retained .entry)) (now (writers .entry)) (now (work .entry)) (now (store .entry))) (transactionOf t) → Stepped (arrays (now (up .entry)) (now (parent .entry)) (now (depth .entry)) (now (line .entry)) (now (held .entry)) (now (retained .entry)) (now (writers .entry)) (now (work .entry)) (now (store .entry))) (some (commit (transactionOf t) k)) a (arrays (now (up .exit)) (now (parent .exit)) (now (depth .exit)) (now (line .exit)) (now (held .exit)) (now (retained .exit)) (now (writers .exit)) (now (work .exit)) (now (store .exit)))) ⌝ }
 {
-    if transactions::has_child(parent, depth, t) {
+    let n = t.number();
+    if transactions::has_child(parent, depth, n) {
         return Answer {
             number: 10,
             value: 0,
         };
     }
-    let d = depth[t as usize];
+    let d = depth[n as usize];
     if d == 1 {
         return commit_top(
             up,
@@ -304,11 +314,11 @@ pub fn commit_event(
             writers,
             &work[..],
             store,
-            t,
+            n,
             k,
         );
     }
-    commit_child(parent, depth, line, held, retained, writers, work, t, d)
+    commit_child(parent, depth, line, held, retained, writers, work, n, d)
 }
 
 // An abort: the transaction and all its live descendants end.
@@ -319,12 +329,13 @@ pub fn abort_event(
     held: &mut [u32; 16],
     retained: &mut [u32; 16],
     writers: &mut [u32; 16],
-    t: u8,
+    t: TransactionNumber,
 ) -> Answer
-    requires { ⌜ (t < 24) × (length (now parent) ≡ 24) × (length (now depth) ≡ 24) × (length (now line) ≡ 24) × (length (now held) ≡ 16) × (length (now retained) ≡ 16) × (length (now writers) ≡ 16) ⌝ }
-    ensures { λ a. ⌜ ((up : ℕ) (work store : List ℕ) → Intact (arrays up (now (parent .entry)) (now (depth .entry)) (now (line .entry)) (now (held .entry)) (now (retained .entry)) (now (writers .entry)) work store) → Ready (arrays up (now (parent .entry)) (now (depth .entry)) (now (line .entry)) (now (held .entry)) (now (retained .entry)) (now (writers .entry)) work store) t → Stepped (arrays up (now (parent .entry)) (now (depth .entry)) (now (line .entry)) (now (held .entry)) (now (retained .entry)) (now (writers .entry)) work store) (some (abort t)) a (arrays up (now (parent .exit)) (now (depth .exit)) (now (line .exit)) (now (held .exit)) (now (retained .exit)) (now (writers .exit)) work store)) ⌝ }
+    requires { ⌜ (length (now parent) ≡ 24) × (length (now depth) ≡ 24) × (length (now line) ≡ 24) × (length (now held) ≡ 16) × (length (now retained) ≡ 16) × (length (now writers) ≡ 16) ⌝ }
+    ensures { λ a. ⌜ ((up : ℕ) (work store : List ℕ) → Intact (arrays up (now (parent .entry)) (now (depth .entry)) (now (line .entry)) (now (held .entry)) (now (retained .entry)) (now (writers .entry)) work store) → Ready (arrays up (now (parent .entry)) (now (depth .entry)) (now (line .entry)) (now (held .entry)) (now (retained .entry)) (now (writers .entry)) work store) (transactionOf t) → Stepped (arrays up (now (parent .entry)) (now (depth .entry)) (now (line .entry)) (now (held .entry)) (now (retained .entry)) (now (writers .entry)) work store) (some (abort (transactionOf t))) a (arrays up (now (parent .exit)) (now (depth .exit)) (now (line .exit)) (now (held .exit)) (now (retained .exit)) (now (writers .exit)) work store)) ⌝ }
 {
-    let gone = transactions::descendants(line, t);
+    let n = t.number();
+    let gone = transactions::descendants(line, n);
     locks::discard(held, retained, writers, gone);
     transactions::end(parent, depth, line, gone);
     Answer {

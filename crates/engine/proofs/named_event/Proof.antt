@@ -7,41 +7,30 @@ use lib.ListN.{length, getD, set}
 use mathlib.Core.Option.{some}
 use Rattle.rules.specs.Event.{begin, lock, write, read, commit, abort, crash, recover}
 use Rattle.event.proofs.Meaning.{means-bad, means-begin, means-lock, means-write, means-read, means-commit, means-abort, means-crash, means-recover}
-use Rattle.events.proofs.Steps.{retold, sources}
+use Rattle.engine.proofs.ByKind.{unknown-steps}
+use Rattle.engine.proofs.Numbers.{transaction-is, no-transaction, record-is, no-record, transaction-small}
+use Rattle.events.proofs.Steps.{retold, sources, not-live}
 use borrow.Author.Needs.{needs}
 use Rattle.engine.proofs.named_event.Statement.{statement}
 use Rattle.engine.proofs.named_event.Tie as tie
 use Rattle.engine.proofs.named_event.Reads as reads
 use Rattle.engine.proofs.named_event.Lts as lts
+use Rattle.engine.proofs.record_event.Reads as record-event-reads
 use Rattle.events.proofs.abort_event.Reads as abort-event-reads
 use Rattle.events.proofs.commit_event.Reads as commit-event-reads
-use Rattle.events.proofs.lock_event.Reads as lock-event-reads
-use Rattle.events.proofs.read_event.Reads as read-event-reads
-use Rattle.events.proofs.write_event.Reads as write-event-reads
+use Rattle.numbers.proofs.RecordNumber.checked.Reads as checked-reads
 
-cast-r : tie.Need-cast-r
-cast-r c = search needs
+cast-if1 : tie.Need-cast-if1
+cast-if1 c = search needs
 
-cast-o : tie.Need-cast-o
-cast-o c = search needs
-
-lock-event-requires : tie.Need-lock-event-requires
-lock-event-requires c κs = search needs
-
-write-event-requires : tie.Need-write-event-requires
-write-event-requires c κs = let F = c .before .before .before .before .before .before .before .before .before .before .before .pre .5 .form in let R = c .before .before .before .before .before .before .before .before .before .before .before .pre .4 in (omega arith, R .rec, R .offset, F .works, F .stores, F .writerss, c .before .before .before .before .before .before .before .before .before .before .before .pre .6 .live, sources _ (c .before .before .before .before .before .before .before .before .before .before .before .pre .5))
-
-read-event-requires : tie.Need-read-event-requires
-read-event-requires c κs = let F = c .before .before .before .before .before .before .before .before .before .before .before .pre .5 .form in let R = c .before .before .before .before .before .before .before .before .before .before .before .pre .4 in (omega arith, R .rec, R .offset, F .works, F .stores, sources _ (c .before .before .before .before .before .before .before .before .before .before .before .pre .5))
-
-commit-event-requires : tie.Need-commit-event-requires
-commit-event-requires c κs = let F = c .before .before .before .before .before .before .before .before .before .before .before .before .before .before .pre .5 .form in (omega arith, F .parents, F .depths, F .long, F .helds, F .retaineds, F .writerss, F .works, F .stores, c .before .before .before .before .before .before .before .before .before .before .before .before .before .before .pre .6 .live, sources _ (c .before .before .before .before .before .before .before .before .before .before .before .before .before .before .pre .5))
-
-abort-event-requires : tie.Need-abort-event-requires
-abort-event-requires c κs = search needs
+element-copy-out-if1 : tie.Need-element-copy-out-if1
+element-copy-out-if1 c = let h = transaction-small (c .before .before .before .args .t) in let e = c .before .before .before .pre .0 in search needs
 
 returns : tie.Need-returns
-returns c = retold _ _ _ _ _ (means-lock (c .before .before .before .before .before .before .before .before .before .args .e) (c .before .before .before .before .match .keys1) ∙ ap (λ (t : ℕ). some (lock t (c .before .before .before .before .before .before .before .before .before .args .e .rec))) (sym (c .before .before .before .before .before .before .before .before .before .pre .1))) (c .lock-event .ensures _ _ _ _ _ _ (c .before .before .before .before .before .before .before .before .before .pre .5) (c .before .before .before .before .before .before .before .before .before .pre .6))
+returns c = unknown-steps _ (c .before .before .before .before .before .args .e) (c .before .before .before .before .before .pre .4) (c .before .before .before .before .before .pre .1) (c .before .before .before .before .before .pre .2) (c .before .before .before .before .before .pre .5) (not-live _ (c .before .before .before .before .before .args .e .transaction) (c .if1 .taken))
+
+commit-event-requires : tie.Need-commit-event-requires
+commit-event-requires c κs = let F = c .before .before .before .before .before .before .before .before .before .before .before .before .before .before .before .pre .4 .form in (F .parents, F .depths, F .long, F .helds, F .retaineds, F .writerss, F .works, F .stores, subst⁻¹ (λ (n : ℕ). 0 < getD (c .before .before .before .before .before .before .before .before .before .before .before .before .before .before .before .args .depth .now) n 0) (c .before .before .before .before .before .before .before .before .before .before .before .before .before .before .before .pre .0) (omega arith), sources _ (c .before .before .before .before .before .before .before .before .before .before .before .before .before .before .before .pre .4))
 
 same-length : tie.Need-same-length
 same-length c = search needs
@@ -50,7 +39,25 @@ same-length-2 : tie.Need-same-length-2
 same-length-2 c = search needs
 
 returns-2 : tie.Need-returns-2
-returns-2 c = retold _ _ _ _ _ (means-write (c .before .before .before .before .before .before .before .before .before .before .before .before .before .before .args .e) (c .before .before .before .before .before .before .before .before .before .match .keys2) ∙ ap (λ (t : ℕ). some (write t (c .before .before .before .before .before .before .before .before .before .before .before .before .before .before .args .e .rec) (c .before .before .before .before .before .before .before .before .before .before .before .before .before .before .args .e .offset) (c .before .before .before .before .before .before .before .before .before .before .before .before .before .before .args .e .value))) (sym (c .before .before .before .before .before .before .before .before .before .before .before .before .before .before .pre .1))) (c .before .before .write-event .ensures _ _ _ (c .before .before .before .before .before .before .before .before .before .before .before .before .before .before .pre .5) (c .before .before .before .before .before .before .before .before .before .before .before .before .before .before .pre .6))
+returns-2 c = retold _ _ _ _ _ (means-commit (c .before .before .before .before .before .before .before .before .before .before .before .before .before .before .before .before .before .before .before .before .args .e) (c .before .before .before .before .before .before .before .before .before .before .before .before .before .before .if2 .taken) ∙ ap (λ (t : ℕ). some (commit t (c .before .before .before .before .before .before .before .before .before .before .before .before .before .before .before .before .before .before .before .before .args .e .count))) (sym (c .before .before .before .before .before .before .before .before .before .before .before .before .before .before .before .before .before .before .before .before .pre .0))) (c .before .before .before .before .commit-event .ensures (c .before .before .before .before .before .before .before .before .before .before .before .before .before .before .before .before .before .before .before .before .pre .4) (record { up = c .before .before .before .before .before .before .before .before .before .before .before .before .before .before .before .before .before .before .before .before .pre .5; live = subst⁻¹ (λ (n : ℕ). 0 < getD (c .before .before .before .before .before .before .before .before .before .before .before .before .before .before .before .before .before .before .before .before .args .depth .now) n 0) (c .before .before .before .before .before .before .before .before .before .before .before .before .before .before .before .before .before .before .before .before .pre .0) (omega arith) }))
+
+abort-event-requires : tie.Need-abort-event-requires
+abort-event-requires c κs = search needs
+
+returns-3 : tie.Need-returns-3
+returns-3 c = retold _ _ _ _ _ (means-abort (c .before .before .before .before .before .before .before .before .before .before .before .before .before .before .args .e) (c .before .before .before .before .before .before .before .if3 .taken) ∙ ap (λ (t : ℕ). some (abort t)) (sym (c .before .before .before .before .before .before .before .before .before .before .before .before .before .before .pre .0))) (c .abort-event .ensures _ _ _ (c .before .before .before .before .before .before .before .before .before .before .before .before .before .before .pre .4) (record { up = c .before .before .before .before .before .before .before .before .before .before .before .before .before .before .pre .5; live = subst⁻¹ (λ (n : ℕ). 0 < getD (c .before .before .before .before .before .before .before .before .before .before .before .before .before .before .args .depth .now) n 0) (c .before .before .before .before .before .before .before .before .before .before .before .before .before .before .pre .0) (omega arith) }))
+
+checked-requires : tie.Need-checked-requires
+checked-requires c κs = search needs
+
+enum-known-r : tie.Need-enum-known-r
+enum-known-r c = search needs
+
+record-event-requires : tie.Need-record-event-requires
+record-event-requires c κs = (c .before .before .before .before .before .before .before .before .before .before .before .before .before .before .before .before .before .before .before .before .pre .0, record-is (c .before .before .before .before .before .before .before .before .before .before .before .before .before .before .before .before .before .before .before .before .args .e .rec) _ (sym (c .before .before .before .before .before .before .before .before .before .before .r .given .1) ∙ c .before .before .before .before .before .before .before .before .before .before .before .before .checked .ensures), c .before .before .before .before .before .before .before .before .before .before .before .before .before .before .before .before .before .before .before .before .pre .1, omega arith, c .before .before .before .before .before .before .before .before .before .before .before .before .before .before .before .before .before .before .before .before .pre .3, c .before .before .before .before .before .before .before .before .before .before .before .before .before .before .before .before .before .before .before .before .pre .4, record { up = c .before .before .before .before .before .before .before .before .before .before .before .before .before .before .before .before .before .before .before .before .pre .5; live = subst⁻¹ (λ (n : ℕ). 0 < getD (c .before .before .before .before .before .before .before .before .before .before .before .before .before .before .before .before .before .before .before .before .args .depth .now) n 0) (c .before .before .before .before .before .before .before .before .before .before .before .before .before .before .before .before .before .before .before .before .pre .0) (omega arith) })
+
+enum-told : tie.Need-enum-told
+enum-told c = search needs
 
 same-length-3 : tie.Need-same-length-3
 same-length-3 c = search needs
@@ -58,40 +65,30 @@ same-length-3 c = search needs
 same-length-4 : tie.Need-same-length-4
 same-length-4 c = search needs
 
-returns-3 : tie.Need-returns-3
-returns-3 c = retold _ _ _ _ _ (means-read (c .before .before .before .before .before .before .before .before .before .before .before .before .args .e) (c .before .before .before .before .before .before .before .match .keys3) ∙ ap (λ (t : ℕ). some (read t (c .before .before .before .before .before .before .before .before .before .before .before .before .args .e .rec) (c .before .before .before .before .before .before .before .before .before .before .before .before .args .e .offset))) (sym (c .before .before .before .before .before .before .before .before .before .before .before .before .pre .1))) (c .read-event .ensures _ _ _ (c .before .before .before .before .before .before .before .before .before .before .before .before .pre .5) (c .before .before .before .before .before .before .before .before .before .before .before .before .pre .6))
-
-same-length-5 : tie.Need-same-length-5
-same-length-5 c = search needs
-
-same-length-6 : tie.Need-same-length-6
-same-length-6 c = search needs
-
 returns-4 : tie.Need-returns-4
-returns-4 c = retold _ _ _ _ _ (means-commit (c .before .before .before .before .before .before .before .before .before .before .before .before .before .before .before .before .before .before .before .args .e) (c .before .before .before .before .before .before .before .before .before .before .before .before .before .before .match .keys4) ∙ ap (λ (t : ℕ). some (commit t (c .before .before .before .before .before .before .before .before .before .before .before .before .before .before .before .before .before .before .before .args .e .count))) (sym (c .before .before .before .before .before .before .before .before .before .before .before .before .before .before .before .before .before .before .before .pre .1))) (c .before .before .before .before .commit-event .ensures (c .before .before .before .before .before .before .before .before .before .before .before .before .before .before .before .before .before .before .before .pre .5) (c .before .before .before .before .before .before .before .before .before .before .before .before .before .before .before .before .before .before .before .pre .6))
+returns-4 c = search needs
 
 returns-5 : tie.Need-returns-5
-returns-5 c = retold _ _ _ _ _ (means-abort (c .before .before .before .before .before .before .before .before .before .before .before .before .args .e) (omega arith) ∙ ap (λ (t : ℕ). some (abort t)) (sym (c .before .before .before .before .before .before .before .before .before .before .before .before .pre .1))) (c .abort-event .ensures _ _ _ (c .before .before .before .before .before .before .before .before .before .before .before .before .pre .5) (c .before .before .before .before .before .before .before .before .before .before .before .before .pre .6))
+returns-5 c = let h = no-record (c .before .before .before .before .before .before .before .before .before .before .args .e .rec) (sym (c .enum-told .given .1) ∙ c .before .before .checked .ensures) in let k = c .before .before .before .before .before .before .before .before .before .before .pre .3 .rec in absurd (omega arith)
 
 pub named-event-spec : {M : Type 1} → statement M
 named-event-spec =
     tie.close
     (tie.spec
-    cast-r
-    cast-o
-    lock-event-requires
-    write-event-requires
-    read-event-requires
-    commit-event-requires
-    abort-event-requires
+    cast-if1
+    element-copy-out-if1
     returns
+    commit-event-requires
     same-length
     same-length-2
     returns-2
+    abort-event-requires
+    returns-3
+    checked-requires
+    enum-known-r
+    record-event-requires
+    enum-told
     same-length-3
     same-length-4
-    returns-3
-    same-length-5
-    same-length-6
     returns-4
     returns-5)

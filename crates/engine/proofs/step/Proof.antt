@@ -8,7 +8,8 @@ use mathlib.Core.Option.{some}
 use Rattle.rules.specs.Event.{begin, lock, write, read, commit, abort, crash, recover}
 use Rattle.event.proofs.Meaning.{means-bad, means-begin, means-lock, means-write, means-read, means-commit, means-abort, means-crash, means-recover}
 use Rattle.engine.proofs.ByKind.{down-steps, unknown-steps, keeps}
-use Rattle.events.proofs.Steps.{retold, unmoved, sources, not-live, not-live-past}
+use Rattle.engine.proofs.Numbers.{transaction-is, no-transaction, record-is, no-record, transaction-small}
+use Rattle.events.proofs.Steps.{retold, unmoved, sources, not-live-past}
 use Rattle.events.proofs.Rules.{bad-refused}
 use Rattle.rules.specs.Step.{step}
 use Rattle.rules.specs.Editions.{edition1}
@@ -17,10 +18,11 @@ use Rattle.engine.proofs.step.Statement.{statement}
 use Rattle.engine.proofs.step.Tie as tie
 use Rattle.engine.proofs.step.Reads as reads
 use Rattle.engine.proofs.step.Lts as lts
+use Rattle.engine.proofs.named_event.Reads as named-event-reads
 use Rattle.events.proofs.begin_event.Reads as begin-event-reads
 use Rattle.events.proofs.crash_event.Reads as crash-event-reads
-use Rattle.engine.proofs.named_event.Reads as named-event-reads
 use Rattle.events.proofs.recover_event.Reads as recover-event-reads
+use Rattle.numbers.proofs.TransactionNumber.checked.Reads as checked-reads
 
 returns : tie.Need-returns
 returns c = keeps _ _ (c .before .before .before .args .e) _ (c .before .before .before .pre .0) (c .before .before .before .pre .1) (unmoved _ _ 1 (c .before .before .before .pre .1 .form) (ap (step edition1 _) (means-bad (c .before .before .before .args .e) (c .if1 .taken)) ∙ bad-refused edition1 _))
@@ -49,20 +51,17 @@ begin-event-requires c κs = (c .before .before .before .before .before .before 
 returns-5 : tie.Need-returns-5
 returns-5 c = keeps _ _ (c .before .before .before .before .before .before .before .before .before .before .before .before .args .e) _ (c .before .before .before .before .before .before .before .before .before .before .before .before .pre .0) (c .before .before .before .before .before .before .before .before .before .before .before .before .pre .1) (retold _ _ _ _ _ (means-begin (c .before .before .before .before .before .before .before .before .before .before .before .before .args .e) (c .before .before .before .before .if5 .taken)) (c .begin-event .ensures _ _ _ _ _ _ (c .before .before .before .before .before .before .before .before .before .before .before .before .pre .1) (c .before .before .before .before .before .if4 .left)))
 
-returns-6 : tie.Need-returns-6
-returns-6 c = let R = c .before .before .before .before .before .before .before .before .before .pre .0 .kind in keeps _ _ (c .before .before .before .before .before .before .before .before .before .args .e) _ (c .before .before .before .before .before .before .before .before .before .pre .0) (c .before .before .before .before .before .before .before .before .before .pre .1) (unknown-steps _ (c .before .before .before .before .before .before .before .before .before .args .e) (c .before .before .before .before .before .before .before .before .before .pre .1) (omega arith) (omega arith) (c .before .before .if4 .left) (not-live-past _ (c .before .before .before .before .before .before .before .before .before .args .e .transaction) (c .before .before .before .before .before .before .before .before .before .pre .1 .form) (omega arith)))
+checked-requires : tie.Need-checked-requires
+checked-requires c κs = search needs
 
-cast-if7 : tie.Need-cast-if7
-cast-if7 c = search needs
-
-element-copy-out-if7 : tie.Need-element-copy-out-if7
-element-copy-out-if7 c = search needs
-
-returns-7 : tie.Need-returns-7
-returns-7 c = let R = c .before .before .before .before .before .before .before .before .before .before .before .pre .0 .kind in keeps _ _ (c .before .before .before .before .before .before .before .before .before .before .before .args .e) _ (c .before .before .before .before .before .before .before .before .before .before .before .pre .0) (c .before .before .before .before .before .before .before .before .before .before .before .pre .1) (unknown-steps _ (c .before .before .before .before .before .before .before .before .before .before .before .args .e) (c .before .before .before .before .before .before .before .before .before .before .before .pre .1) (omega arith) (omega arith) (c .before .before .before .before .if4 .left) (not-live _ (c .before .before .before .before .before .before .before .before .before .before .before .args .e .transaction) (c .if7 .taken)))
+enum-known-n : tie.Need-enum-known-n
+enum-known-n c = search needs
 
 named-event-requires : tie.Need-named-event-requires
-named-event-requires c κs = let R = c .before .before .before .before .before .before .before .before .before .before .before .before .before .before .before .before .before .before .before .before .pre .0 .kind in (omega arith, refl, omega arith, omega arith, c .before .before .before .before .before .before .before .before .before .before .before .before .before .before .before .before .before .before .before .before .pre .0, c .before .before .before .before .before .before .before .before .before .before .before .before .before .before .before .before .before .before .before .before .pre .1, record { up = c .before .before .before .before .before .before .before .before .before .before .before .before .before .if4 .left; live = omega arith })
+named-event-requires c κs = let R = c .before .before .before .before .before .before .before .before .before .before .before .before .before .before .before .before .before .before .before .before .before .pre .0 .kind in (transaction-is (c .before .before .before .before .before .before .before .before .before .before .before .before .before .before .before .before .before .before .before .before .before .args .e .transaction) _ (sym (c .before .before .before .before .before .before .before .before .before .before .n .given .1) ∙ c .before .before .before .before .before .before .before .before .before .before .before .before .checked .ensures), omega arith, omega arith, c .before .before .before .before .before .before .before .before .before .before .before .before .before .before .before .before .before .before .before .before .before .pre .0, c .before .before .before .before .before .before .before .before .before .before .before .before .before .before .before .before .before .before .before .before .before .pre .1, c .before .before .before .before .before .before .before .before .before .before .before .before .before .before .if4 .left)
+
+enum-told : tie.Need-enum-told
+enum-told c = search needs
 
 same-length-2 : tie.Need-same-length-2
 same-length-2 c = search needs
@@ -70,8 +69,11 @@ same-length-2 c = search needs
 same-length-3 : tie.Need-same-length-3
 same-length-3 c = search needs
 
-returns-8 : tie.Need-returns-8
-returns-8 c = keeps _ _ (c .before .before .before .before .before .before .before .before .before .before .before .before .before .before .before .before .before .before .before .before .before .before .before .before .before .args .e) _ (c .before .before .before .before .before .before .before .before .before .before .before .before .before .before .before .before .before .before .before .before .before .before .before .before .before .pre .0) (c .before .before .before .before .before .before .before .before .before .before .before .before .before .before .before .before .before .before .before .before .before .before .before .before .before .pre .1) (c .before .before .before .before .named-event .ensures)
+returns-6 : tie.Need-returns-6
+returns-6 c = keeps _ _ (c .before .before .before .before .before .before .before .before .before .before .before .before .before .before .before .before .before .before .before .before .before .before .before .before .before .before .args .e) _ (c .before .before .before .before .before .before .before .before .before .before .before .before .before .before .before .before .before .before .before .before .before .before .before .before .before .before .pre .0) (c .before .before .before .before .before .before .before .before .before .before .before .before .before .before .before .before .before .before .before .before .before .before .before .before .before .before .pre .1) (c .before .before .before .before .named-event .ensures)
+
+returns-7 : tie.Need-returns-7
+returns-7 c = let R = c .before .before .before .before .before .before .before .before .before .before .before .pre .0 .kind in let h = no-transaction (c .before .before .before .before .before .before .before .before .before .before .before .args .e .transaction) (sym (c .enum-told .given .1) ∙ c .before .before .checked .ensures) in keeps _ _ (c .before .before .before .before .before .before .before .before .before .before .before .args .e) _ (c .before .before .before .before .before .before .before .before .before .before .before .pre .0) (c .before .before .before .before .before .before .before .before .before .before .before .pre .1) (unknown-steps _ (c .before .before .before .before .before .before .before .before .before .before .before .args .e) (c .before .before .before .before .before .before .before .before .before .before .before .pre .1) (omega arith) (omega arith) (c .before .before .before .before .if4 .left) (not-live-past _ (c .before .before .before .before .before .before .before .before .before .before .before .args .e .transaction) (c .before .before .before .before .before .before .before .before .before .before .before .pre .1 .form) h))
 
 pub step-spec : {M : Type 1} → statement M
 step-spec =
@@ -86,11 +88,11 @@ step-spec =
     returns-4
     begin-event-requires
     returns-5
-    returns-6
-    cast-if7
-    element-copy-out-if7
-    returns-7
+    checked-requires
+    enum-known-n
     named-event-requires
+    enum-told
     same-length-2
     same-length-3
-    returns-8)
+    returns-6
+    returns-7)

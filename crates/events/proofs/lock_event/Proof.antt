@@ -4,22 +4,32 @@ use mathlib.Core.List.{List}
 use Prim.Native.Nat.{ℕ, suc, _+_, _*_, _-_, _/_, _%_, _<_, _≤_}
 use native.Mathlib.Omega.{arith}
 use lib.ListN.{length, getD, set}
-use Rattle.events.proofs.Steps.{lock-steps, lock-refuses}
+use Rattle.rules.specs.Event.{lock, write, read, commit, abort}
+use Rattle.events.proofs.Steps.{numbered, lock-steps, lock-refuses}
 use borrow.Author.Needs.{needs}
 use Rattle.events.proofs.lock_event.Statement.{statement}
 use Rattle.events.proofs.lock_event.Tie as tie
 use Rattle.events.proofs.lock_event.Reads as reads
 use Rattle.events.proofs.lock_event.Lts as lts
 use Rattle.locks.proofs.lock.Reads as lock-reads
+use Rattle.numbers.proofs.RecordNumber.index.Reads as index-reads
+use Rattle.numbers.proofs.TransactionNumber.number.Reads as number-reads
+
+number-requires : tie.Need-number-requires
+number-requires c κs = search needs
+
+index-requires : tie.Need-index-requires
+index-requires c κs = search needs
 
 lock-requires : tie.Need-lock-requires
 lock-requires c κs = search needs
 
 returns : tie.Need-returns
-returns c = λ up parent depth writers work store I R. lock-steps _ I (c .before .before .before .args .t) (c .before .before .before .args .r) R _ _ (c .before .lock .ensures) (c .if1 .taken)
+returns c = λ up parent depth writers work store I R. numbered _ _ _ (lock) _ _ _ _ (c .before .before .before .before .number .ensures .0) (c .before .before .before .index .ensures .0) (λ R. lock-steps _ I _ _ R _ _ (c .before .lock .ensures) (c .if1 .taken)) R
 
 returns-2 : tie.Need-returns-2
-returns-2 c = λ up parent depth writers work store I R. lock-refuses _ I (c .before .before .before .args .t) (c .before .before .before .args .r) R _ _ (c .before .lock .ensures) (c .if1 .left)
+returns-2 c = λ up parent depth writers work store I R. numbered _ _ _ (lock) _ _ _ _ (c .before .before .before .before .number .ensures .0) (c .before .before .before .index .ensures .0) (λ R. lock-refuses _ I _ _ R _ _ (c .before .lock .ensures) (c .if1 .left)) R
 
 pub lock-event-spec : {M : Type 1} → statement M
-lock-event-spec = tie.close (tie.spec lock-requires returns returns-2)
+lock-event-spec =
+    tie.close (tie.spec number-requires index-requires lock-requires returns returns-2)

@@ -1,0 +1,66 @@
+-- What a checked number is: the number itself, in range.
+use mathlib.Core.Path.{_≡_, refl, sym, ap, _∙_}
+use mathlib.Core.Bool.{Bool, true, false, cond, true≢false}
+use Prim.Native.Nat.{ℕ, min, _<_, _≤_}
+use native.Mathlib.Omega.{arith}
+use Rattle.laws.specs.Tests.{under}
+use Rattle.laws.proofs.Tests.{Is, is?, yes′, no′, under-lt, not-under}
+use Rattle.rules.specs.Geometry.{records}
+use Rattle.numbers.specs.Named.{transactionNamed, recordNamed, transactionOf, recordOf}
+use Rattle.numbers.specs.declared.TransactionNumber.{TransactionNumber}
+use Rattle.numbers.specs.declared.TransactionNamed.the-variants as T
+use Rattle.numbers.specs.declared.RecordNumber.{RecordNumber}
+use Rattle.numbers.specs.declared.RecordNamed.the-variants as R
+
+pub transaction-is : (n : ℕ) (t : TransactionNumber) → T.Number t ≡ transactionNamed n → transactionOf t ≡ n
+unfolding transactionNamed transactionOf
+transaction-is n t q = go (is? (under n 24))
+  where
+    go : Is (under n 24) → min (t .0) 23 ≡ n
+    go (yes′ e) =
+        let k : T.Number t ≡ T.Number (record { 0 = n }) = rw e at q in
+        let z : t ≡ record { 0 = n } = cc in
+        let y : t .0 ≡ n = ap (λ (t : TransactionNumber). t .0) z in
+        let h = under-lt n 24 e in omega arith
+    go (no′ e) =
+        let k : T.Number t ≡ T.NoSuchTransaction = rw e at q in
+        let z : true ≡ false = cc in absurd (true≢false z)
+
+pub no-transaction : (n : ℕ) → T.NoSuchTransaction ≡ transactionNamed n → 24 ≤ n
+unfolding transactionNamed
+no-transaction n q = go (is? (under n 24))
+  where
+    go : Is (under n 24) → 24 ≤ n
+    go (yes′ e) =
+        let k : T.NoSuchTransaction ≡ T.Number (record { 0 = n }) = rw e at q in
+        let z : true ≡ false = cc in absurd (true≢false z)
+    go (no′ e) = not-under n 24 e
+
+pub record-is : (n : ℕ) (r : RecordNumber) → R.Number r ≡ recordNamed n → recordOf r ≡ n
+unfolding recordNamed recordOf records
+record-is n r q = go (is? (under n 16))
+  where
+    go : Is (under n 16) → min (r .0) 15 ≡ n
+    go (yes′ e) =
+        let k : R.Number r ≡ R.Number (record { 0 = n }) = rw e at q in
+        let z : r ≡ record { 0 = n } = cc in
+        let y : r .0 ≡ n = ap (λ (r : RecordNumber). r .0) z in
+        let h = under-lt n 16 e in omega arith
+    go (no′ e) =
+        let k : R.Number r ≡ R.NoSuchRecord = rw e at q in
+        let z : true ≡ false = cc in absurd (true≢false z)
+
+pub no-record : (n : ℕ) → R.NoSuchRecord ≡ recordNamed n → 16 ≤ n
+unfolding recordNamed records
+no-record n q = go (is? (under n 16))
+  where
+    go : Is (under n 16) → 16 ≤ n
+    go (yes′ e) =
+        let k : R.NoSuchRecord ≡ R.Number (record { 0 = n }) = rw e at q in
+        let z : true ≡ false = cc in absurd (true≢false z)
+    go (no′ e) = not-under n 16 e
+
+-- a number is a place
+pub transaction-small : (t : TransactionNumber) → transactionOf t < 24
+unfolding transactionOf
+transaction-small t = omega arith

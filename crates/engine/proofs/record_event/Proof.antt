@@ -1,0 +1,67 @@
+use mathlib.Core.Path.{_≡_, refl, sym, ap, ap₂, subst, subst⁻¹, _∙_, fun-ext}
+use mathlib.Core.Bool.{Bool, true, false, not, cond, _&&_, _||_}
+use mathlib.Core.List.{List}
+use Prim.Native.Nat.{ℕ, suc, _+_, _*_, _-_, _/_, _%_, _<_, _≤_}
+use native.Mathlib.Omega.{arith}
+use lib.ListN.{length, getD, set}
+use mathlib.Core.Option.{some}
+use Rattle.rules.specs.Event.{begin, lock, write, read, commit, abort, crash, recover}
+use Rattle.event.proofs.Meaning.{means-bad, means-begin, means-lock, means-write, means-read, means-commit, means-abort, means-crash, means-recover}
+use Rattle.events.proofs.Steps.{retold, sources}
+use borrow.Author.Needs.{needs}
+use Rattle.engine.proofs.record_event.Statement.{statement}
+use Rattle.engine.proofs.record_event.Tie as tie
+use Rattle.engine.proofs.record_event.Reads as reads
+use Rattle.engine.proofs.record_event.Lts as lts
+use Rattle.events.proofs.lock_event.Reads as lock-event-reads
+use Rattle.events.proofs.read_event.Reads as read-event-reads
+use Rattle.events.proofs.write_event.Reads as write-event-reads
+
+cast-o : tie.Need-cast-o
+cast-o c = search needs
+
+lock-event-requires : tie.Need-lock-event-requires
+lock-event-requires c κs = search needs
+
+write-event-requires : tie.Need-write-event-requires
+write-event-requires c κs = let F = c .before .before .before .before .before .before .before .before .before .before .pre .5 .form in (c .before .before .before .before .before .before .before .before .before .before .pre .4 .offset, F .works, F .stores, F .writerss, c .before .before .before .before .before .before .before .before .before .before .pre .6 .live, sources _ (c .before .before .before .before .before .before .before .before .before .before .pre .5))
+
+read-event-requires : tie.Need-read-event-requires
+read-event-requires c κs = let F = c .before .before .before .before .before .before .before .before .before .before .pre .5 .form in (c .before .before .before .before .before .before .before .before .before .before .pre .4 .offset, F .works, F .stores, sources _ (c .before .before .before .before .before .before .before .before .before .before .pre .5))
+
+returns : tie.Need-returns
+returns c = retold _ _ _ _ _ (means-lock (c .before .before .before .before .before .before .before .before .args .e) (c .before .before .before .before .match .keys1) ∙ ap₂ (λ (t r : ℕ). some (lock t r)) (sym (c .before .before .before .before .before .before .before .before .pre .0)) (sym (c .before .before .before .before .before .before .before .before .pre .1))) (c .lock-event .ensures _ _ _ _ _ _ (c .before .before .before .before .before .before .before .before .pre .5) (c .before .before .before .before .before .before .before .before .pre .6))
+
+same-length : tie.Need-same-length
+same-length c = search needs
+
+same-length-2 : tie.Need-same-length-2
+same-length-2 c = search needs
+
+returns-2 : tie.Need-returns-2
+returns-2 c = retold _ _ _ _ _ (means-write (c .before .before .before .before .before .before .before .before .before .before .before .before .before .args .e) (c .before .before .before .before .before .before .before .before .before .match .keys2) ∙ ap₂ (λ (t r : ℕ). some (write t r (c .before .before .before .before .before .before .before .before .before .before .before .before .before .args .e .offset) (c .before .before .before .before .before .before .before .before .before .before .before .before .before .args .e .value))) (sym (c .before .before .before .before .before .before .before .before .before .before .before .before .before .pre .0)) (sym (c .before .before .before .before .before .before .before .before .before .before .before .before .before .pre .1))) (c .before .before .write-event .ensures _ _ _ (c .before .before .before .before .before .before .before .before .before .before .before .before .before .pre .5) (c .before .before .before .before .before .before .before .before .before .before .before .before .before .pre .6))
+
+same-length-3 : tie.Need-same-length-3
+same-length-3 c = search needs
+
+same-length-4 : tie.Need-same-length-4
+same-length-4 c = search needs
+
+returns-3 : tie.Need-returns-3
+returns-3 c = retold _ _ _ _ _ (means-read (c .before .before .before .before .before .before .before .before .before .before .before .args .e) (omega arith) ∙ ap₂ (λ (t r : ℕ). some (read t r (c .before .before .before .before .before .before .before .before .before .before .before .args .e .offset))) (sym (c .before .before .before .before .before .before .before .before .before .before .before .pre .0)) (sym (c .before .before .before .before .before .before .before .before .before .before .before .pre .1))) (c .read-event .ensures _ _ _ (c .before .before .before .before .before .before .before .before .before .before .before .pre .5) (c .before .before .before .before .before .before .before .before .before .before .before .pre .6))
+
+pub record-event-spec : {M : Type 1} → statement M
+record-event-spec =
+    tie.close
+    (tie.spec
+    cast-o
+    lock-event-requires
+    write-event-requires
+    read-event-requires
+    returns
+    same-length
+    same-length-2
+    returns-2
+    same-length-3
+    same-length-4
+    returns-3)
