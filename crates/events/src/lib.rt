@@ -101,9 +101,9 @@ pub fn write_event(
     ensures { λ a. ⌜ ((up : ℕ) (line retained : List ℕ) → Intact (arrays up (now (parent .entry)) (now (depth .entry)) line (now (held .entry)) retained (now (writers .entry)) (now (work .entry)) (now (store .entry))) → Ready (arrays up (now (parent .entry)) (now (depth .entry)) line (now (held .entry)) retained (now (writers .entry)) (now (work .entry)) (now (store .entry))) (transactionOf t) → Stepped (arrays up (now (parent .entry)) (now (depth .entry)) line (now (held .entry)) retained (now (writers .entry)) (now (work .entry)) (now (store .entry))) (some (write (transactionOf t) (recordOf r) o v)) a (arrays up (now (parent .entry)) (now (depth .entry)) line (now (held .entry)) retained (now (writers .exit)) (now (work .exit)) (now (store .entry)))) ⌝ }
 {
     let n = t.number();
-    let q = r.index();
-    if sets::contains(held[q], n) {
-        slots::write(parent, depth, writers, work, store, n, q, o, v);
+    let i = r.index();
+    if sets::contains(held[i], n) {
+        slots::write(parent, depth, writers, work, store, n, i, o, v);
         return Answer {
             number: 0,
             value: 0,

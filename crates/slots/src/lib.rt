@@ -73,11 +73,11 @@ pub fn read(
     ensures { λ v. ⌜ v ≡ getD (seen (now (parent .entry)) (now (depth .entry)) (now (writers .entry)) (now (work .entry)) (now (store .entry)) t r) o 0 ⌝ }
 {
     let c = source(parent, depth, writers[r], t);
-    let left = c.left;
-    if left == 0 {
+    let nearest = c.left;
+    if nearest == 0 {
         return page::get_byte(store, 17 + r, o);
     }
-    page::get_byte(work, slot_of(r, left), o)
+    page::get_byte(work, slot_of(r, nearest), o)
 }
 
 // The slot at t's depth takes the page that t sees, unless it has t's version already.
