@@ -4,3 +4,5 @@ pub mod Filled
 pub mod Those
 pub mod Bytes
 pub mod Updated
+pub mod Booleans
+pub mod Counting

@@ -5,6 +5,7 @@ use mathlib.Core.List.{List, [], _∷_}
 use mathlib.Core.Logic.{_≢_, _⊎_, inl, inr}
 use Prim.Native.Nat.{ℕ, zero, suc, _<_, _≤_}
 use native.Mathlib.Omega.{arith}
+use lib.ListN.{length}
 use Rattle.laws.specs.Tests.{same}
 use Rattle.laws.specs.Functions.{updated}
 use Rattle.laws.proofs.Tests.{same?, Same, is, isnt, same-eq, same-refl, ne-false, Is, is?, yes′, no′}
@@ -71,6 +72,16 @@ module _ {limit nobody : ℕ} {b : Bearers} (S : Rooted limit nobody b) where
           → (u : ℕ) × (isActive (b u) ≡ true) × (parentIn (b u) ≡ x)
       go (is q s _) m ih = (z, live (b z) e, q)
       go (isnt q s _) m ih = ih m q
+
+-- a line is as long as its transaction is deep
+chain-length : (b : Bearers) (n t : ℕ) → length (chain b n t) ≡ n
+unfolding open-state
+chain-length b zero t = refl
+chain-length b (suc n) t = ap suc (chain-length b n (parentIn (b t)))
+
+pub line-length : (b : Bearers) (t : ℕ) → length (lineOf b t) ≡ depthIn (b t)
+unfolding open-state
+line-length b t = chain-length b (depthIn (b t)) t
 
 -- two states that agree on a line
 pub chain-same : (b c : Bearers) (n t : ℕ) → ((a : ℕ) → mem a (chain b n t) ≡ true → c a ≡ b a) → chain c n t ≡ chain b n t

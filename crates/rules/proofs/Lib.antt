@@ -9,3 +9,6 @@ pub mod Members
 pub mod Shows
 pub mod Cuts
 pub mod Pages
+pub mod Acceptance
+pub mod Locks
+pub mod Owners

@@ -89,3 +89,11 @@ module _ {limit : ℕ} {line : Lines} (T : Tree limit line) where
       go (inl q) k = heads a z q (mem-cons z (line a) h)
       go (inr p) (inl q) = sym (heads z a q (mem-cons a (line z) e))
       go (inr p) (inr q) = absurd (omega arith)
+
+  -- an ancestor's line is shorter
+  pub shorter : (a z : ℕ) → mem a (line z) ≡ true → a ≢ z → length (line a) < length (line z)
+  shorter a z e n = go (mem-length line (line z) a (T .good z) e)
+    where
+      go : (line a ≡ line z) ⊎ (length (line a) < length (line z)) → length (line a) < length (line z)
+      go (inl q) = absurd (n (heads a z q (rw q (mem-cons a (line z) e))))
+      go (inr h) = h
