@@ -1,10 +1,9 @@
 -- What it says of the numbers below a bound that all pass a test, that none does, and which is the lowest that does.
 use mathlib.Core.Path.{_≡_, refl}
-use mathlib.Core.Bool.{Bool, true, false, not, cond, _&&_, _||_}
-use mathlib.Core.Logic.{_≢_, _⊎_, inl, inr}
+use mathlib.Core.Bool.{Bool, true, false, not, cond}
+use mathlib.Core.Logic.{_⊎_, inl, inr}
 use Prim.Native.Nat.{ℕ, zero, suc, _+_, _<_, _≤_}
 use native.Mathlib.Omega.{arith}
-use Rattle.laws.specs.Tests.{same}
 use Rattle.laws.specs.Counting.{all, any, lowest, lowestFrom}
 use Rattle.laws.proofs.Tests.{same?, Same, is, isnt, Is, is?, yes′, no′, or-false-left, or-false-right}
 use Rattle.laws.proofs.Booleans.{not-true, not-false, and-left, and-right, clash}

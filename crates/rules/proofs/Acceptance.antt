@@ -8,18 +8,17 @@ use Prim.Native.Nat.{ℕ, _<_, _≤_}
 use native.Mathlib.Omega.{arith}
 use lib.ListN.{getD}
 use Rattle.laws.specs.Tests.{same}
-use Rattle.laws.specs.Counting.{all, lowest}
+use Rattle.laws.specs.Counting.{all}
 use Rattle.laws.proofs.Tests.{same-eq, same-refl}
-use Rattle.laws.proofs.Booleans.{not-false}
+use Rattle.laws.proofs.Booleans.{or-cases, not-false}
 use Rattle.laws.proofs.Counting.{lowest-fails}
-use Rattle.rules.specs.Geometry.{Geometry, transactions, nobody}
+use Rattle.rules.specs.Geometry.{transactions, nobody}
 use Rattle.rules.specs.Event.{Event, begin, lock, write, read, commit, abort, crash, recover}
 use Rattle.rules.specs.State.{depthIn, lineOf, State, live, holds}
 use Rattle.rules.specs.Locks.{grantable}
 use Rattle.rules.specs.Commit.{Cut}
-use Rattle.rules.specs.Form.{Form, Medium}
-use Rattle.rules.specs.Step.{Answer, done, refused, cut, Outcome, firstOf, hasChild, firstFree, StateOf, OutcomeOf, refusals, refusal, ended, raised, concluded, finished, visible, commitsTop, commitsChild, commits, recovers, act, judged, step}
-use Rattle.rules.proofs.Tree.{or-cases}
+use Rattle.rules.specs.Form.{Form}
+use Rattle.rules.specs.Step.{done, refused, firstOf, hasChild, firstFree, StateOf, OutcomeOf, refusals, refusal, ended, raised, concluded, finished, visible, commitsTop, commitsChild, commits, recovers, act, judged, step}
 
 -- a test that did not refuse
 pub pass : (n : ℕ) (b : Bool) (rest : List (ℕ × Bool)) → firstOf ((n, b) ∷ rest) ≡ none → (b ≡ false) × (firstOf rest ≡ none)

@@ -1,6 +1,6 @@
 -- The bearers of a state form a tree: its lines after a begin and after some transactions have ended.
-use mathlib.Core.Path.{_≡_, refl, sym, ap, ap₂, subst, _∙_, fun-ext}
-use mathlib.Core.Bool.{Bool, true, false, not, cond, _&&_, _||_, true≢false, false≢true, and-false, or-false, or-true}
+use mathlib.Core.Path.{_≡_, refl, sym, ap, _∙_}
+use mathlib.Core.Bool.{Bool, true, false, cond, true≢false, false≢true, or-true}
 use mathlib.Core.List.{List, [], _∷_}
 use mathlib.Core.Logic.{_≢_, _⊎_, inl, inr}
 use Prim.Native.Nat.{ℕ, zero, suc, _<_, _≤_}
@@ -9,8 +9,9 @@ use lib.ListN.{length}
 use Rattle.laws.specs.Tests.{same}
 use Rattle.laws.specs.Functions.{updated}
 use Rattle.laws.proofs.Tests.{same?, Same, is, isnt, same-eq, same-refl, ne-false, Is, is?, yes′, no′}
+use Rattle.laws.proofs.Booleans.{or-cases}
 use Rattle.rules.specs.State.{Bearer, Bearers, free, active, isActive, parentIn, depthIn, chain, lineOf, mem, open-state}
-use Rattle.rules.proofs.Tree.{Good, Lines, Tree, isCons, or-cases, mem-cons, own}
+use Rattle.rules.proofs.Tree.{Good, Lines, Tree, isCons, own}
 
 -- what makes the bearers a tree
 pub record Rooted (limit nobody : ℕ) (b : Bearers) : Type 0 where

@@ -1,7 +1,7 @@
 -- What soundness says of locks and versions: a holder is beneath all that have the lock, those that have it are on one line, and so are
 -- those that have versions of one record.
 use mathlib.Core.Path.{_≡_, refl, sym, ap, ap₂, _∙_}
-use mathlib.Core.Bool.{Bool, true, false, not, _&&_, _||_, true≢false, false≢true, or-true}
+use mathlib.Core.Bool.{Bool, true, false, not, _&&_, _||_, false≢true}
 use mathlib.Core.List.{List, [], _∷_}
 use mathlib.Core.Logic.{_≢_, _⊎_, inl, inr}
 use Prim.Native.Nat.{ℕ, suc, _<_}
@@ -9,17 +9,17 @@ use native.Mathlib.Omega.{arith}
 use lib.ListN.{length}
 use Rattle.laws.specs.Tests.{same}
 use Rattle.laws.specs.Counting.{all}
-use Rattle.laws.proofs.Tests.{same?, Same, is, isnt, same-eq, same-refl, ne-false}
-use Rattle.laws.proofs.Booleans.{and-left, and-right, or-left, or-right, refute, clash}
+use Rattle.laws.proofs.Tests.{same-refl, ne-false}
+use Rattle.laws.proofs.Booleans.{or-cases, and-left, and-right, or-left, or-right, refute, clash}
 use Rattle.laws.proofs.Counting.{any-false, all-true}
 use Rattle.rules.specs.Geometry.{transactions, nobody}
-use Rattle.rules.specs.State.{Bearer, Bearers, free, active, isActive, parentIn, depthIn, lineOf, mem, Modes, isLock, Versions, State, live, holds, retains, open-state}
+use Rattle.rules.specs.State.{Bearer, Bearers, free, active, isActive, parentIn, depthIn, lineOf, mem, Modes, isLock, Versions, live, holds, retains}
 use Rattle.rules.specs.Locks.{grantable}
 use Rattle.rules.specs.Versions.{isSome}
 use Rattle.rules.specs.Form.{Form}
 use Rattle.rules.specs.Step.{StateOf, hasChild}
 use Rattle.rules.specs.Sound.{Sound, inLine}
-use Rattle.rules.proofs.Tree.{Good, Lines, Tree, isCons, own, up, antisym, shorter, or-cases}
+use Rattle.rules.proofs.Tree.{Good, Lines, Tree, isCons, own, up, antisym, shorter}
 use Rattle.rules.proofs.Bearers.{Rooted, rooted-tree, active-line, line-of-member, line-length, child-of}
 use Rattle.rules.proofs.Acceptance.{LockOk}
 
@@ -109,6 +109,9 @@ module _ {f : Form} {s : StateOf f} (S : Sound f s) where
 
   pub version-live : (t r : ℕ) → isSome (s .version t r) ≡ true → live s t ≡ true
   version-live t r v = has-live r t (owned-of .by-lock t r v)
+
+  pub no-version : (t r : ℕ) → live s t ≡ false → isSome (s .version t r) ≡ false
+  no-version t r e = refute (isSome (s .version t r)) (λ v. clash (version-live t r v) e)
 
   -- all that have versions of one record are on one line, at different depths
   pub versions-in-line : (j k r : ℕ) → isSome (s .version j r) ≡ true → isSome (s .version k r) ≡ true → inLine (s .bearer) j k ≡ true

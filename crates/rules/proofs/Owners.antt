@@ -1,19 +1,19 @@
 -- The laws of locks and versions are kept: by a lock that is granted, by a version made under it, when transactions end, and when a child
 -- commits into its parent.
-use mathlib.Core.Path.{_≡_, refl, sym, ap, subst, _∙_}
-use mathlib.Core.Bool.{Bool, true, false, cond, _&&_, _||_, true≢false, false≢true, and-false, or-true}
-use mathlib.Core.List.{List, [], _∷_}
+use mathlib.Core.Path.{_≡_, refl, sym, _∙_}
+use mathlib.Core.Bool.{Bool, true, false, cond, _&&_, _||_, false≢true, and-false, or-true}
+use mathlib.Core.List.{[], _∷_}
 use mathlib.Core.Logic.{_≢_}
 use mathlib.Core.Option.{Option, none, some}
 use Prim.Native.Nat.{ℕ}
 use Rattle.laws.specs.Tests.{same}
-use Rattle.laws.proofs.Tests.{same?, Same, is, isnt, same-eq, same-refl, ne-false, Is, is?, yes′, no′}
-use Rattle.laws.proofs.Booleans.{or-left, or-right, clash}
+use Rattle.laws.proofs.Tests.{same?, Same, is, isnt, ne-false, Is, is?, yes′, no′}
+use Rattle.laws.proofs.Booleans.{or-cases, or-left, or-right, clash}
 use Rattle.rules.specs.Store.{Page}
 use Rattle.rules.specs.State.{mem, Mode, nothing, reading, writing, isLock, stronger, Modes, Versions}
 use Rattle.rules.specs.Locks.{granted, inherited, discarded}
 use Rattle.rules.specs.Versions.{isSome, also, withVersion, handedUp, dropped}
-use Rattle.rules.proofs.Tree.{Lines, Tree, isCons, own, or-cases}
+use Rattle.rules.proofs.Tree.{Lines, Tree, isCons, own}
 use Rattle.rules.proofs.Locks.{has, Owned}
 
 -- the stronger of two modes is a lock where one of them is
