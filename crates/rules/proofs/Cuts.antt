@@ -32,7 +32,7 @@ stage? n k = go (is? (under n k)) (is? (under n (k - suc n)))
     go (yes′ a) (no′ b) = let h : n < k = under-lt n k a in middle (k - suc n) (omega arith) (not-under n (k - suc n) b)
     go (yes′ a) (yes′ b) = let h : n < k = under-lt n k a in late (k - suc n) (omega arith) (under-lt n (k - suc n) b)
 
-not-lt-under : (a b : ℕ) → b ≤ a → under a b ≡ false
+pub not-lt-under : (a b : ℕ) → b ≤ a → under a b ≡ false
 not-lt-under a b h = go (is? (under a b))
   where
     go : Is (under a b) → under a b ≡ false

@@ -11,7 +11,7 @@ use Rattle.laws.proofs.Tests.{same?, Same, is, isnt, same-refl, ne-false}
 use Rattle.rules.specs.Geometry.{Geometry, records}
 use Rattle.rules.specs.Store.{bitsFrom, named, mapOf}
 
-bits-lt : (n : ℕ) (p : ℕ → Bool) → bitsFrom n p < 2 ^ n
+pub bits-lt : (n : ℕ) (p : ℕ → Bool) → bitsFrom n p < 2 ^ n
 unfolding bitsFrom
 bits-lt zero p = omega arith
 bits-lt (suc n) p = rw pow-suc (go (p n) (bits-lt n p))
