@@ -1,0 +1,3 @@
+-- The promises of the open operations.
+pub mod Laying
+pub mod Ages
