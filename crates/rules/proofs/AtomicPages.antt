@@ -1,26 +1,26 @@
 -- The laws of the stable store hold of atomic pages, in every proper geometry.
-use mathlib.Core.Path.{_≡_, refl, sym, _∙_, ap, ap₂, subst, fun-ext}
-use mathlib.Core.Bool.{Bool, true, false, cond, _&&_, _||_, true≢false, false≢true}
-use mathlib.Core.List.{List, [], _∷_, _++_, map}
+use mathlib.Core.Path.{_≡_, refl, sym, _∙_, ap, ap₂, fun-ext}
+use mathlib.Core.Bool.{Bool, true, false, cond, _||_, true≢false, false≢true}
+use mathlib.Core.List.{List, [], _∷_, _++_}
 use mathlib.Core.Option.{Option, none, some}
-use Prim.Native.Nat.{ℕ, zero, suc, _+_, _*_, _^_, _≤_, _<_}
+use Prim.Native.Nat.{ℕ, zero, suc, _+_, _*_, _≤_, _<_}
 use native.Mathlib.Omega.{arith}
 use lib.ListN.{length, take}
 use Rattle.laws.specs.Tests.{same, under}
 use Rattle.laws.specs.Counting.{count, those}
-use Rattle.laws.proofs.Tests.{same?, Same, is, isnt, same-eq, same-refl, ne-false, Is, is?, yes′, no′, under-lt, lt-under, not-under}
+use Rattle.laws.proofs.Tests.{same?, Same, is, isnt, same-refl, Is, is?, yes′, no′, under-lt, lt-under, not-under}
 use Rattle.laws.proofs.Those.{those-length}
-use Rattle.rules.specs.Geometry.{Geometry, Proper, pageSize, records, pageCount}
-use Rattle.rules.specs.Store.{Page, Pages, intention, home, mapOf, named, commitPage, readCommit, mapIn, isDamaged, isEmptied, damaged, emptied, isNamed, settled}
+use Rattle.rules.specs.Geometry.{Geometry, Proper, records, pageCount}
+use Rattle.rules.specs.Store.{Page, Pages, intention, home, mapOf, named, readCommit, mapIn, isDamaged, isEmptied, damaged, emptied, isNamed, settled}
 use Rattle.rules.specs.State.{mem}
 use Rattle.rules.specs.Versions.{isSome, else}
-use Rattle.rules.specs.Commit.{PageWrite, sets, written, applied, Cut, cutAt, pageIn, intentions, homes, marks, commitWrites, recoverWrites, commitAt, recoverAt}
+use Rattle.rules.specs.Commit.{PageWrite, sets, written, applied, cutAt, pageIn, intentions, homes, marks, commitWrites, recoverWrites, commitAt, recoverAt}
 use Rattle.rules.specs.Form.{atomicPages}
 use Rattle.rules.proofs.Medium.{changedIn, stored, Ranged, Paged, MediumLaws}
 use Rattle.rules.proofs.Map.{names-none}
 use Rattle.rules.proofs.CommitPage.{commitPage-length, read-is}
 use Rattle.rules.proofs.Members.{mem-head, mem-later, those-only, those-all, those-below, those-is}
-use Rattle.rules.proofs.Shows.{names, emptied-zero}
+use Rattle.rules.proofs.Shows.{names}
 use Rattle.rules.proofs.Cuts.{commitDue, recoverDue, commit-length, recover-length, committedMark, recoveredMark, commit-mark, commit-ends, recover-mark, recover-ends, recover-settled, home-settled, commit-settled}
 use Rattle.rules.proofs.Pages.{Sized, flat-pagesOf, pagesOf-flat, pagesOf-sized, updated-sized}
 
@@ -60,21 +60,21 @@ applied-sized n [] s a S = S
 applied-sized n (sets q p ∷ ws) s a S = applied-sized n ws _ (a .2) (updated-sized n s q p (a .0) (a .1) S)
 
 module _ (g : Geometry) where
-  -- the records of a list are records, and their new pages are pages
-  Sound : (ℕ → Page) → List ℕ → Type 0
-  Sound f rs = (q : ℕ) → mem q rs ≡ true → (q < records g) × (length (f q) ≡ 32)
+  -- the records of a list are records, and what is to be written for them are pages
+  Writable : (ℕ → Page) → List ℕ → Type 0
+  Writable f rs = (q : ℕ) → mem q rs ≡ true → (q < records g) × (length (f q) ≡ 32)
 
-  later : (f : ℕ → Page) (r : ℕ) (rs : List ℕ) → Sound f (r ∷ rs) → Sound f rs
-  unfolding Sound
+  later : (f : ℕ → Page) (r : ℕ) (rs : List ℕ) → Writable f (r ∷ rs) → Writable f rs
+  unfolding Writable
   later f r rs h q e = h q (mem-later q r rs e)
 
-  fit-intentions : (f : ℕ → Page) (rs : List ℕ) → Sound f rs → Fit (pageCount g) (intentions g f rs)
-  unfolding Fit Sound intentions intention pageCount
+  fit-intentions : (f : ℕ → Page) (rs : List ℕ) → Writable f rs → Fit (pageCount g) (intentions g f rs)
+  unfolding Fit Writable intentions intention pageCount
   fit-intentions f [] h = tt
   fit-intentions f (r ∷ rs) h = let e = h r (mem-head r rs) in (omega arith, e .1, fit-intentions f rs (later f r rs h))
 
-  fit-homes : (f : ℕ → Page) (rs : List ℕ) → Sound f rs → Fit (pageCount g) (homes g f rs)
-  unfolding Fit Sound homes home pageCount
+  fit-homes : (f : ℕ → Page) (rs : List ℕ) → Writable f rs → Fit (pageCount g) (homes g f rs)
+  unfolding Fit Writable homes home pageCount
   fit-homes f [] h = tt
   fit-homes f (r ∷ rs) h = let e = h r (mem-head r rs) in (omega arith, e .1, fit-homes f rs (later f r rs h))
 
@@ -86,23 +86,23 @@ module _ (g : Geometry) where
   unfolding Fit
   fit-last = fit-marks 0 [] tt
 
-  fit-commit : (f : ℕ → Page) (m : ℕ) (rs : List ℕ) → Sound f rs → Fit (pageCount g) (commitWrites g f m rs)
+  fit-commit : (f : ℕ → Page) (m : ℕ) (rs : List ℕ) → Writable f rs → Fit (pageCount g) (commitWrites g f m rs)
   unfolding Fit commitWrites
   fit-commit f m [] h = tt
   fit-commit f m (r ∷ rs) h =
       fit-append (pageCount g) (intentions g f (r ∷ rs)) (marks g m ∷ (homes g f (r ∷ rs) ++ (marks g 0 ∷ []))) (fit-intentions f (r ∷ rs) h)
       (fit-marks m (homes g f (r ∷ rs) ++ (marks g 0 ∷ [])) (fit-append (pageCount g) (homes g f (r ∷ rs)) (marks g 0 ∷ []) (fit-homes f (r ∷ rs) h) fit-last))
 
-  fit-recover : (f : ℕ → Page) (rs : List ℕ) → Sound f rs → Fit (pageCount g) (recoverWrites g f rs)
+  fit-recover : (f : ℕ → Page) (rs : List ℕ) → Writable f rs → Fit (pageCount g) (recoverWrites g f rs)
   unfolding Fit recoverWrites
   fit-recover f [] h = tt
   fit-recover f (r ∷ rs) h = fit-append (pageCount g) (homes g f (r ∷ rs)) (marks g 0 ∷ []) (fit-homes f (r ∷ rs) h) fit-last
 
-  changed : (ℕ → Option Page) → ℕ → Bool
+  unfoldable pub changed : (ℕ → Option Page) → ℕ → Bool
   changed v r = isSome (v r)
 
   -- the records that versions change
-  changes : (ℕ → Option Page) → List ℕ
+  unfoldable pub changes : (ℕ → Option Page) → List ℕ
   changes v = those (records g) (changed v)
 
   changes-below : (v : ℕ → Option Page) (q : ℕ) → mem q (changes v) ≡ true → q < records g
@@ -113,8 +113,8 @@ module _ (g : Geometry) where
   unfolding changes changed changedIn
   changes-length v = those-length (records g) (changed v)
 
-  sound-versions : (v : ℕ → Option Page) → Paged v → Sound (pageIn v) (changes v)
-  unfolding Sound changes changed pageIn else isSome
+  sound-versions : (v : ℕ → Option Page) → Paged v → Writable (pageIn v) (changes v)
+  unfolding Writable changes changed pageIn else isSome
   sound-versions v paged q e = (changes-below v q e, go (v q) refl (those-only (records g) (changed v) q e))
     where
       go : (o : Option Page) → v q ≡ o → isSome o ≡ true → length (else o []) ≡ 32
@@ -131,10 +131,10 @@ module _ (g : Geometry) where
     unfolding commitAt cutAt changes changed
     commit-crashed = ap (under k) (commit-length g (pageIn v) (mapOf g (changed v)) (changes v) ∙ ap commitDue (changes-length v))
 
-    commit-stored : stored (changedIn g v) (commitAt g s v k .made) ≡ (same (changedIn g v) 0 || under (changedIn g v) k)
+    pub commit-stored : stored (changedIn g v) (commitAt g s v k .made) ≡ (same (changedIn g v) 0 || under (changedIn g v) k)
     commit-stored = ap (stored (changedIn g v)) commit-made ∙ stored-made (changedIn g v) k
 
-    commit-page : commitAt g s v k .store 0 ≡ committedMark g k (mapOf g (changed v)) (changes v) (s 0)
+    pub commit-page : commitAt g s v k .store 0 ≡ committedMark g k (mapOf g (changed v)) (changes v) (s 0)
     unfolding commitAt cutAt changes changed
     commit-page = commit-mark g (pageIn v) (mapOf g (changed v)) (changes v) (changes-below v) k s
 
@@ -158,7 +158,7 @@ module _ (g : Geometry) where
   else-is (some q) p = refl
 
   -- the records that the commit page names, and a recovery's counts
-  inForce : Pages → List ℕ
+  unfoldable pub inForce : Pages → List ℕ
   inForce s = those (records g) (isNamed g s)
 
   unfoldable pub namedIn : Pages → ℕ
@@ -176,8 +176,8 @@ module _ (g : Geometry) where
   unfolding inForce isNamed names
   inForce-same s c e = ap (λ p. those (records g) (names g p)) e
 
-  sound-planned : (s : Pages) → Sized (pageCount g) s → Sound (planned s) (inForce s)
-  unfolding Sound inForce planned intention pageCount
+  sound-planned : (s : Pages) → Sized (pageCount g) s → Writable (planned s) (inForce s)
+  unfolding Writable inForce planned intention pageCount
   sound-planned s S q e = let k = those-below (records g) (isNamed g s) q e in (k, S .full (1 + q) (omega arith))
 
   module _ (s : Pages) (k : ℕ) where
@@ -189,7 +189,7 @@ module _ (g : Geometry) where
     unfolding recoverAt cutAt inForce planned
     recover-crashed = ap (under k) (recover-length g (planned s) (inForce s) ∙ ap recoverDue (inForce-length s))
 
-    recover-page : recoverAt g s k .store 0 ≡ recoveredMark g k (inForce s) (s 0)
+    pub recover-page : recoverAt g s k .store 0 ≡ recoveredMark g k (inForce s) (s 0)
     unfolding recoverAt cutAt inForce planned
     recover-page = recover-mark g (planned s) (inForce s) k s
 

@@ -1,19 +1,20 @@
 -- A commit and a recovery cut anywhere: the pages that are there then, how many writes are due, and what is settled.
-use mathlib.Core.Path.{_≡_, refl, sym, _∙_, ap, subst, subst⁻¹}
-use mathlib.Core.Bool.{Bool, true, false, cond, _&&_, _||_, true≢false, false≢true}
-use mathlib.Core.List.{List, [], _∷_, _++_, map}
-use mathlib.Core.Option.{Option, none, some}
-use Prim.Native.Nat.{ℕ, zero, suc, _+_, _-_, _*_, _≤_, _<_}
+use mathlib.Core.Path.{_≡_, refl, sym, _∙_, ap, subst⁻¹}
+use mathlib.Core.Bool.{Bool, true, false, cond, _||_, true≢false}
+use mathlib.Core.List.{List, [], _∷_, _++_}
+use Prim.Native.Nat.{ℕ, zero, suc, _+_, _-_, _*_, _^_, _≤_, _<_}
 use native.Mathlib.Omega.{arith}
 use lib.ListN.{length, take, length-append, length-map}
+use lib.Pow.{pow-pos}
 use lib.Seq.{take-append-le, take-append-add, take-all}
 use Rattle.laws.specs.Tests.{same, under}
 use Rattle.laws.specs.Counting.{those}
-use Rattle.laws.proofs.Tests.{same?, Same, is, isnt, same-refl, ne-false, Is, is?, yes′, no′, under-lt, lt-under, not-under}
+use Rattle.laws.proofs.Tests.{same-refl, ne-false, Is, is?, yes′, no′, under-lt, lt-under, not-under}
 use Rattle.rules.specs.Geometry.{Geometry, Proper, records}
-use Rattle.rules.specs.Store.{Page, Pages, intention, home, mapOf, commitPage, readCommit, isEmptied, emptied, isNamed, settled}
+use Rattle.rules.specs.Store.{Page, Pages, intention, home, mapOf, commitPage, readCommit, isDamaged, isEmptied, emptied, isNamed, settled}
 use Rattle.rules.specs.State.{mem}
 use Rattle.rules.specs.Commit.{PageWrite, sets, written, applied, intentions, homes, marks, commitWrites, recoverWrites}
+use Rattle.rules.proofs.CommitPage.{read-commitPage}
 use Rattle.rules.proofs.Members.{mem-take, those-below, those-is}
 use Rattle.rules.proofs.Shows.{lay, applied-append, take-map, Shows, shows-itself, shows-mark, shows-intentions, shows-homes, names, names-below, settled-shows, names-empty, emptied-zero, names-those}
 
@@ -189,6 +190,26 @@ module _ (g : Geometry) where
       go (early a) = absurd (omega (arith, due))
       go (middle j e a) = absurd (omega (arith, due))
       go (late j e a) = emptied-zero g proper
+
+  -- wherever it is cut, the commit page is one that can be read
+  pub commit-readable : Proper g → (k m : ℕ) → m < 2 ^ records g → (rs : List ℕ) (p : Page) → isDamaged (readCommit g p) ≡ false → isDamaged (readCommit g (committedMark k m rs p)) ≡ false
+  unfolding committedMark markAt isDamaged
+  commit-readable proper k m small [] p e = e
+  commit-readable proper k m small (r ∷ rs) p e = go (stage? (suc (length rs)) k)
+    where
+      go : (st : Stage (suc (length rs)) k) → isDamaged (readCommit g (markAt m st p)) ≡ false
+      go (early a) = e
+      go (middle j q a) = rw (read-commitPage g proper m small)
+      go (late j q a) = rw (read-commitPage g proper 0 (pow-pos (records g)))
+
+  pub recover-readable : Proper g → (k : ℕ) (rs : List ℕ) (p : Page) → isDamaged (readCommit g p) ≡ false → isDamaged (readCommit g (recoveredMark k rs p)) ≡ false
+  unfolding recoveredMark isDamaged
+  recover-readable proper k [] p e = e
+  recover-readable proper k (r ∷ rs) p e = go (under (suc (length rs)) k)
+    where
+      go : (b : Bool) → isDamaged (readCommit g (cond b (commitPage g 0) p)) ≡ false
+      go true = rw (read-commitPage g proper 0 (pow-pos (records g)))
+      go false = e
 
   module _ (f : ℕ → Page) (rs : List ℕ) (s : Pages) where
     recover-early : (k : ℕ) → k ≤ length rs → Shows g (applied (take k (homes g f rs ++ (marks g 0 ∷ []))) s) (s 0) (plan-of s) (lay f (take k rs) (home-of s))

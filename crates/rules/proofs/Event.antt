@@ -1,13 +1,14 @@
 -- Event words and events: what is encoded decodes to itself, what decodes fits its word and encodes to it again.
 use mathlib.Core.Path.{_≡_, refl, sym, _∙_, ap, subst, subst⁻¹}
-use mathlib.Core.Bool.{Bool, true, false, cond, _&&_, _||_, true≢false, false≢true}
+use mathlib.Core.Bool.{Bool, true, false, cond, _&&_, _||_}
 use mathlib.Core.Option.{Option, none, some}
-use Prim.Native.Nat.{ℕ, zero, suc, _+_, _*_, _/_, _%_, _^_, _≤_, _<_}
+use Prim.Native.Nat.{ℕ, zero, suc, _+_, _*_, _/_, _%_, _^_, _<_}
 use native.Mathlib.Nat.{mod-lt, mod-eq-of-lt, div-one, add-zero, mul-mod-left}
 use native.Mathlib.Omega.{arith}
-use lib.Pow.{pow-pos, pow-add, high, low, shl-shr, shr-shr, shr-lt, split}
+use lib.Pow.{pow-pos, high, low, shl-shr, shr-shr, shr-lt, split}
 use Rattle.laws.specs.Tests.{same, under, open-tests}
 use Rattle.laws.proofs.Tests.{same-eq, under-lt, lt-under}
+use Rattle.laws.proofs.Booleans.{both}
 use Rattle.rules.specs.Geometry.{Geometry, Proper, records, wordSize}
 use Rattle.rules.specs.Event.{Event, begin, lock, write, read, commit, abort, crash, recover, Fields, field, fields, wellFormed, eventOf, decode, word, encode, fits, open-event}
 
@@ -66,10 +67,6 @@ kind? (suc (suc (suc (suc (suc (suc (suc (suc (suc n))))))))) = other n refl
 chosen : (b : Bool) (x e : Event) → cond b (some x) none ≡ some e → (b ≡ true) × (x ≡ e)
 chosen true x e p = (refl, cc)
 chosen false x e p = let z : _≡_ {A = ℕ} 0 1 = cc in absurd (omega arith)
-
-both : (a b : Bool) → (a && b) ≡ true → (a ≡ true) × (b ≡ true)
-both true b e = (refl, e)
-both false b e = absurd (false≢true e)
 
 -- a field that is used or 0
 used : (u : Bool) (a : ℕ) → (u || same a 0) ≡ true → a ≡ cond u a 0

@@ -9,3 +9,5 @@ pub mod Cuts
 pub mod Pages
 pub mod AtomicPages
 pub mod Event
+pub mod Durability
+pub mod Fresh
