@@ -3,6 +3,7 @@ pub mod Booleans
 pub mod Those
 pub mod Bytes
 pub mod Updated
+pub mod All
 pub mod Bits
 pub mod Filled
 pub mod Compared
