@@ -1,6 +1,6 @@
 // The event word: kind, transaction, record, offset, count and value, most significant first, and the fields that each kind uses.
 ghost use mathlib.Core.Path.{_≡_};
-ghost use Prim.Native.Nat.{ℕ, _+_, _*_, _/_, _%_, _<_, _≤_};
+ghost use Prim.Native.Nat.{_+_, _*_, _/_, _%_, _<_, _≤_};
 ghost use lib.ListN.{length, take, drop};
 ghost use Rattle.laws.specs.Bytes.{number};
 ghost use Rattle.rules.specs.Event.{decode, word};

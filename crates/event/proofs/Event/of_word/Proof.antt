@@ -1,5 +1,5 @@
 -- A word with no bit outside its kind's flags is the event of its fields; any other gives kind 0.
-use mathlib.Core.Path.{_≡_, refl, sym, ap, _∙_}
+use mathlib.Core.Path.{_≡_, sym, ap, _∙_}
 use mathlib.Core.Bool.{Bool, true, false, cond}
 use mathlib.Core.Option.{none}
 use Prim.Native.Nat.{ℕ}
