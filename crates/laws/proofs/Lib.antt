@@ -6,4 +6,5 @@ pub mod Bytes
 pub mod Updated
 pub mod Booleans
 pub mod Counting
+pub mod All
 pub mod Compared
