@@ -1,3 +1,5 @@
 pub mod Overlay
 pub mod Roots
 pub mod Data
+pub mod Table
+pub mod TableKept

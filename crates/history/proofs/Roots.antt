@@ -119,4 +119,3 @@ moved-past z x t (at a) n h = go (same? a x)
     go : Same a x → isAt z (at a) ≡ isAt z (move x t (at a))
     go (is e s _) = rw (s, h, e) (ne-false x z (λ q. n (sym q)))
     go (isnt e s _) = rw s
-

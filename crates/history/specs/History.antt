@@ -1,6 +1,6 @@
 -- What the events and their answers alone tell of a run: document 01, "What demand 3 compares". No state of the engine occurs here.
 use Prim.Native.Nat.{ℕ, zero, suc}
-use mathlib.Core.Bool.{Bool, true, false, cond, _&&_, _||_}
+use mathlib.Core.Bool.{Bool, true, false, not, cond, _&&_, _||_}
 use mathlib.Core.List.{List, [], _∷_}
 use mathlib.Core.Option.{Option, none, some}
 use lib.ListN.{set}
@@ -69,9 +69,9 @@ unfoldable pub climbs : (ℕ → ℕ) → ℕ → ℕ → ℕ → Bool
 climbs parent zero a i = same i a
 climbs parent (suc n) a i = same i a || climbs parent n a (parent i)
 
--- i is a, or a is an ancestor of i (a parent is begun before its child, so i has fewer than i ancestors)
+-- i is the transaction a, or a is an ancestor of i (a parent is begun before its child, so i has fewer than i ancestors)
 unfoldable pub isWithin : History → ℕ → ℕ → Bool
-isWithin h a i = climbs (h .parent) i a i
+isWithin h a i = not (same a 0) && climbs (h .parent) i a i
 
 unfoldable pub isCommitted : Fate → Bool
 isCommitted (bearing t) = false
