@@ -1,15 +1,17 @@
 -- The bearers of a state form a tree: its lines after a begin and after some transactions have ended.
-use mathlib.Core.Path.{_≡_, refl, sym, ap, ap₂, subst, _∙_, fun-ext}
-use mathlib.Core.Bool.{Bool, true, false, not, cond, _&&_, _||_, true≢false, false≢true, and-false, or-false, or-true}
+use mathlib.Core.Path.{_≡_, refl, sym, ap, _∙_}
+use mathlib.Core.Bool.{Bool, true, false, cond, true≢false, false≢true, or-true}
 use mathlib.Core.List.{List, [], _∷_}
 use mathlib.Core.Logic.{_≢_, _⊎_, inl, inr}
 use Prim.Native.Nat.{ℕ, zero, suc, _<_, _≤_}
 use native.Mathlib.Omega.{arith}
+use lib.ListN.{length}
 use Rattle.laws.specs.Tests.{same}
 use Rattle.laws.specs.Functions.{updated}
 use Rattle.laws.proofs.Tests.{same?, Same, is, isnt, same-eq, same-refl, ne-false, Is, is?, yes′, no′}
+use Rattle.laws.proofs.Booleans.{or-cases}
 use Rattle.rules.specs.State.{Bearer, Bearers, free, active, isActive, parentIn, depthIn, chain, lineOf, mem, open-state}
-use Rattle.rules.proofs.Tree.{Good, Lines, Tree, isCons, or-cases, mem-cons, own}
+use Rattle.rules.proofs.Tree.{Good, Lines, Tree, isCons, own}
 
 -- what makes the bearers a tree
 pub record Rooted (limit nobody : ℕ) (b : Bearers) : Type 0 where
@@ -71,6 +73,16 @@ module _ {limit nobody : ℕ} {b : Bearers} (S : Rooted limit nobody b) where
           → (u : ℕ) × (isActive (b u) ≡ true) × (parentIn (b u) ≡ x)
       go (is q s _) m ih = (z, live (b z) e, q)
       go (isnt q s _) m ih = ih m q
+
+-- a line is as long as its transaction is deep
+chain-length : (b : Bearers) (n t : ℕ) → length (chain b n t) ≡ n
+unfolding open-state
+chain-length b zero t = refl
+chain-length b (suc n) t = ap suc (chain-length b n (parentIn (b t)))
+
+pub line-length : (b : Bearers) (t : ℕ) → length (lineOf b t) ≡ depthIn (b t)
+unfolding open-state
+line-length b t = chain-length b (depthIn (b t)) t
 
 -- two states that agree on a line
 pub chain-same : (b c : Bearers) (n t : ℕ) → ((a : ℕ) → mem a (chain b n t) ≡ true → c a ≡ b a) → chain c n t ≡ chain b n t

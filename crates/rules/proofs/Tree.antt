@@ -1,14 +1,15 @@
 -- The tree of live transactions, as a line for each number: the transaction and its ancestors, nearest first; [] where the number is free.
 -- To be on a line is transitive and antisymmetric.
-use mathlib.Core.Path.{_≡_, refl, sym, ap, subst, _∙_}
-use mathlib.Core.Bool.{Bool, true, false, not, cond, _&&_, _||_, true≢false, false≢true, or-true}
+use mathlib.Core.Path.{_≡_, refl, sym, ap, _∙_}
+use mathlib.Core.Bool.{Bool, true, false, false≢true, or-true}
 use mathlib.Core.List.{List, [], _∷_}
 use mathlib.Core.Logic.{_≢_, _⊎_, inl, inr}
-use Prim.Native.Nat.{ℕ, _<_, suc}
+use Prim.Native.Nat.{ℕ, _<_}
 use native.Mathlib.Omega.{arith}
 use lib.ListN.{length}
 use Rattle.laws.specs.Tests.{same}
-use Rattle.laws.proofs.Tests.{same?, Same, same-eq, same-refl, is, isnt}
+use Rattle.laws.proofs.Tests.{same-eq, same-refl}
+use Rattle.laws.proofs.Booleans.{or-cases}
 use Rattle.rules.specs.State.{mem, open-state}
 
 -- every part of a line is the line of its first transaction
@@ -27,11 +28,6 @@ pub record Tree (limit : ℕ) (line : Lines) : Type 0 where
   pub first : (j a : ℕ) (l : List ℕ) → line j ≡ a ∷ l → a ≡ j
   pub good : (j : ℕ) → Good line (line j)
   pub small : (j : ℕ) → isCons (line j) ≡ true → j < limit
-
-pub or-cases : {A : Type 0} (a b : Bool) → (a || b) ≡ true → (a ≡ true → A) → (b ≡ true → A) → A
-unfolding open-state
-or-cases true b e f g = f refl
-or-cases false b e f g = g e
 
 pub mem-cons : (x : ℕ) (l : List ℕ) → mem x l ≡ true → isCons l ≡ true
 unfolding open-state
@@ -89,3 +85,11 @@ module _ {limit : ℕ} {line : Lines} (T : Tree limit line) where
       go (inl q) k = heads a z q (mem-cons z (line a) h)
       go (inr p) (inl q) = sym (heads z a q (mem-cons a (line z) e))
       go (inr p) (inr q) = absurd (omega arith)
+
+  -- an ancestor's line is shorter
+  pub shorter : (a z : ℕ) → mem a (line z) ≡ true → a ≢ z → length (line a) < length (line z)
+  shorter a z e n = go (mem-length line (line z) a (T .good z) e)
+    where
+      go : (line a ≡ line z) ⊎ (length (line a) < length (line z)) → length (line a) < length (line z)
+      go (inl q) = absurd (n (heads a z q (rw q (mem-cons a (line z) e))))
+      go (inr h) = h

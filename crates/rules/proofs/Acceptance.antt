@@ -1,0 +1,229 @@
+-- What it says of a state that an event is not refused there: one record of facts for each kind of event. A refusal changes nothing.
+use mathlib.Core.Path.{_≡_, refl, sym, ap, _∙_}
+use mathlib.Core.Bool.{Bool, true, false, not, cond, _||_, true≢false}
+use mathlib.Core.List.{List, [], _∷_}
+use mathlib.Core.Logic.{_≢_, _⊎_, inl, inr}
+use mathlib.Core.Option.{Option, none, some}
+use Prim.Native.Nat.{ℕ, _<_, _≤_}
+use native.Mathlib.Omega.{arith}
+use lib.ListN.{getD}
+use Rattle.laws.specs.Tests.{same}
+use Rattle.laws.specs.Counting.{all}
+use Rattle.laws.proofs.Tests.{same-eq, same-refl}
+use Rattle.laws.proofs.Booleans.{or-cases, not-false}
+use Rattle.laws.proofs.Counting.{lowest-fails}
+use Rattle.rules.specs.Geometry.{transactions, nobody}
+use Rattle.rules.specs.Event.{Event, begin, lock, write, read, commit, abort, crash, recover}
+use Rattle.rules.specs.State.{depthIn, lineOf, State, live, holds}
+use Rattle.rules.specs.Locks.{grantable}
+use Rattle.rules.specs.Commit.{Cut}
+use Rattle.rules.specs.Form.{Form}
+use Rattle.rules.specs.Step.{done, refused, firstOf, hasChild, firstFree, StateOf, OutcomeOf, refusals, refusal, ended, raised, concluded, finished, visible, commitsTop, commitsChild, commits, recovers, act, judged, step}
+
+-- a test that did not refuse
+pub pass : (n : ℕ) (b : Bool) (rest : List (ℕ × Bool)) → firstOf ((n, b) ∷ rest) ≡ none → (b ≡ false) × (firstOf rest ≡ none)
+unfolding firstOf
+pass n true rest e = let z : true ≡ false = cc in absurd (true≢false z)
+pass n false rest e = (refl, e)
+
+-- the numbers of a table of refusals are from 1 to 10; so is that of the first that applies
+abbrev Numbered : List (ℕ × Bool) → Type 0
+Numbered [] = Unit {0}
+Numbered (x ∷ xs) = (1 ≤ x .0) × (x .0 ≤ 10) × Numbered xs
+
+first-number : (l : List (ℕ × Bool)) (n : ℕ) → Numbered l → firstOf l ≡ some n → (1 ≤ n) × (n ≤ 10)
+unfolding firstOf
+first-number [] n h e = let z : true ≡ false = cc in absurd (true≢false z)
+first-number (x ∷ xs) n h e = go (x .1) e (λ q. first-number xs n (h .2) q)
+  where
+    go : (b : Bool) → cond b (some (x .0)) (firstOf xs) ≡ some n → (firstOf xs ≡ some n → (1 ≤ n) × (n ≤ 10)) → (1 ≤ n) × (n ≤ 10)
+    go true e rest = let k : x .0 ≡ n = cc in rw (← k) (h .0, h .1)
+    go false e rest = rest e
+
+module _ {S : Type 0} where
+  -- a lock: the state is up, t is live, and the rule grants r
+  pub record LockOk (s : State S) (t r : ℕ) : Type 0 where
+    pub up : s .up ≡ true
+    pub alive : live s t ≡ true
+    pub grant : grantable (s .held) (s .retained) (lineOf (s .bearer) t) t r ≡ true
+
+  -- a write, a read: up, live, and t holds r
+  pub record WriteOk (s : State S) (t r : ℕ) : Type 0 where
+    pub up : s .up ≡ true
+    pub alive : live s t ≡ true
+    pub held : holds s r t ≡ true
+
+  pub record ReadOk (s : State S) (t r : ℕ) : Type 0 where
+    pub up : s .up ≡ true
+    pub alive : live s t ≡ true
+    pub held : holds s r t ≡ true
+
+  -- a commit: up, live, and no live child
+  pub record CommitOk (s : State S) (t : ℕ) : Type 0 where
+    pub up : s .up ≡ true
+    pub alive : live s t ≡ true
+    pub childless : hasChild s t ≡ false
+
+  pub record AbortOk (s : State S) (t : ℕ) : Type 0 where
+    pub up : s .up ≡ true
+    pub alive : live s t ≡ true
+
+-- a begin: up, under nobody or a live transaction above the depth limit, and a number is free
+pub record BeginOk (f : Form) (s : StateOf f) (p : ℕ) : Type 0 where
+  pub up : s .up ≡ true
+  pub parent : (p ≡ nobody) ⊎ (live s p ≡ true)
+  pub room : depthIn (s .bearer p) ≢ f .geometry .depthLimit
+  pub small : firstFree s < transactions
+  pub unborne : live s (firstFree s) ≡ false
+
+-- a recovery: down, over a commit page that is not damaged
+pub record RecoverOk (f : Form) (s : StateOf f) : Type 0 where
+  pub down : s .up ≡ false
+  pub whole : f .medium .damaged (s .store) ≡ false
+
+module _ (f : Form) (s : StateOf f) where
+  pub begin-ok : (p : ℕ) → refusal f s (begin p) ≡ none → BeginOk f s p
+  unfolding refusal refusals firstFree
+  begin-ok p e =
+      let a = pass 2 (not (s .up)) _ e in
+      let b = pass 5 (not (same p nobody || live s p)) _ (a .1) in
+      let c = pass 6 (same (depthIn (s .bearer p)) (f .geometry .depthLimit)) _ (b .1) in
+      let d = pass 7 (all transactions (live s)) _ (c .1) in
+      let free = lowest-fails transactions (live s) (d .0) in
+      record {
+        up = not-false _ (a .0);
+        parent = or-cases (same p nobody) (live s p) (not-false _ (b .0)) (λ q. inl (same-eq p nobody q)) (λ q. inr q);
+        room = λ q. true≢false (sym (same-refl (f .geometry .depthLimit)) ∙ rw q at (c .0));
+        small = free .1;
+        unborne = free .0;
+      }
+
+  pub lock-ok : (t r : ℕ) → refusal f s (lock t r) ≡ none → LockOk s t r
+  unfolding refusal refusals
+  lock-ok t r e =
+      let a = pass 2 (not (s .up)) _ e in
+      let b = pass 5 (not (live s t)) _ (a .1) in
+      let c = pass 8 (not (grantable (s .held) (s .retained) (lineOf (s .bearer) t) t r)) _ (b .1) in
+      record { up = not-false _ (a .0); alive = not-false _ (b .0); grant = not-false _ (c .0) }
+
+  pub write-ok : (t r o v : ℕ) → refusal f s (write t r o v) ≡ none → WriteOk s t r
+  unfolding refusal refusals
+  write-ok t r o v e =
+      let a = pass 2 (not (s .up)) _ e in
+      let b = pass 5 (not (live s t)) _ (a .1) in
+      let c = pass 9 (not (holds s r t)) _ (b .1) in
+      record { up = not-false _ (a .0); alive = not-false _ (b .0); held = not-false _ (c .0) }
+
+  pub read-ok : (t r o : ℕ) → refusal f s (read t r o) ≡ none → ReadOk s t r
+  unfolding refusal refusals
+  read-ok t r o e =
+      let a = pass 2 (not (s .up)) _ e in
+      let b = pass 5 (not (live s t)) _ (a .1) in
+      let c = pass 9 (not (holds s r t)) _ (b .1) in
+      record { up = not-false _ (a .0); alive = not-false _ (b .0); held = not-false _ (c .0) }
+
+  pub commit-ok : (t k : ℕ) → refusal f s (commit t k) ≡ none → CommitOk s t
+  unfolding refusal refusals
+  commit-ok t k e =
+      let a = pass 2 (not (s .up)) _ e in
+      let b = pass 5 (not (live s t)) _ (a .1) in
+      let c = pass 10 (hasChild s t) _ (b .1) in
+      record { up = not-false _ (a .0); alive = not-false _ (b .0); childless = c .0 }
+
+  pub abort-ok : (t : ℕ) → refusal f s (abort t) ≡ none → AbortOk s t
+  unfolding refusal refusals
+  abort-ok t e =
+      let a = pass 2 (not (s .up)) _ e in
+      let b = pass 5 (not (live s t)) _ (a .1) in
+      record { up = not-false _ (a .0); alive = not-false _ (b .0) }
+
+  pub recover-ok : (k : ℕ) → refusal f s (recover k) ≡ none → RecoverOk f s
+  unfolding refusal refusals
+  recover-ok k e =
+      let a = pass 3 (s .up) _ e in
+      let b = pass 4 (f .medium .damaged (s .store)) _ (a .1) in
+      record { down = a .0; whole = b .0 }
+
+  -- what is done is never answered as refused
+  concluded-answer : (whole : StateOf f) (c : Cut (f .medium .Store)) (b : Bool) (n : ℕ) → concluded whole c b .answer ≡ refused n → ⊥
+  unfolding concluded
+  concluded-answer whole c true n e = let z : true ≡ false = cc in true≢false z
+  concluded-answer whole c false n e = let z : true ≡ false = cc in true≢false z
+
+  done-answer : (v n : ℕ) → done v ≡ refused n → ⊥
+  done-answer v n e = let z : true ≡ false = cc in true≢false z
+
+  commits-answer : (t k : ℕ) (l : List ℕ) (n : ℕ) → commits f s t k l .answer ≡ refused n → ⊥
+  unfolding commits commitsTop commitsChild finished
+  commits-answer t k [] n e =
+      let c = f .medium .commit (s .store) (s .version t) k in
+      concluded-answer (ended s (λ j. same j t) (c .store)) c (c .crashed) n e
+  commits-answer t k (a ∷ []) n e =
+      let c = f .medium .commit (s .store) (s .version t) k in
+      concluded-answer (ended s (λ j. same j t) (c .store)) c (c .crashed) n e
+  commits-answer t k (a ∷ y ∷ l) n e = done-answer 0 n e
+
+  pub act-answer : (e : Event) (n : ℕ) → act f s e .answer ≡ refused n → ⊥
+  unfolding act finished recovers
+  act-answer (begin p) n e = done-answer (firstFree s) n e
+  act-answer (lock t r) n e = done-answer 0 n e
+  act-answer (write t r o v) n e = done-answer 0 n e
+  act-answer (read t r o) n e = done-answer (getD (visible f s t r) o 0) n e
+  act-answer (commit t k) n e = commits-answer t k (lineOf (s .bearer) t) n e
+  act-answer (abort t) n e = done-answer 0 n e
+  act-answer crash n e = done-answer 0 n e
+  act-answer (recover k) n e =
+      let c = f .medium .recover (s .store) k in
+      concluded-answer (raised s (c .store)) c (c .crashed) n e
+
+  -- an event is refused, and changes nothing, or it is not refused, and acts
+  pub data Judged (e : Event) : Type 0 where
+    acts : refusal f s e ≡ none → step f s (some e) ≡ act f s e → Judged e
+    refuses : (n : ℕ) → refusal f s e ≡ some n → step f s (some e) ≡ record { state = s; answer = refused n } → Judged e
+
+  pub judge? : (e : Event) → Judged e
+  unfolding step judged
+  judge? e = go (refusal f s e) refl
+    where
+      go : (o : Option ℕ) → refusal f s e ≡ o → Judged e
+      go none q = acts q (ap (judged f s e) q)
+      go (some n) q = refuses n q (ap (judged f s e) q)
+
+  -- an answer that is not a refusal comes of acting
+  pub accepted-acts : (e : Event) → ((n : ℕ) → step f s (some e) .answer ≢ refused n) → (refusal f s e ≡ none) × (step f s (some e) ≡ act f s e)
+  accepted-acts e h = go (judge? e)
+    where
+      go : Judged e → (refusal f s e ≡ none) × (step f s (some e) ≡ act f s e)
+      go (acts q k) = (q, k)
+      go (refuses n q k) = absurd (h n (ap (λ (o : OutcomeOf f). o .answer) k))
+
+  -- a refusal changes nothing
+  pub refused-keeps : (e : Option Event) (n : ℕ) → step f s e .answer ≡ refused n → step f s e .state ≡ s
+  unfolding step judged
+  refused-keeps none n q = refl
+  refused-keeps (some e) n q = go (refusal f s e) q
+    where
+      go : (o : Option ℕ) → judged f s e o .answer ≡ refused n → judged f s e o .state ≡ s
+      go none q = absurd (act-answer e n q)
+      go (some m) q = refl
+
+  tabled : (e : Event) → Numbered (refusals f s e)
+  unfolding refusals
+  tabled (begin p) = omega arith
+  tabled (lock t r) = omega arith
+  tabled (write t r o v) = omega arith
+  tabled (read t r o) = omega arith
+  tabled (commit t k) = omega arith
+  tabled (abort t) = omega arith
+  tabled crash = tt
+  tabled (recover k) = omega arith
+
+  -- the number of a refusal
+  pub refused-number : (e : Option Event) (n : ℕ) → step f s e .answer ≡ refused n → (1 ≤ n) × (n ≤ 10)
+  unfolding step judged refusal
+  refused-number none n q = let k : 1 ≡ n = cc in omega arith
+  refused-number (some e) n q = go (firstOf (refusals f s e)) refl q
+    where
+      go : (o : Option ℕ) → firstOf (refusals f s e) ≡ o → judged f s e o .answer ≡ refused n → (1 ≤ n) × (n ≤ 10)
+      go none h q = absurd (act-answer e n q)
+      go (some m) h q = let k : m ≡ n = cc in rw (← k) (first-number (refusals f s e) m (tabled e) h)
