@@ -3,3 +3,4 @@ pub mod Tests
 pub mod Counting
 pub mod Functions
 pub mod Bytes
+pub mod Bits

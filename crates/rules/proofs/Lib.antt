@@ -2,6 +2,13 @@ pub mod Trials
 pub mod Medium
 pub mod Tree
 pub mod Bearers
+pub mod Editions
+pub mod Map
+pub mod CommitPage
+pub mod Members
+pub mod Shows
+pub mod Cuts
+pub mod Pages
 pub mod Acceptance
 pub mod Locks
 pub mod Owners

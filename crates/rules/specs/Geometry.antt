@@ -1,5 +1,6 @@
 -- The numbers in which editions and forms differ. Nothing else names a number of records, a depth or a width that may change.
-use Prim.Native.Nat.{ℕ, _+_, _*_, _/_, _^_}
+use mathlib.Core.Path.{_≡_}
+use Prim.Native.Nat.{ℕ, _+_, _*_, _/_, _^_, _≤_, _<_}
 
 pub record Geometry : Type 0 where
   pub edition : ℕ
@@ -41,6 +42,17 @@ workSize g = records g * g .depthLimit * pageSize
 -- the bytes of an event word: kind 4, transaction 5, record, offset 5, count, value 8, spare bits
 unfoldable pub wordSize : Geometry → ℕ
 wordSize g = (4 + 5 + g .recordBits + 5 + g .cutBits + 8 + g .spareBits) / 8
+
+-- what the formats of the event word and of the commit page ask of a geometry
+pub record Proper (g : Geometry) : Type 0 where
+  -- the edition has four bits
+  pub edition-fits : g .edition < 16
+  -- the commit page's count can say any number of records
+  pub ones-fit : records g < 2 ^ g .onesBits
+  -- edition, state, map and count fit a page
+  pub page-fits : 8 + records g + g .onesBits ≤ 8 * pageSize
+  -- the fields of an event word are whole bytes
+  pub word-whole : 4 + 5 + g .recordBits + 5 + g .cutBits + 8 + g .spareBits ≡ 8 * wordSize g
 
 -- opens the definitions of this module: for what is proved by computing
 unfoldable pub open-geometry : Unit {0}

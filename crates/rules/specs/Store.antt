@@ -1,10 +1,10 @@
 -- The stable store: numbered pages, the commit page, the settled value of a record, a fresh store.
 use Prim.Native.Nat.{ℕ, zero, suc, _+_, _-_, _*_, _/_, _%_, _^_}
-use mathlib.Core.Bool.{Bool, true, false, cond}
+use mathlib.Core.Bool.{Bool, true, false, cond, _&&_}
 use mathlib.Core.List.{List, [], _∷_, _++_}
 use mathlib.Core.Option.{Option, none, some}
 use lib.ListN.{take, drop, replicate}
-use Rattle.laws.specs.Tests.{same}
+use Rattle.laws.specs.Tests.{same, under}
 use Rattle.laws.specs.Counting.{count}
 use Rattle.laws.specs.Bytes.{number, bytes, sameList}
 use Rattle.rules.specs.Geometry.{Geometry, pageSize, records, pageCount}
@@ -83,9 +83,9 @@ damaged g s = isDamaged (readCommit g (s 0))
 unfoldable pub emptied : Geometry → Pages → Bool
 emptied g s = isEmptied (readCommit g (s 0))
 
--- record r is named by the commit page
+-- r is a record, and named by the commit page
 unfoldable pub isNamed : Geometry → Pages → ℕ → Bool
-isNamed g s r = named g (mapIn (readCommit g (s 0))) r
+isNamed g s r = under r (records g) && named g (mapIn (readCommit g (s 0))) r
 
 -- The settled value (document 01's term) of a record: its intention page where a committed map names it, else its home page.
 unfoldable pub settled : Geometry → Pages → ℕ → Page

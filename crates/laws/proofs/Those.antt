@@ -1,0 +1,26 @@
+-- The numbers below a bound of which a test holds: how many there are, and that equal tests pick the same.
+use mathlib.Core.Path.{_≡_, refl, sym, _∙_, ap}
+use mathlib.Core.Bool.{Bool, true, false, cond}
+use mathlib.Core.List.{List, [], _∷_, _++_}
+use Prim.Native.Nat.{ℕ, zero, suc, _+_, _≤_}
+use native.Mathlib.Omega.{arith}
+use lib.ListN.{length, length-append}
+use Rattle.laws.specs.Counting.{count, those}
+
+pub count-le : (n : ℕ) (p : ℕ → Bool) → count n p ≤ n
+unfolding count
+count-le zero p = omega arith
+count-le (suc n) p = go (p n) (count-le n p)
+  where
+    go : (b : Bool) → count n p ≤ n → cond b (suc (count n p)) (count n p) ≤ suc n
+    go true h = omega arith
+    go false h = omega arith
+
+pub those-length : (n : ℕ) (p : ℕ → Bool) → length (those n p) ≡ count n p
+unfolding those count
+those-length zero p = refl
+those-length (suc n) p = length-append (those n p) (cond (p n) (n ∷ []) []) ∙ go (p n) (those-length n p)
+  where
+    go : (b : Bool) → length (those n p) ≡ count n p → length (those n p) + length (cond {A = List ℕ} b (n ∷ []) []) ≡ cond b (suc (count n p)) (count n p)
+    go true e = omega arith
+    go false e = omega arith
