@@ -6,3 +6,4 @@ pub mod TableKept
 pub mod Tells
 pub mod Invariant
 pub mod Runs
+pub mod Fair
