@@ -7,3 +7,5 @@ pub mod Tells
 pub mod Invariant
 pub mod Runs
 pub mod Fair
+pub mod Twins
+pub mod TwoRuns
