@@ -1,6 +1,6 @@
 -- Bytes spell a number and a number leaves its bytes; equal lists are the same.
 use mathlib.Core.Path.{_≡_, refl, sym, _∙_, ap}
-use mathlib.Core.Bool.{Bool, true, false, _&&_, true≢false, false≢true}
+use mathlib.Core.Bool.{true, false≢true}
 use mathlib.Core.List.{List, [], _∷_}
 use Prim.Native.Nat.{ℕ, zero, suc, _+_, _*_, _/_, _%_, _^_, _<_}
 use native.Mathlib.Nat.{add-mul, mul-assoc, zero-mul, zero-add, add-assoc, mod-eq-of-lt, pow-suc, mul-comm}
@@ -10,6 +10,7 @@ use lib.ListN.{length}
 use Rattle.laws.specs.Tests.{same}
 use Rattle.laws.specs.Bytes.{numberFrom, number, bytes, sameList}
 use Rattle.laws.proofs.Tests.{same-eq, same-refl}
+use Rattle.laws.proofs.Booleans.{both}
 
 pos-256 : (n : ℕ) → zero < 256 ^ n
 pos-256 zero = omega arith
@@ -39,10 +40,6 @@ pub sameList-refl : (xs : List ℕ) → sameList xs xs ≡ true
 unfolding sameList
 sameList-refl [] = refl
 sameList-refl (x ∷ xs) = rw (same-refl x) (sameList-refl xs)
-
-both : (a b : Bool) → (a && b) ≡ true → (a ≡ true) × (b ≡ true)
-both true b e = (refl, e)
-both false b e = absurd (false≢true e)
 
 pub sameList-eq : (xs ys : List ℕ) → sameList xs ys ≡ true → xs ≡ ys
 unfolding sameList

@@ -6,3 +6,4 @@ pub mod Bytes
 pub mod Updated
 pub mod Booleans
 pub mod Counting
+pub mod Compared

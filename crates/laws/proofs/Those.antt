@@ -1,8 +1,8 @@
 -- The numbers below a bound of which a test holds: how many there are, and that equal tests pick the same.
-use mathlib.Core.Path.{_≡_, refl, sym, _∙_, ap}
+use mathlib.Core.Path.{_≡_, refl, sym, _∙_, ap, ap₂}
 use mathlib.Core.Bool.{Bool, true, false, cond}
 use mathlib.Core.List.{List, [], _∷_, _++_}
-use Prim.Native.Nat.{ℕ, zero, suc, _+_, _≤_}
+use Prim.Native.Nat.{ℕ, zero, suc, _+_, _≤_, _<_}
 use native.Mathlib.Omega.{arith}
 use lib.ListN.{length, length-append}
 use Rattle.laws.specs.Counting.{count, those}
@@ -24,3 +24,14 @@ those-length (suc n) p = length-append (those n p) (cond (p n) (n ∷ []) []) �
     go : (b : Bool) → length (those n p) ≡ count n p → length (those n p) + length (cond {A = List ℕ} b (n ∷ []) []) ≡ cond b (suc (count n p)) (count n p)
     go true e = omega arith
     go false e = omega arith
+
+pub those-same : (n : ℕ) {p q : ℕ → Bool} → ((r : ℕ) → r < n → p r ≡ q r) → those n p ≡ those n q
+unfolding those
+those-same zero h = refl
+those-same (suc n) h =
+    ap₂ (λ (l : List ℕ) (b : Bool). l ++ cond b (n ∷ []) []) (those-same n (λ r lt. h r (omega arith))) (h n (omega arith))
+
+pub those-none : (n : ℕ) {p : ℕ → Bool} → ((r : ℕ) → p r ≡ false) → those n p ≡ []
+unfolding those
+those-none zero h = refl
+those-none (suc n) h = ap₂ (λ (l : List ℕ) (b : Bool). l ++ cond b (n ∷ []) []) (those-none n h) (h n)

@@ -1,5 +1,5 @@
 -- A function changed at one number: its value there, and elsewhere.
-use mathlib.Core.Path.{_≡_, refl}
+use mathlib.Core.Path.{_≡_}
 use mathlib.Core.Logic.{_≢_}
 use Prim.Native.Nat.{ℕ}
 use Rattle.laws.specs.Functions.{updated}

@@ -1,74 +1,22 @@
--- What replacing a part of a list of bytes, or one byte, does to its pages: page n is new, every other as it was.
-use mathlib.Core.Path.{_≡_, refl, sym, ap, ap₂, _∙_, fun-ext}
-use mathlib.Core.List.{List, _++_, append-assoc}
-use mathlib.Core.Bool.{Bool, true, false, cond}
-use mathlib.Core.Logic.{dite}
-use native.Mathlib.Decide.{decLt}
+-- What a part that was lent leaves of the whole; what replacing one byte does to the pages: page n is new, every other as it was.
+use mathlib.Core.Path.{_≡_, refl, sym, ap, _∙_, fun-ext}
+use mathlib.Core.List.{List, _++_}
+use mathlib.Core.Bool.{cond}
 use native.Mathlib.Omega.{arith}
 use Prim.Native.Nat.{ℕ, _+_, _-_, _*_, _≤_, _<_}
-use lib.ListN.{length, getD, set, take, drop, take-append-drop, length-take, length-drop, length-append, length-set}
-use lib.Seq.{drop-drop, take-at, drop-at, drop-append-le, take-append-le, drop-append-add, length-take-le, getD-take, getD-drop, getD-set-same, getD-set-other, ext-getD}
+use lib.ListN.{length, getD, set, take, drop, length-take, length-drop, length-set}
+use lib.Seq.{drop-drop, getD-take, getD-drop, getD-set-same, getD-set-other, ext-getD}
 use borrow.Rule.Slice.PartMut.{putMid}
 use Rattle.laws.specs.Tests.{same}
 use Rattle.laws.specs.Functions.{updated}
 use Rattle.laws.proofs.Tests.{Same, is, isnt, same?}
 use Rattle.rules.specs.Store.{pagesOf}
 
--- page n becomes p, and no other byte changes
-unfoldable pub withPage : ℕ → List ℕ → List ℕ → List ℕ
-withPage n p s = take (32 * n) s ++ (p ++ drop (32 * n + 32) s)
-
 -- what a part that was lent from `at` to `at + k` leaves of the whole
 pub put-at : (at k : ℕ) (xs p : List ℕ) → putMid at (at + k - at) xs p ≡ take at xs ++ (p ++ drop (at + k) xs)
 put-at at k xs p =
     let e : at + (at + k - at) ≡ at + k = omega arith in
     ap (λ (l : List ℕ). take at xs ++ (p ++ l)) (drop-drop (at + k - at) at xs ∙ ap (λ (m : ℕ). drop m xs) e)
-
--- a part that lies within the first list
-part-left : (a k : ℕ) (x y : List ℕ) → a + k ≤ length x → take k (drop a (x ++ y)) ≡ take k (drop a x)
-part-left a k x y h =
-    ap (take k) (drop-append-le a x y (omega arith)) ∙ take-append-le k (drop a x) y (simp length-drop (omega arith))
-
-module _ (n : ℕ) (p s : List ℕ) (sized : length p ≡ 32) (room : 32 * n + 32 ≤ length s) where
-  head : length (take (32 * n) s) ≡ 32 * n
-  head = length-take-le (32 * n) s (omega arith)
-
-  page-same : pagesOf (withPage n p s) n ≡ p
-  unfolding pagesOf withPage
-  page-same =
-      ap (take 32) (drop-at (take (32 * n) s) (p ++ drop (32 * n + 32) s) (32 * n) head)
-      ∙ take-at p (drop (32 * n + 32) s) 32 sized
-
-  page-before : (m : ℕ) → m < n → pagesOf (withPage n p s) m ≡ pagesOf s m
-  unfolding pagesOf withPage
-  page-before m h =
-      let e = head in
-      part-left (32 * m) 32 (take (32 * n) s) (p ++ drop (32 * n + 32) s) (omega arith)
-      ∙ sym (part-left (32 * m) 32 (take (32 * n) s) (drop (32 * n) s) (omega arith))
-      ∙ ap (λ (l : List ℕ). take 32 (drop (32 * m) l)) (take-append-drop (32 * n) s)
-
-  page-after : (m : ℕ) → n < m → pagesOf (withPage n p s) m ≡ pagesOf s m
-  unfolding pagesOf withPage
-  page-after m h =
-      let x = take (32 * n) s ++ p in
-      let e : length x ≡ 32 * n + 32 = length-append (take (32 * n) s) p ∙ ap₂ _+_ head sized in
-      let k = 32 * m - (32 * n + 32) in
-      let d : 32 * m ≡ length x + k = omega arith in
-      let f : 32 * n + 32 + k ≡ 32 * m = omega arith in
-      ap (take 32)
-      (ap (drop (32 * m)) (sym (append-assoc (take (32 * n) s) p (drop (32 * n + 32) s)))
-      ∙ ap (λ (i : ℕ). drop i (x ++ drop (32 * n + 32) s)) d
-      ∙ drop-append-add x (drop (32 * n + 32) s) k
-      ∙ drop-drop k (32 * n + 32) s
-      ∙ ap (λ (i : ℕ). drop i s) f)
-
-  pub pages-with : pagesOf (withPage n p s) ≡ updated n p (pagesOf s)
-  unfolding updated
-  pages-with = fun-ext (λ m. go m (same? m n))
-    where
-      go : (m : ℕ) → Same m n → pagesOf (withPage n p s) m ≡ cond (same m n) p (pagesOf s m)
-      go m (is e t _) = rw (t, e) page-same
-      go m (isnt e t _) = rw t (dite (decLt m n) (λ lt. page-before m lt) (λ ge. page-after m (omega (arith, e))))
 
 pub page-long : (n : ℕ) (s : List ℕ) → 32 * n + 32 ≤ length s → length (pagesOf s n) ≡ 32
 unfolding pagesOf

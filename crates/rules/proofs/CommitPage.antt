@@ -1,10 +1,9 @@
 -- A commit page reads back as the map that it was written for, in every proper geometry; every other page is damaged.
 use mathlib.Core.Path.{_≡_, refl, sym, _∙_, ap, subst, subst⁻¹}
 use mathlib.Core.Bool.{Bool, true, false, cond}
-use mathlib.Core.List.{List, [], _∷_}
 use mathlib.Core.Logic.{_≢_}
 use mathlib.Core.Option.{Option, none, some}
-use Prim.Native.Nat.{ℕ, zero, suc, _+_, _-_, _*_, _/_, _%_, _^_, _≤_, _<_}
+use Prim.Native.Nat.{ℕ, _+_, _-_, _*_, _/_, _%_, _^_, _<_}
 use native.Mathlib.Nat.{mod-lt, lt-of-le-of-lt}
 use native.Mathlib.Omega.{arith}
 use lib.Arith.{digits-lt}
@@ -12,7 +11,7 @@ use lib.ListN.{length}
 use lib.Pow.{high, low, shl-lt, pow-add, pow-pos}
 use Rattle.laws.specs.Tests.{same}
 use Rattle.laws.specs.Counting.{count}
-use Rattle.laws.specs.Bytes.{number, bytes, sameList}
+use Rattle.laws.specs.Bytes.{number, sameList}
 use Rattle.laws.proofs.Tests.{Is, is?, yes′, no′}
 use Rattle.laws.proofs.Those.{count-le}
 use Rattle.laws.proofs.Bytes.{number-bytes, bytes-length, sameList-refl, sameList-eq}

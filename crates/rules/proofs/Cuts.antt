@@ -1,19 +1,20 @@
 -- A commit and a recovery cut anywhere: the pages that are there then, how many writes are due, and what is settled.
-use mathlib.Core.Path.{_≡_, refl, sym, _∙_, ap, subst, subst⁻¹}
-use mathlib.Core.Bool.{Bool, true, false, cond, _&&_, _||_, true≢false, false≢true}
-use mathlib.Core.List.{List, [], _∷_, _++_, map}
-use mathlib.Core.Option.{Option, none, some}
-use Prim.Native.Nat.{ℕ, zero, suc, _+_, _-_, _*_, _≤_, _<_}
+use mathlib.Core.Path.{_≡_, refl, sym, _∙_, ap, subst⁻¹}
+use mathlib.Core.Bool.{Bool, true, false, cond, _||_, true≢false}
+use mathlib.Core.List.{List, [], _∷_, _++_}
+use Prim.Native.Nat.{ℕ, zero, suc, _+_, _-_, _*_, _^_, _≤_, _<_}
 use native.Mathlib.Omega.{arith}
 use lib.ListN.{length, take, length-append, length-map}
+use lib.Pow.{pow-pos}
 use lib.Seq.{take-append-le, take-append-add, take-all}
 use Rattle.laws.specs.Tests.{same, under}
 use Rattle.laws.specs.Counting.{those}
-use Rattle.laws.proofs.Tests.{same?, Same, is, isnt, same-refl, ne-false, Is, is?, yes′, no′, under-lt, lt-under, not-under}
+use Rattle.laws.proofs.Tests.{same-refl, ne-false, Is, is?, yes′, no′, under-lt, lt-under, not-under}
 use Rattle.rules.specs.Geometry.{Geometry, Proper, records}
-use Rattle.rules.specs.Store.{Page, Pages, intention, home, mapOf, commitPage, readCommit, isEmptied, emptied, isNamed, settled}
+use Rattle.rules.specs.Store.{Page, Pages, intention, home, mapOf, commitPage, readCommit, isDamaged, isEmptied, emptied, isNamed, settled}
 use Rattle.rules.specs.State.{mem}
 use Rattle.rules.specs.Commit.{PageWrite, sets, written, applied, intentions, homes, marks, commitWrites, recoverWrites}
+use Rattle.rules.proofs.CommitPage.{read-commitPage}
 use Rattle.rules.proofs.Members.{mem-take, those-below, those-is}
 use Rattle.rules.proofs.Shows.{lay, applied-append, take-map, Shows, shows-itself, shows-mark, shows-intentions, shows-homes, names, names-below, settled-shows, names-empty, emptied-zero, names-those}
 
@@ -31,7 +32,7 @@ stage? n k = go (is? (under n k)) (is? (under n (k - suc n)))
     go (yes′ a) (no′ b) = let h : n < k = under-lt n k a in middle (k - suc n) (omega arith) (not-under n (k - suc n) b)
     go (yes′ a) (yes′ b) = let h : n < k = under-lt n k a in late (k - suc n) (omega arith) (under-lt n (k - suc n) b)
 
-not-lt-under : (a b : ℕ) → b ≤ a → under a b ≡ false
+pub not-lt-under : (a b : ℕ) → b ≤ a → under a b ≡ false
 not-lt-under a b h = go (is? (under a b))
   where
     go : Is (under a b) → under a b ≡ false
@@ -177,18 +178,38 @@ module _ (g : Geometry) where
       let st = stage? (length (r ∷ rs)) k in reached-mark f m (r ∷ rs) k s _ st (reach f m (r ∷ rs) below s k st)
 
   -- once all writes are made the commit page is empty
-  pub commit-ends : (k m : ℕ) (rs : List ℕ) (p : Page) → commitDue (length rs) ≤ k → 0 < length rs → committedMark k m rs p ≡ commitPage g 0
+  pub commit-ends : Proper g → (k m : ℕ) (rs : List ℕ) (p : Page) → commitDue (length rs) ≤ k → isEmptied (readCommit g p) ≡ true → isEmptied (readCommit g (committedMark k m rs p)) ≡ true
   unfolding committedMark commitDue markAt
-  commit-ends k m [] p h z = absurd (omega arith)
-  commit-ends k m (r ∷ rs) p h z = go (stage? (suc (length rs)) k)
+  commit-ends proper k m [] p h e = e
+  commit-ends proper k m (r ∷ rs) p h e = go (stage? (suc (length rs)) k)
     where
       due : 2 * suc (length rs) + 2 ≤ k
       due = rw (ne-false (suc (length rs)) 0 (λ e. omega arith)) at h
 
-      go : (st : Stage (suc (length rs)) k) → markAt m st p ≡ commitPage g 0
+      go : (st : Stage (suc (length rs)) k) → isEmptied (readCommit g (markAt m st p)) ≡ true
       go (early a) = absurd (omega (arith, due))
       go (middle j e a) = absurd (omega (arith, due))
-      go (late j e a) = refl
+      go (late j e a) = emptied-zero g proper
+
+  -- wherever it is cut, the commit page is one that can be read
+  pub commit-readable : Proper g → (k m : ℕ) → m < 2 ^ records g → (rs : List ℕ) (p : Page) → isDamaged (readCommit g p) ≡ false → isDamaged (readCommit g (committedMark k m rs p)) ≡ false
+  unfolding committedMark markAt isDamaged
+  commit-readable proper k m small [] p e = e
+  commit-readable proper k m small (r ∷ rs) p e = go (stage? (suc (length rs)) k)
+    where
+      go : (st : Stage (suc (length rs)) k) → isDamaged (readCommit g (markAt m st p)) ≡ false
+      go (early a) = e
+      go (middle j q a) = rw (read-commitPage g proper m small)
+      go (late j q a) = rw (read-commitPage g proper 0 (pow-pos (records g)))
+
+  pub recover-readable : Proper g → (k : ℕ) (rs : List ℕ) (p : Page) → isDamaged (readCommit g p) ≡ false → isDamaged (readCommit g (recoveredMark k rs p)) ≡ false
+  unfolding recoveredMark isDamaged
+  recover-readable proper k [] p e = e
+  recover-readable proper k (r ∷ rs) p e = go (under (suc (length rs)) k)
+    where
+      go : (b : Bool) → isDamaged (readCommit g (cond b (commitPage g 0) p)) ≡ false
+      go true = rw (read-commitPage g proper 0 (pow-pos (records g)))
+      go false = e
 
   module _ (f : ℕ → Page) (rs : List ℕ) (s : Pages) where
     recover-early : (k : ℕ) → k ≤ length rs → Shows g (applied (take k (homes g f rs ++ (marks g 0 ∷ []))) s) (s 0) (plan-of s) (lay f (take k rs) (home-of s))
@@ -213,10 +234,12 @@ module _ (g : Geometry) where
       go (yes′ a) = rw a (recover-late f (r ∷ rs) s k (under-lt _ _ a) .at-mark)
       go (no′ a) = rw a (recover-early f (r ∷ rs) s k (not-under _ _ a) .at-mark)
 
-  pub recover-ends : (k : ℕ) (rs : List ℕ) (p : Page) → recoverDue (length rs) ≤ k → 0 < length rs → recoveredMark k rs p ≡ commitPage g 0
+  pub recover-ends : Proper g → (k : ℕ) (rs : List ℕ) (p : Page) → recoverDue (length rs) ≤ k → (rs ≡ [] → isEmptied (readCommit g p) ≡ true) → isEmptied (readCommit g (recoveredMark k rs p)) ≡ true
   unfolding recoveredMark recoverDue
-  recover-ends k [] p h z = absurd (omega arith)
-  recover-ends k (r ∷ rs) p h z = let due : suc (length rs) + 1 ≤ k = rw (ne-false (suc (length rs)) 0 (λ e. omega arith)) at h in rw (lt-under (suc (length rs)) k (omega (arith, due)))
+  recover-ends proper k [] p h e = e refl
+  recover-ends proper k (r ∷ rs) p h e =
+      let due : suc (length rs) + 1 ≤ k = rw (ne-false (suc (length rs)) 0 (λ e. omega arith)) at h in
+      rw (lt-under (suc (length rs)) k (omega (arith, due))) (emptied-zero g proper)
 
   -- a recovery cut at k: every record is settled as before
   pub recover-settled : (s : Pages) (k r : ℕ) → Proper g
@@ -244,12 +267,13 @@ module _ (g : Geometry) where
               ∙ ap (λ b. cond b (plan-of s r) (home-of s r)) e
               ∙ sym before
 
+  -- where the commit page is empty the home pages are settled
+  pub home-settled : (s : Pages) → emptied g s ≡ true → (r : ℕ) → settled g s r ≡ s (home g r)
+  unfolding emptied home-of
+  home-settled s empty r = settled-shows g (start s) r ∙ rw (names-empty g (s 0) empty r)
+
   -- a commit over an empty commit page, cut at k: all its versions are settled if the commit record is written, and none if it isn't
   module _ (proper : Proper g) (f : ℕ → Page) (p : ℕ → Bool) (k : ℕ) (s : Pages) (empty : emptied g s ≡ true) (r : ℕ) where
-    home-settled : settled g s r ≡ s (home g r)
-    unfolding emptied home-of
-    home-settled = settled-shows g (start s) r ∙ rw (names-empty g (s 0) empty r)
-
     reached-settled : (rs : List ℕ) → those (records g) p ≡ rs → (st : Stage (length rs) k) (x : Pages) → Reached f (mapOf g p) rs k s st x
         → settled g x r ≡ cond (under (length rs) k) (cond (mem r rs) (f r) (s (home g r))) (s (home g r))
     unfolding Reached emptied home-of lay
@@ -262,7 +286,7 @@ module _ (g : Geometry) where
     pub commit-settled : (rs : List ℕ) → those (records g) p ≡ rs
         → settled g (applied (take k (commitWrites g f (mapOf g p) rs)) s) r ≡ cond (same (length rs) 0 || under (length rs) k) (cond (mem r rs) (f r) (s (home g r))) (s (home g r))
     unfolding commitWrites mem body
-    commit-settled [] q = ap (λ x. settled g x r) (take-none k s) ∙ home-settled ∙ rw (same-refl 0)
+    commit-settled [] q = ap (λ x. settled g x r) (take-none k s) ∙ home-settled s empty r ∙ rw (same-refl 0)
     commit-settled (a ∷ rs) q =
         let st = stage? (length (a ∷ rs)) k in
         reached-settled (a ∷ rs) q st _ (reach f (mapOf g p) (a ∷ rs) (λ z e. those-below (records g) p z (rw q e)) s k st)

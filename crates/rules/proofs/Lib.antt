@@ -2,6 +2,11 @@ pub mod Trials
 pub mod Medium
 pub mod Tree
 pub mod Bearers
+pub mod Acceptance
+pub mod Locks
+pub mod Owners
+pub mod Parts
+pub mod Soundness
 pub mod Editions
 pub mod Map
 pub mod CommitPage
@@ -9,8 +14,7 @@ pub mod Members
 pub mod Shows
 pub mod Cuts
 pub mod Pages
-pub mod Acceptance
-pub mod Locks
-pub mod Owners
-pub mod Parts
-pub mod Soundness
+pub mod AtomicPages
+pub mod Event
+pub mod Durability
+pub mod Fresh

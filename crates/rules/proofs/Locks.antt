@@ -110,6 +110,9 @@ module _ {f : Form} {s : StateOf f} (S : Sound f s) where
   pub version-live : (t r : ℕ) → isSome (s .version t r) ≡ true → live s t ≡ true
   version-live t r v = has-live r t (owned-of .by-lock t r v)
 
+  pub no-version : (t r : ℕ) → live s t ≡ false → isSome (s .version t r) ≡ false
+  no-version t r e = refute (isSome (s .version t r)) (λ v. clash (version-live t r v) e)
+
   -- all that have versions of one record are on one line, at different depths
   pub versions-in-line : (j k r : ℕ) → isSome (s .version j r) ≡ true → isSome (s .version k r) ≡ true → inLine (s .bearer) j k ≡ true
   unfolding inLine

@@ -1,17 +1,17 @@
 -- The map of a set of records names exactly those records, and is 0 exactly where there are none.
 use mathlib.Core.Path.{_≡_, refl, sym, _∙_, ap}
-use mathlib.Core.Bool.{Bool, true, false, cond, true≢false}
-use Prim.Native.Nat.{ℕ, zero, suc, _+_, _-_, _*_, _/_, _%_, _^_, _≤_, _<_}
+use mathlib.Core.Bool.{Bool, true, false, cond}
+use Prim.Native.Nat.{ℕ, zero, suc, _+_, _-_, _*_, _/_, _%_, _^_, _<_}
 use lib.Arith.{mod-mul}
 use lib.Pow.{pow-pos}
 use native.Mathlib.Nat.{mod-eq-of-lt, pow-suc, div-one, div-div-eq-div-mul, mul-comm, zero-div}
 use native.Mathlib.Omega.{arith}
 use Rattle.laws.specs.Tests.{same}
-use Rattle.laws.proofs.Tests.{same?, Same, is, isnt, same-eq, same-refl, ne-false}
+use Rattle.laws.proofs.Tests.{same?, Same, is, isnt, same-refl, ne-false}
 use Rattle.rules.specs.Geometry.{Geometry, records}
 use Rattle.rules.specs.Store.{bitsFrom, named, mapOf}
 
-bits-lt : (n : ℕ) (p : ℕ → Bool) → bitsFrom n p < 2 ^ n
+pub bits-lt : (n : ℕ) (p : ℕ → Bool) → bitsFrom n p < 2 ^ n
 unfolding bitsFrom
 bits-lt zero p = omega arith
 bits-lt (suc n) p = rw pow-suc (go (p n) (bits-lt n p))

@@ -1,5 +1,5 @@
 -- Membership in the list of the numbers below a bound of which a test holds.
-use mathlib.Core.Path.{_≡_, refl, sym, _∙_, ap}
+use mathlib.Core.Path.{_≡_, refl, sym, _∙_}
 use mathlib.Core.Bool.{Bool, true, false, cond, _||_, true≢false, false≢true, or-false, or-true}
 use mathlib.Core.List.{List, [], _∷_, _++_}
 use Prim.Native.Nat.{ℕ, zero, suc, _<_}
@@ -8,11 +8,8 @@ use lib.ListN.{take}
 use Rattle.laws.specs.Tests.{same}
 use Rattle.laws.specs.Counting.{those}
 use Rattle.laws.proofs.Tests.{same?, Same, is, isnt, same-eq, same-refl, Is, is?, yes′, no′}
+use Rattle.laws.proofs.Booleans.{or-cases}
 use Rattle.rules.specs.State.{mem}
-
-or-cases : {A : Type 0} (a b : Bool) → (a || b) ≡ true → (a ≡ true → A) → (b ≡ true → A) → A
-or-cases true b e f g = f refl
-or-cases false b e f g = g e
 
 pub mem-head : (q : ℕ) (rs : List ℕ) → mem q (q ∷ rs) ≡ true
 unfolding mem

@@ -1,16 +1,15 @@
 -- A store as numbered pages and as a list of bytes: the two ways between them, and a page write in the bytes.
 use mathlib.Core.Path.{_≡_, refl, sym, _∙_, ap, fun-ext}
-use mathlib.Core.Bool.{Bool, true, false, cond}
-use mathlib.Core.List.{List, [], _∷_, _++_, append-assoc}
+use mathlib.Core.List.{List, [], _++_, append-assoc}
 use Prim.Native.Nat.{ℕ, zero, suc, _+_, _-_, _*_, _≤_, _<_}
 use native.Mathlib.Omega.{arith}
 use lib.ListN.{length, take, drop, length-append, length-drop, take-append-drop, drop-of-length-le}
 use lib.Seq.{length-take-le, take-add, take-at, drop-at, take-append-le, drop-append-le, drop-append-add, drop-drop, take-all, take-nil}
-use Rattle.laws.specs.Tests.{same, under}
+use Rattle.laws.specs.Tests.{under}
 use Rattle.laws.specs.Functions.{updated}
 use Rattle.laws.proofs.Tests.{same?, Same, is, isnt, Is, is?, yes′, no′, under-lt, not-under}
 use Rattle.laws.proofs.Updated.{updated-same, updated-other}
-use Rattle.rules.specs.Geometry.{Geometry, pageSize, pageCount}
+use Rattle.rules.specs.Geometry.{pageSize}
 use Rattle.rules.specs.Store.{Page, Pages, pagesOf, flat}
 
 -- n pages of the page's size, and nothing beyond them
@@ -40,7 +39,7 @@ pagesOf-sized n bs h = record {
   beyond = λ p k. ap (take 32) (drop-of-length-le bs {i = 32 * p} (omega arith)) ∙ take-nil 32;
 }
 
-flat-length : (n : ℕ) (s : Pages) → ((p : ℕ) → p < n → length (s p) ≡ 32) → length (flat n s) ≡ 32 * n
+pub flat-length : (n : ℕ) (s : Pages) → ((p : ℕ) → p < n → length (s p) ≡ 32) → length (flat n s) ≡ 32 * n
 unfolding flat
 flat-length zero s h = refl
 flat-length (suc n) s h = length-append (flat n s) (s n) ∙ rw (flat-length n s (λ p k. h p (omega arith)), h n (omega arith)) (omega arith)
@@ -51,7 +50,7 @@ front xs ys q h =
     ap (take 32) (drop-append-le (32 * q) xs ys (omega arith))
     ∙ take-append-le 32 (drop (32 * q) xs) ys (rw (length-drop (32 * q) xs) (omega arith))
 
-flat-page : (n : ℕ) (s : Pages) → ((p : ℕ) → p < n → length (s p) ≡ 32) → (p : ℕ) → p < n → pagesOf (flat n s) p ≡ s p
+pub flat-page : (n : ℕ) (s : Pages) → ((p : ℕ) → p < n → length (s p) ≡ 32) → (p : ℕ) → p < n → pagesOf (flat n s) p ≡ s p
 unfolding flat pagesOf
 flat-page zero s h p k = absurd (omega arith)
 flat-page (suc n) s h p k = go (same? p n) (λ l. flat-page n s (λ p k. h p (omega arith)) p l)

@@ -2,24 +2,23 @@
 use mathlib.Core.Path.{_≡_, refl, sym, _∙_, ap}
 use mathlib.Core.Bool.{Bool, true, false, cond, _&&_, _||_, true≢false, false≢true}
 use mathlib.Core.List.{List, [], _∷_, _++_, map}
-use mathlib.Core.Logic.{_≢_}
 use mathlib.Core.Option.{Option, none, some}
-use Prim.Native.Nat.{ℕ, zero, suc, _+_, _^_, _<_}
+use Prim.Native.Nat.{ℕ, zero, suc, _+_, _<_}
 use native.Mathlib.Omega.{arith}
 use lib.Pow.{pow-pos}
-use lib.ListN.{length, take, length-map}
+use lib.ListN.{take}
 use Rattle.laws.specs.Tests.{same, under}
 use Rattle.laws.specs.Counting.{those}
 use Rattle.laws.specs.Functions.{updated}
 use Rattle.laws.proofs.Tests.{same?, Same, is, isnt, same-eq, same-refl, Is, is?, yes′, no′, under-lt, lt-under}
 use Rattle.laws.proofs.Updated.{updated-same, updated-other}
 use Rattle.rules.specs.Geometry.{Geometry, Proper, records}
-use Rattle.rules.specs.Store.{Page, Pages, intention, home, mapOf, named, commitPage, readCommit, mapIn, isEmptied, emptied, isNamed, settled}
+use Rattle.rules.specs.Store.{Page, Pages, intention, home, mapOf, named, commitPage, readCommit, mapIn, isEmptied, isNamed, settled}
 use Rattle.rules.specs.State.{mem}
-use Rattle.rules.specs.Commit.{PageWrite, sets, written, applied, intentions, homes, marks}
+use Rattle.rules.specs.Commit.{PageWrite, written, applied, intentions, homes}
 use Rattle.rules.proofs.Map.{named-mapOf, mapOf-lt, named-zero}
 use Rattle.rules.proofs.CommitPage.{read-commitPage}
-use Rattle.rules.proofs.Members.{mem-head, mem-later, those-only, those-all, those-below, those-is}
+use Rattle.rules.proofs.Members.{mem-head, mem-later, those-only, those-all, those-below}
 
 -- f on the records of a list, base elsewhere
 unfoldable pub lay : (ℕ → Page) → List ℕ → (ℕ → Page) → ℕ → Page
@@ -114,6 +113,11 @@ module _ (g : Geometry) where
       go : Is (under r (records g)) → r < records g
       go (yes′ k) = under-lt r (records g) k
       go (no′ k) = absurd (false≢true (rw k at e))
+
+  -- only records are named
+  pub isNamed-below : (s : Pages) (r : ℕ) → isNamed g s r ≡ true → r < records g
+  unfolding isNamed names
+  isNamed-below s r e = names-below (s 0) r e
 
   pub settled-shows : {x : Pages} {mark : Page} {plan homed : ℕ → Page} → Shows x mark plan homed → (r : ℕ) → settled g x r ≡ cond (names mark r) (plan r) (homed r)
   unfolding settled isNamed names

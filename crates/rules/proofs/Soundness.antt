@@ -25,6 +25,7 @@ use Rattle.rules.specs.Sound.{Sound}
 use Rattle.rules.proofs.Tree.{Lines}
 use Rattle.rules.proofs.Bearers.{begun-line, begun-rooted, ended-line, ended-rooted}
 use Rattle.rules.proofs.Medium.{MediumLaws}
+use Rattle.rules.proofs.Event.{decode-fits}
 use Rattle.rules.proofs.Acceptance.{BeginOk, LockOk, WriteOk, CommitOk, RecoverOk, begin-ok, lock-ok, write-ok, commit-ok, abort-ok, recover-ok, Judged, acts, refuses, judge?}
 use Rattle.rules.proofs.Locks.{has, Owned, Leaf, ChildOf, rooted-of, tree-of, owned-of, has-live, live-line, no-child, beneath-closed, child-line, grant-alone, grant-above}
 use Rattle.rules.proofs.Parts.{sound-of, sound-down}
@@ -301,8 +302,8 @@ module _ (f : Form) (M : MediumLaws (f .geometry) (f .medium)) {s : StateOf f} (
   unfolding step
   shaped-bad = shaped
 
--- a list of words; an event that a word stands for has fields that a word can hold
-module _ (f : Form) (M : MediumLaws (f .geometry) (f .medium)) (fitting : (w : ℕ) (e : Event) → decode (f .geometry) w ≡ some e → fits (f .geometry) e ≡ true) where
+-- a list of words
+module _ (f : Form) (M : MediumLaws (f .geometry) (f .medium)) where
   -- what all states that a run reaches have in common
   pub record Reached (s : StateOf f) : Type 0 where
     pub sound : Sound f s
@@ -317,7 +318,7 @@ module _ (f : Form) (M : MediumLaws (f .geometry) (f .medium)) (fitting : (w : �
     where
       go : (o : Option Event) → decode (f .geometry) w ≡ o → Reached (step f s o .state)
       go none q = record { sound = sound-bad f M (R .sound) (R .shaped); shaped = shaped-bad f M (R .sound) (R .shaped) }
-      go (some e) q = record { sound = sound-step f M (R .sound) (R .shaped) e (fitting w e q); shaped = shaped-step f M (R .sound) (R .shaped) e }
+      go (some e) q = record { sound = sound-step f M (R .sound) (R .shaped) e (decode-fits (f .geometry) w e q); shaped = shaped-step f M (R .sound) (R .shaped) e }
 
   pub reached-play : (s : StateOf f) → Reached s → (ws : List ℕ) → Reached (play f s ws .state)
   unfolding play

@@ -4,8 +4,9 @@ use native.Mathlib.Omega.{arith}
 use mathlib.Core.Path.{_≡_, refl, sym, ap, _∙_}
 use mathlib.Core.List.{List}
 use Prim.Native.Nat.{ℕ, _*_}
-use Rattle.rules.specs.Store.{Page, Pages, pagesOf}
-use Rattle.page.proofs.Pages.{withPage, put-at, pages-with}
+use Rattle.rules.specs.Store.{pagesOf}
+use Rattle.rules.proofs.Pages.{splice, pages-splice}
+use Rattle.page.proofs.Pages.{put-at}
 use borrow.Author.Needs.{needs}
 use Rattle.page.proofs.put_page.Statement.{statement}
 use Rattle.page.proofs.put_page.Tie as tie
@@ -43,13 +44,13 @@ same-length c = search needs
 
 -- src/lib.rt:31:1
 returns : tie.Need-returns
-unfolding withPage
+unfolding splice
 returns c =
     let a = c .before .before .before .before .before .args in
     let s = a .bytes .now in
     let sized : length (a .page) ≡ 32 = search needs in
-    ap pagesOf (put-at (32 * a .n) 32 s (c .before .before .write-page .last .0) ∙ ap (λ (p : List ℕ). withPage (a .n) p s) (c .before .before .write-page .ensures))
-    ∙ pages-with (a .n) (a .page) s sized (omega arith)
+    ap pagesOf (put-at (32 * a .n) 32 s (c .before .before .write-page .last .0) ∙ ap (λ (p : List ℕ). splice (a .n) p s) (c .before .before .write-page .ensures))
+    ∙ pages-splice (a .n) (a .page) s sized (omega arith)
 
 pub put-page-spec : {M : Type 1} → statement M
 put-page-spec =

@@ -1,0 +1,4 @@
+-- The crate's laws
+pub mod Phases
+pub mod Sweeps
+pub mod Plans

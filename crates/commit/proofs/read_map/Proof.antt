@@ -1,0 +1,22 @@
+-- `read_map` reads page 0 and takes what `read_commit` says of it.
+use mathlib.Core.Path.{ap, _∙_}
+use mathlib.Core.List.{List}
+use Prim.Native.Nat.{ℕ}
+use Rattle.rules.specs.Store.{readCommit}
+use Rattle.rules.specs.Editions.{geometry1}
+use Rattle.commitpage.specs.Heard.{heard}
+use borrow.Author.Needs.{needs}
+use Rattle.commit.proofs.read_map.Statement.{statement}
+use Rattle.commit.proofs.read_map.Tie as tie
+
+get-page-requires : tie.Need-get-page-requires
+get-page-requires c κs = search needs
+
+read-commit-requires : tie.Need-read-commit-requires
+read-commit-requires c κs = search needs
+
+returns : tie.Need-returns
+returns c = c .read-commit .ensures ∙ ap (λ (p : List ℕ). heard (readCommit geometry1 p)) (c .before .get-page .ensures)
+
+pub read-map-spec : {M : Type 1} → statement M
+read-map-spec = tie.close (tie.spec get-page-requires read-commit-requires returns)

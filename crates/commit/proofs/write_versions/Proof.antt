@@ -1,0 +1,63 @@
+-- `write_versions` sweeps over the sixteen records. The loop's invariant: the page writes of the records below r are made as far as the count allows.
+use borrow.Author.Needs.{needs}
+use mathlib.Core.Path.{_≡_}
+use Prim.Native.Nat.{_-_, _≤_}
+use native.Mathlib.Omega.{arith}
+use lib.ListN.{length}
+use Rattle.laws.specs.Counting.{those}
+use Rattle.rules.specs.Store.{pagesOf, named}
+use Rattle.rules.specs.Editions.{geometry1}
+use Rattle.commit.specs.Phase.{Phase, sweep, copies, topSlot}
+use Rattle.commit.proofs.Phases.{phase-none}
+use Rattle.commit.proofs.Sweeps.{phase-more}
+use Rattle.commit.proofs.write_versions.Statement.{statement}
+use Rattle.commit.proofs.write_versions.Tie as tie
+
+abbrev Inv-loop : tie.InvT-loop
+Inv-loop store₀ work map first left rest₀ r₀ store rest r =
+    (r ≤ 16) × (length store ≡ 1056) × Phase left (sweep (named geometry1 map) (copies first (topSlot work)) r) (pagesOf store₀) (pagesOf store) rest
+
+abbrev μ-loop : tie.MeasureT-loop
+μ-loop store₀ work map first left rest₀ r₀ store rest r = 16 - r
+
+loop-holds : tie.Need-loop-holds Inv-loop μ-loop
+unfolding sweep those
+loop-holds c = (search needs, search needs, phase-none)
+
+write-version-requires : tie.Need-write-version-requires Inv-loop μ-loop
+write-version-requires c κs = search needs
+
+add-r : tie.Need-add-r Inv-loop μ-loop
+add-r c = search needs
+
+loop-less : tie.Need-loop-less Inv-loop μ-loop
+loop-less c = search needs
+
+loop-again : tie.Need-loop-again Inv-loop μ-loop
+loop-again c =
+    let a = c .before .before .before .before .before .before .before .before .args in
+    let at = c .before .before .before .before .before .loop in (
+      omega arith,
+      search needs,
+      phase-more (named geometry1 (a .map)) (copies (a .first) (topSlot (a .work .now))) (at .r) (at .inv .2) (c .before .before .write-version .ensures),
+    )
+
+same-length : tie.Need-same-length Inv-loop μ-loop
+same-length c = search needs
+
+returns : tie.Need-returns Inv-loop μ-loop
+returns c = let e : c .before .loop .r ≡ 16 = omega arith in rw e at (c .before .loop .inv .2)
+
+pub write-versions-spec : {M : Type 1} → statement M
+write-versions-spec =
+    tie.close
+    (tie.spec
+    Inv-loop
+    μ-loop
+    loop-holds
+    write-version-requires
+    add-r
+    loop-less
+    loop-again
+    same-length
+    returns)

@@ -1,0 +1,44 @@
+-- The event of the rules that an event of each kind stands for.
+use mathlib.Core.Path.{_≡_, refl, ap, _∙_}
+use mathlib.Core.Option.{Option, none, some}
+use Prim.Native.Nat.{ℕ, _<_, _≤_}
+use lib.ListN.{List·getD-eq-default}
+use Rattle.rules.specs.Event.{eventOf, begin, lock, write, read, commit, abort, crash, recover}
+use Rattle.event.specs.Meaning.{meaning, fieldsOf}
+use Rattle.event.specs.declared.Event.{Event}
+
+pub means-bad : (e : Event) → e .kind ≡ 0 → meaning e ≡ none
+unfolding meaning fieldsOf eventOf
+means-bad e h = rw h refl
+
+pub means-begin : (e : Event) → e .kind ≡ 1 → meaning e ≡ some (begin (e .transaction))
+unfolding meaning fieldsOf eventOf
+means-begin e h = rw h refl
+
+pub means-lock : (e : Event) → e .kind ≡ 2 → meaning e ≡ some (lock (e .transaction) (e .rec))
+unfolding meaning fieldsOf eventOf
+means-lock e h = rw h refl
+
+pub means-write : (e : Event) → e .kind ≡ 3 → meaning e ≡ some (write (e .transaction) (e .rec) (e .offset) (e .value))
+unfolding meaning fieldsOf eventOf
+means-write e h = rw h refl
+
+pub means-read : (e : Event) → e .kind ≡ 4 → meaning e ≡ some (read (e .transaction) (e .rec) (e .offset))
+unfolding meaning fieldsOf eventOf
+means-read e h = rw h refl
+
+pub means-commit : (e : Event) → e .kind ≡ 5 → meaning e ≡ some (commit (e .transaction) (e .count))
+unfolding meaning fieldsOf eventOf
+means-commit e h = rw h refl
+
+pub means-abort : (e : Event) → e .kind ≡ 6 → meaning e ≡ some (abort (e .transaction))
+unfolding meaning fieldsOf eventOf
+means-abort e h = rw h refl
+
+pub means-crash : (e : Event) → e .kind ≡ 7 → meaning e ≡ some crash
+unfolding meaning fieldsOf eventOf
+means-crash e h = rw h refl
+
+pub means-recover : (e : Event) → e .kind ≡ 8 → meaning e ≡ some (recover (e .count))
+unfolding meaning fieldsOf eventOf
+means-recover e h = rw h refl

@@ -1,0 +1,159 @@
+// The event word: kind, transaction, record, offset, count and value, most significant first, and the fields that each kind uses.
+ghost use mathlib.Core.Path.{_≡_};
+ghost use mathlib.Core.Bool.{Bool, _||_, _&&_};
+ghost use Prim.Native.Nat.{ℕ, _+_, _*_, _/_, _%_, _<_, _≤_};
+ghost use lib.ListN.{length, take, drop};
+ghost use Rattle.laws.specs.Tests.{same};
+ghost use Rattle.laws.specs.Bytes.{number};
+ghost use Rattle.rules.specs.Event.{decode, word, wellFormed};
+ghost use Rattle.rules.specs.Editions.{geometry1};
+ghost use Rattle.event.specs.Meaning.{meaning, fieldsOf, InRange, Fits};
+
+// An event by its fields. Kind 0 is a bad event.
+pub struct Event {
+    pub kind: u8,
+    pub transaction: u8,
+    pub rec: u8,
+    pub offset: u8,
+    pub count: u8,
+    pub value: u8,
+}
+
+// The fields that a kind uses: 1 transaction, 2 record, 4 offset, 8 count, 16 value; 32 marks a kind that there is.
+const USES: [u8; 16] = [0, 33, 35, 55, 39, 41, 33, 32, 40, 0, 0, 0, 0, 0, 0, 0];
+
+impl Event {
+    // the fields' widths in bits
+    pub const KIND_WIDTH: u32 = 4;
+
+    pub const TRANSACTION_WIDTH: u32 = 5;
+
+    pub const RECORD_WIDTH: u32 = 4;
+
+    pub const OFFSET_WIDTH: u32 = 5;
+
+    pub const COUNT_WIDTH: u32 = 6;
+
+    pub const VALUE_WIDTH: u32 = 8;
+
+    // how many values a field can have
+    pub const KIND_SPAN: u32 = 1 << Self::KIND_WIDTH;
+
+    pub const TRANSACTION_SPAN: u32 = 1 << Self::TRANSACTION_WIDTH;
+
+    pub const RECORD_SPAN: u32 = 1 << Self::RECORD_WIDTH;
+
+    pub const OFFSET_SPAN: u32 = 1 << Self::OFFSET_WIDTH;
+
+    pub const COUNT_SPAN: u32 = 1 << Self::COUNT_WIDTH;
+
+    pub const VALUE_SPAN: u32 = 1 << Self::VALUE_WIDTH;
+
+    // the divisors that bring a field to the word's end
+    pub const VALUE_PLACE: u32 = 1;
+
+    pub const COUNT_PLACE: u32 = Self::VALUE_PLACE * Self::VALUE_SPAN;
+
+    pub const OFFSET_PLACE: u32 = Self::COUNT_PLACE * Self::COUNT_SPAN;
+
+    pub const RECORD_PLACE: u32 = Self::OFFSET_PLACE * Self::OFFSET_SPAN;
+
+    pub const TRANSACTION_PLACE: u32 = Self::RECORD_PLACE * Self::RECORD_SPAN;
+
+    pub const KIND_PLACE: u32 = Self::TRANSACTION_PLACE * Self::TRANSACTION_SPAN;
+
+    // The event that a word stands for.
+    pub fn of_word(w: u32) -> Self
+        ensures { λ r. ⌜ (decode geometry1 w ≡ meaning r) × InRange r ⌝ }
+    {
+        let kind = (w / Self::KIND_PLACE % Self::KIND_SPAN) as u8;
+        let transaction = (w / Self::TRANSACTION_PLACE % Self::TRANSACTION_SPAN) as u8;
+        let rec = (w / Self::RECORD_PLACE % Self::RECORD_SPAN) as u8;
+        let offset = (w / Self::OFFSET_PLACE % Self::OFFSET_SPAN) as u8;
+        let count = (w / Self::COUNT_PLACE % Self::COUNT_SPAN) as u8;
+        let value = (w / Self::VALUE_PLACE % Self::VALUE_SPAN) as u8;
+        if is_well_formed(kind, transaction, rec, offset, count, value) {
+            Event {
+                kind,
+                transaction,
+                rec,
+                offset,
+                count,
+                value,
+            }
+        } else {
+            Event {
+                kind: 0,
+                transaction,
+                rec,
+                offset,
+                count,
+                value,
+            }
+        }
+    }
+
+    // The word of an event whose fields fit.
+    pub fn to_word(e: Event) -> u32
+        requires { ⌜ Fits e ⌝ }
+        ensures { λ r. ⌜ r ≡ word geometry1 (e .kind) (e .transaction) (e .rec) (e .offset) (e .count) (e .value) ⌝ }
+    {
+        let kind = e.kind as u32;
+        let transaction = e.transaction as u32;
+        let rec = e.rec as u32;
+        let offset = e.offset as u32;
+        let count = e.count as u32;
+        let value = e.value as u32;
+        ((((kind * Self::TRANSACTION_SPAN + transaction) * Self::RECORD_SPAN + rec)
+            * Self::OFFSET_SPAN
+            + offset)
+            * Self::COUNT_SPAN
+            + count)
+            * Self::VALUE_SPAN
+            + value
+    }
+
+    // Word k of a list of events: four bytes, most significant first.
+    pub fn word_at(events: &[u8], k: usize) -> u32
+        requires { ⌜ (k < 4096) × (4 * k + 4 ≤ length (now events)) ⌝ }
+        ensures { λ r. ⌜ r ≡ number (take 4 (drop (4 * k) (now (events .entry)))) ⌝ }
+    {
+        let at = 4 * k;
+        wide(events[at]) * 16777216
+            + wide(events[at + 1]) * 65536
+            + wide(events[at + 2]) * 256
+            + wide(events[at + 3])
+    }
+}
+
+// There is such a kind, and each field that it does not use is 0.
+fn is_well_formed(kind: u8, transaction: u8, rec: u8, offset: u8, count: u8, value: u8) -> bool
+    requires { ⌜ kind < 16 ⌝ }
+    ensures { λ r. ⌜ r ≡ wellFormed (fieldsOf kind transaction rec offset count value) ⌝ }
+{
+    let uses = USES[narrow(kind)];
+    let a = used_or_zero(uses % 2, transaction);
+    let b = used_or_zero(uses / 2 % 2, rec);
+    let c = used_or_zero(uses / 4 % 2, offset);
+    let d = used_or_zero(uses / 8 % 2, count);
+    let e = used_or_zero(uses / 16 % 2, value);
+    (uses / 32 % 2 == 1) & a & b & c & d & e
+}
+
+fn used_or_zero(used: u8, x: u8) -> bool
+    ensures { λ r. ⌜ r ≡ (same used 1 || same x 0) ⌝ }
+{
+    (used == 1) | (x == 0)
+}
+
+fn wide(x: u8) -> u32
+    ensures { λ r. ⌜ (r ≡ x) × (r < 256) ⌝ }
+{
+    x as u32
+}
+
+fn narrow(kind: u8) -> usize
+    ensures { λ r. ⌜ r ≡ kind ⌝ }
+{
+    kind as usize
+}

@@ -1,0 +1,42 @@
+-- A checked number is the number that was handed in, and there is none exactly where the rules have none.
+use mathlib.Core.Path.{_≡_, refl, ap, _∙_}
+use mathlib.Core.Bool.{Bool, true, false, cond}
+use Prim.Native.Nat.{ℕ, _<_, min}
+use native.Mathlib.Nat.{min-eq-left, le-of-suc-le-suc}
+use native.Mathlib.Omega.{arith}
+use Rattle.laws.specs.Tests.{under}
+use Rattle.laws.proofs.Tests.{Is, is?, yes′, no′, under-lt}
+use Rattle.rules.specs.Geometry.{transactions, records}
+use Rattle.rules.specs.Editions.{geometry1}
+use Rattle.numbers.specs.Named.{transactionNamed, recordNamed, transactionOf, recordOf}
+use Rattle.numbers.specs.declared.TransactionNumber.{TransactionNumber}
+use Rattle.numbers.specs.declared.TransactionNamed.{TransactionNamed}
+use Rattle.numbers.specs.declared.TransactionNamed.the-variants as T
+use Rattle.numbers.specs.declared.RecordNumber.{RecordNumber}
+use Rattle.numbers.specs.declared.RecordNamed.{RecordNamed}
+use Rattle.numbers.specs.declared.RecordNamed.the-variants as R
+
+-- a transaction with a name: its number, which is below 24, or none, and the name is 24 or above
+pub data NamedAs (n : ℕ) : TransactionNamed → Type 0 where
+  number : (t : TransactionNumber) → transactionOf t ≡ n → under n transactions ≡ true → NamedAs n (T.Number t)
+  noSuch : under n transactions ≡ false → NamedAs n T.NoSuchTransaction
+
+pub transaction-named : (n : ℕ) → NamedAs n (transactionNamed n)
+unfolding transactionNamed transactionOf
+transaction-named n = go (is? (under n transactions))
+  where
+    go : Is (under n transactions) → NamedAs n (transactionNamed n)
+    go (yes′ e) = let h = under-lt n 24 e in rw e (number (record { 0 = n }) (min-eq-left (le-of-suc-le-suc h)) e)
+    go (no′ e) = rw e (noSuch e)
+
+pub data RecordAs (n : ℕ) : RecordNamed → Type 0 where
+  number : (r : RecordNumber) → recordOf r ≡ n → under n (records geometry1) ≡ true → RecordAs n (R.Number r)
+  noSuch : under n (records geometry1) ≡ false → RecordAs n R.NoSuchRecord
+
+pub record-named : (n : ℕ) → RecordAs n (recordNamed n)
+unfolding recordNamed recordOf records
+record-named n = go (is? (under n 16))
+  where
+    go : Is (under n 16) → RecordAs n (recordNamed n)
+    go (yes′ e) = let h = under-lt n 16 e in rw e (number (record { 0 = n }) (min-eq-left (le-of-suc-le-suc h)) e)
+    go (no′ e) = rw e (noSuch e)

@@ -1,0 +1,30 @@
+-- What a number names: a transaction or a record, or no such one.
+use mathlib.Core.Bool.{Bool, cond}
+use Prim.Native.Nat.{ℕ, min}
+use Rattle.laws.specs.Tests.{under}
+use Rattle.rules.specs.Geometry.{transactions, records}
+use Rattle.rules.specs.Editions.{geometry1}
+use Rattle.numbers.specs.declared.TransactionNumber.{TransactionNumber}
+use Rattle.numbers.specs.declared.TransactionNamed.{TransactionNamed}
+use Rattle.numbers.specs.declared.TransactionNamed.the-variants as T
+use Rattle.numbers.specs.declared.RecordNumber.{RecordNumber}
+use Rattle.numbers.specs.declared.RecordNamed.{RecordNamed}
+use Rattle.numbers.specs.declared.RecordNamed.the-variants as R
+
+unfoldable pub transactionNamed : ℕ → TransactionNamed
+transactionNamed n = cond (under n transactions) (T.Number (record { 0 = n })) T.NoSuchTransaction
+
+unfoldable pub recordNamed : ℕ → RecordNamed
+recordNamed n = cond (under n (records geometry1)) (R.Number (record { 0 = n })) R.NoSuchRecord
+
+-- The number itself. A value that no constructor made counts as the last.
+unfoldable pub transactionOf : TransactionNumber → ℕ
+transactionOf t = min (t .0) 23
+
+unfoldable pub recordOf : RecordNumber → ℕ
+recordOf r = min (r .0) 15
+
+-- opens the definitions of this module: for what is proved by computing
+unfoldable pub open-named : Unit {0}
+unfolding transactionNamed recordNamed transactionOf recordOf
+open-named = tt

@@ -1,0 +1,88 @@
+-- What the stable store promises, for readers: a commit settles all its versions or none wherever it is cut, recovery cut any number of times
+-- changes no settled record, neither damages the commit page, and how many page writes each takes.
+use mathlib.Core.Path.{_≡_, refl, sym, _∙_, ap}
+use mathlib.Core.Bool.{true, false, cond}
+use mathlib.Core.List.{List, [], _∷_}
+use mathlib.Core.Logic.{_⊎_, inl, inr}
+use mathlib.Core.Option.{Option}
+use Prim.Native.Nat.{ℕ, _+_, _*_, _<_}
+use Rattle.laws.specs.Tests.{same, under}
+use Rattle.laws.proofs.Tests.{Is, is?, yes′, no′, under-lt}
+use Rattle.rules.specs.Geometry.{Geometry, Proper}
+use Rattle.rules.specs.Store.{Page, Pages, readCommit, isDamaged, damaged, emptied, settled}
+use Rattle.rules.specs.Versions.{else}
+use Rattle.rules.specs.Commit.{commitAt, recoverAt}
+use Rattle.rules.specs.Form.{atomicPages}
+use Rattle.rules.proofs.Medium.{changedIn, stored, Ranged, MediumLaws}
+use Rattle.rules.proofs.Map.{mapOf-lt}
+use Rattle.rules.proofs.Cuts.{commitDue, recoverDue, commit-readable, recover-readable}
+use Rattle.rules.proofs.AtomicPages.{madeOf, namedIn, commit-made, commit-crashed, commit-page, recover-made, recover-crashed, recover-page, atomic-laws}
+
+-- made of a list of writes that was cut, or wasn't
+cut-made : (k due : ℕ) → under k due ≡ true → (madeOf k due ≡ k) × (k < due)
+unfolding madeOf
+cut-made k due e = (rw e, under-lt k due e)
+
+whole-made : (k due : ℕ) → under k due ≡ false → madeOf k due ≡ due
+unfolding madeOf
+whole-made k due e = rw e
+
+module _ (g : Geometry) where
+  -- recoveries one after another, each cut at its count
+  unfoldable pub recoveries : Pages → List ℕ → Pages
+  recoveries s [] = s
+  recoveries s (k ∷ ks) = recoveries (recoverAt g s k .store) ks
+
+  -- a commit that changes n records and is not cut takes 2n + 2 page writes, or none for no record
+  pub commit-due : (s : Pages) (v : ℕ → Option Page) (k : ℕ) → commitAt g s v k .crashed ≡ false
+      → commitAt g s v k .made ≡ cond (same (changedIn g v) 0) 0 (2 * changedIn g v + 2)
+  unfolding commitDue
+  commit-due s v k e = commit-made g s v k ∙ whole-made k (commitDue (changedIn g v)) (sym (commit-crashed g s v k) ∙ e)
+
+  -- one that is cut at k makes exactly k, fewer than it should
+  pub commit-cut : (s : Pages) (v : ℕ → Option Page) (k : ℕ) → commitAt g s v k .crashed ≡ true
+      → (commitAt g s v k .made ≡ k) × (k < cond (same (changedIn g v) 0) 0 (2 * changedIn g v + 2))
+  unfolding commitDue
+  commit-cut s v k e =
+      let c = cut-made k (commitDue (changedIn g v)) (sym (commit-crashed g s v k) ∙ e) in (commit-made g s v k ∙ c .0, c .1)
+
+  -- a recovery over a commit page that names c records and is not cut takes c + 1 page writes, or none for no record
+  pub recover-due : (s : Pages) (k : ℕ) → recoverAt g s k .crashed ≡ false → recoverAt g s k .made ≡ cond (same (namedIn g s) 0) 0 (namedIn g s + 1)
+  unfolding recoverDue
+  recover-due s k e = recover-made g s k ∙ whole-made k (recoverDue (namedIn g s)) (sym (recover-crashed g s k) ∙ e)
+
+  pub recover-cut : (s : Pages) (k : ℕ) → recoverAt g s k .crashed ≡ true → (recoverAt g s k .made ≡ k) × (k < cond (same (namedIn g s) 0) 0 (namedIn g s + 1))
+  unfolding recoverDue
+  recover-cut s k e =
+      let c = cut-made k (recoverDue (namedIn g s)) (sym (recover-crashed g s k) ∙ e) in (recover-made g s k ∙ c .0, c .1)
+
+  module _ (proper : Proper g) where
+    laws : MediumLaws g (atomicPages g)
+    laws = atomic-laws g proper
+
+    -- recoveries, however many and wherever each is cut, change no settled record
+    pub recoveries-keep : (s : Pages) (ks : List ℕ) (r : ℕ) → settled g (recoveries s ks) r ≡ settled g s r
+    unfolding recoveries
+    recoveries-keep s [] r = refl
+    recoveries-keep s (k ∷ ks) r = recoveries-keep (recoverAt g s k .store) ks r ∙ laws .recover-settled s k r
+
+    pub recoveries-sound : (s : Pages) (ks : List ℕ) → damaged g s ≡ false → damaged g (recoveries s ks) ≡ false
+    unfolding recoveries damaged
+    recoveries-sound s [] e = e
+    recoveries-sound s (k ∷ ks) e =
+        recoveries-sound (recoverAt g s k .store) ks (ap (λ p. isDamaged (readCommit g p)) (recover-page g s k) ∙ recover-readable g proper k _ (s 0) e)
+
+    -- a commit leaves a commit page that can be read, wherever it is cut
+    pub commit-sound : (s : Pages) (v : ℕ → Option Page) (k : ℕ) → damaged g s ≡ false → damaged g (commitAt g s v k .store) ≡ false
+    unfolding damaged
+    commit-sound s v k e = ap (λ p. isDamaged (readCommit g p)) (commit-page g s v k) ∙ commit-readable g proper k _ (mapOf-lt g _) _ (s 0) e
+
+    -- a commit settles all its versions or none, wherever it is cut, and so it stays through any recoveries
+    pub commit-all-or-none : (s : Pages) (v : ℕ → Option Page) (k : ℕ) (ks : List ℕ) → emptied g s ≡ true → Ranged g v
+        → ((r : ℕ) → settled g (recoveries (commitAt g s v k .store) ks) r ≡ else (v r) (settled g s r)) ⊎ ((r : ℕ) → settled g (recoveries (commitAt g s v k .store) ks) r ≡ settled g s r)
+    commit-all-or-none s v k ks empty ranged = go (is? (stored (changedIn g v) (commitAt g s v k .made)))
+      where
+        go : Is (stored (changedIn g v) (commitAt g s v k .made))
+            → ((r : ℕ) → settled g (recoveries (commitAt g s v k .store) ks) r ≡ else (v r) (settled g s r)) ⊎ ((r : ℕ) → settled g (recoveries (commitAt g s v k .store) ks) r ≡ settled g s r)
+        go (yes′ q) = inl λ r. recoveries-keep (commitAt g s v k .store) ks r ∙ laws .commit-kept s v k r empty ranged q
+        go (no′ q) = inr λ r. recoveries-keep (commitAt g s v k .store) ks r ∙ laws .commit-lost s v k r empty q
