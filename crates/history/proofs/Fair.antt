@@ -10,7 +10,7 @@ use Rattle.laws.specs.Tests.{same, under}
 use Rattle.laws.specs.Functions.{updated}
 use Rattle.laws.proofs.Tests.{same?, Same, is, isnt, same-refl, ne-false, Is, is?, yes′, no′}
 use Rattle.laws.proofs.Booleans.{clash}
-use Rattle.rules.specs.Event.{Event, begin, lock, write, read, commit, abort, crash, recover, decode, fits}
+use Rattle.rules.specs.Event.{Event, begin, lock, write, read, commit, abort, crash, recover, decode}
 use Rattle.rules.specs.State.{free, lineOf, mem, State, live, down, open-state}
 use Rattle.rules.specs.Commit.{Cut}
 use Rattle.rules.specs.Form.{Form, Medium}
@@ -149,8 +149,8 @@ module _ (f : Form) {s : StateOf f} (S : Sound f s) (φ : Root → Root) where
       go (acts q k) = subst⁻¹ (λ (o : OutcomeOf f). Keeps e o) k (fair-act e q)
       go (refuses n q k) = subst⁻¹ (λ (o : OutcomeOf f). Keeps e o) k (λ F. F)
 
-module _ (f : Form) (M : MediumLaws (f .geometry) (f .medium)) (fitting : (w : ℕ) (e : Event) → decode (f .geometry) w ≡ some e → fits (f .geometry) e ≡ true) where
-  pub fair-run : {s : StateOf f} (ws : List ℕ) → Reached f M fitting s → Fair (lineOf (s .bearer)) (future f s ws)
+module _ (f : Form) (M : MediumLaws (f .geometry) (f .medium)) where
+  pub fair-run : {s : StateOf f} (ws : List ℕ) → Reached f M s → Fair (lineOf (s .bearer)) (future f s ws)
   unfolding future
   fair-run {s} [] R = fair-end (lineOf (s .bearer))
-  fair-run {s} (w ∷ ws) R = fair-step f (R .sound) (future f (stepOf f s w .state) ws) (decode (f .geometry) w) (fair-run ws (reached-word f M fitting R w))
+  fair-run {s} (w ∷ ws) R = fair-step f (R .sound) (future f (stepOf f s w .state) ws) (decode (f .geometry) w) (fair-run ws (reached-word f M R w))

@@ -9,3 +9,4 @@ pub mod Runs
 pub mod Fair
 pub mod Twins
 pub mod TwoRuns
+pub mod Demand3

@@ -10,7 +10,7 @@ use Rattle.laws.specs.Tests.{same, open-tests}
 use Rattle.laws.proofs.Tests.{ne-false}
 use Rattle.rules.specs.Geometry.{Geometry, records}
 use Rattle.rules.specs.Store.{Page}
-use Rattle.rules.specs.Event.{Event, decode, fits}
+use Rattle.rules.specs.Event.{Event, decode}
 use Rattle.rules.specs.State.{State, live, lineOf, down, open-state}
 use Rattle.rules.specs.Versions.{open-versions}
 use Rattle.rules.specs.Form.{Form, Medium}
@@ -65,9 +65,9 @@ module _ (f : Form) where
   future s [] c = c
   future s (w ∷ ws) c = future (stepOf s w .state) ws (turn f s (decode (f .geometry) w) (stepOf s w .answer) c)
 
-module _ (f : Form) (M : MediumLaws (f .geometry) (f .medium)) (fitting : (w : ℕ) (e : Event) → decode (f .geometry) w ≡ some e → fits (f .geometry) e ≡ true) where
+module _ (f : Form) (M : MediumLaws (f .geometry) (f .medium)) where
   abbrev pub ReachedBy : StateOf f → Type 0
-  ReachedBy s = Reached f M fitting s
+  ReachedBy s = Reached f M s
 
   pub run-after : {start : ℕ → Page} {s : StateOf f} {h : History} {root : ℕ → Root} (ws : List ℕ) → ReachedBy s → Holds f start s h root
       → After f start (play f s ws .state) h (history (f .geometry) h (rowsFrom f s ws)) root (future f s ws)
@@ -75,7 +75,7 @@ module _ (f : Form) (M : MediumLaws (f .geometry) (f .medium)) (fitting : (w : �
   run-after {root = root} [] R H = record { root′ = root; turned = λ i k. refl; grown = omega arith; tells = H }
   run-after {start} {s} {h} {root} (w ∷ ws) R H =
       let A = step-after f M (R .sound) H (decode (f .geometry) w) in
-      let B = run-after ws (reached-word f M fitting R w) (A .tells) in
+      let B = run-after ws (reached-word f M R w) (A .tells) in
       let le : h .begun ≤ toldOf f h s w .begun = A .grown in
       subst⁻¹ (λ (h′ : History). After f start (play f (stepOf f s w .state) ws .state) h (history (f .geometry) h′ (rowsFrom f (stepOf f s w .state) ws)) root (λ c. future f (stepOf f s w .state) ws (turn f s (decode (f .geometry) w) (stepOf f s w .answer) c)))
       (heard-is f h s w)

@@ -190,7 +190,7 @@ module _ (f : Form) (M : MediumLaws (f .geometry) (f .medium)) {s : StateOf f} {
           })
       go true e W =
           let A = M .agree-commit (s .store) d (s .version x) (ver x) k calm ranged (W .stores) (λ r. W .shape x r)
-              (λ z r. W .alike x r (rw (rw (ne-false (changedOf f s x) 0 (λ q. let n : 0 < changedOf f s x = M .commit-cut (s .store) (s .version x) k e in omega arith)) at z, same-refl x) on-settled)) in
+          (λ z r. W .alike x r (rw (rw (ne-false (changedOf f s x) 0 (λ q. let n : 0 < changedOf f s x = M .commit-cut (s .store) (s .version x) k e in omega arith)) at z, same-refl x) on-settled)) in
           subst⁻¹ (λ (b : Bool). Next f M ψ φ (some (commit x k)) (concluded (endedState s (λ j. same j x) (c .store)) c true) (concluded (endedState (swap f s ver d) (λ j. same j x) (c′ .store)) c′ b)) (A .2 ∙ e)
           (record {
             ver = λ j r. none;

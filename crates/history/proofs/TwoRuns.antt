@@ -9,7 +9,7 @@ use Rattle.laws.specs.Tests.{same}
 use Rattle.laws.proofs.Booleans.{clash}
 use Rattle.rules.specs.Geometry.{Geometry, records}
 use Rattle.rules.specs.Store.{Page}
-use Rattle.rules.specs.Event.{Event, begin, lock, write, read, commit, abort, crash, recover, decode, fits}
+use Rattle.rules.specs.Event.{Event, begin, lock, write, read, commit, abort, crash, recover, decode}
 use Rattle.rules.specs.State.{lineOf, Versions, State, live, holds, down}
 use Rattle.rules.specs.Form.{Form, Medium}
 use Rattle.rules.specs.Step.{Answer, done, refused, cut, numberOf, valueOf, Outcome, StateOf, OutcomeOf, hasChild, firstFree, begun, locked, finished, refusals, refusal, commitsChild, commits, act, judged, step}
@@ -96,7 +96,7 @@ accepted-none f s e a = go (judge? f s e)
     go (acts q k) = q
     go (refuses n q k) = absurd (false≢true (rw k at a))
 
-module _ (f : Form) (M : MediumLaws (f .geometry) (f .medium)) (fitting : (w : ℕ) (e : Event) → decode (f .geometry) w ≡ some e → fits (f .geometry) e ≡ true) (final : ℕ → Bool) where
+module _ (f : Form) (M : MediumLaws (f .geometry) (f .medium)) (final : ℕ → Bool) where
   abbrev g : Geometry
   g = f .geometry
 
@@ -104,9 +104,9 @@ module _ (f : Form) (M : MediumLaws (f .geometry) (f .medium)) (fitting : (w : �
   abbrev Final : StateOf f → History → List ℕ → Type 0
   Final s h ws = (i : ℕ) → final i ≡ survives (history g h (rowsFrom f s ws)) i
 
-  module _ {start : ℕ → Page} {s : StateOf f} {h : History} {root : ℕ → Root} (R : Reached f M fitting s) (H : Holds f start s h root) (w : ℕ) (ws : List ℕ) (K : Final s h (w ∷ ws)) where
+  module _ {start : ℕ → Page} {s : StateOf f} {h : History} {root : ℕ → Root} (R : Reached f M s) (H : Holds f start s h root) (w : ℕ) (ws : List ℕ) (K : Final s h (w ∷ ws)) where
     bearer-final : (t : ℕ) → live s t ≡ true → final (h .bearer t) ≡ isSettled (future f s (w ∷ ws) (at t))
-    bearer-final t e = K (h .bearer t) ∙ final-is f M fitting (w ∷ ws) R H t e
+    bearer-final t e = K (h .bearer t) ∙ final-is f M (w ∷ ws) R H t e
 
     to-match : (s′ : StateOf f) (u : ℕ) → SameEvent g final h (rowBy w (stepOf f s w .answer)) (rowBy u (stepOf f s′ u .answer)) → Match f (future f s (w ∷ ws)) s (decode g w) (decode g u)
     unfolding belongs names bearerOf
@@ -127,7 +127,7 @@ module _ (f : Form) (M : MediumLaws (f .geometry) (f .medium)) (fitting : (w : �
         let open-to : refusal f s (read t r o) ≡ none = accepted-none f s (read t r o) (rw q at acc) in
         other-byte t r o q (rw (answer-back f s w) acc) (bearer-final t (read-ok f s t r o open-to .alive) ∙ not-settled _ n) (ap numberOf p′ ∙ sym (ap numberOf p))
 
-  pub twice : {start : ℕ → Page} {s : StateOf f} {h : History} {root : ℕ → Root} (R : Reached f M fitting s) (H : Holds f start s h root) (ver : Versions) (d : f .medium .Store) (ws us : List ℕ)
+  pub twice : {start : ℕ → Page} {s : StateOf f} {h : History} {root : ℕ → Root} (R : Reached f M s) (H : Holds f start s h root) (ver : Versions) (d : f .medium .Store) (ws us : List ℕ)
       → Final s h ws → Twin f M (future f s ws) s ver d
       → Along g (SameEvent g final) h (rowsFrom f s ws) (rowsFrom f (swap f s ver d) us)
       → Along g (SameAnswer g final) h (rowsFrom f s ws) (rowsFrom f (swap f s ver d) us) × M .Agree (play f s ws .state .store) (play f (swap f s ver d) us .state .store)
@@ -137,8 +137,8 @@ module _ (f : Form) (M : MediumLaws (f .geometry) (f .medium)) (fitting : (w : �
   twice R H ver d (w ∷ ws) [] K W E = absurd E
   twice {start} {s} {h} R H ver d (w ∷ ws) (u ∷ us) K W E =
       let A = step-after f M (R .sound) H (decode g w) in
-      let R′ = reached-word f M fitting R w in
-      let F′ = fair-run f M fitting ws R′ in
+      let R′ = reached-word f M R w in
+      let F′ = fair-run f M ws R′ in
       let N = twin-step f M (R .sound) (future f s₁ ws) ver d (F′ .on-settled) (decode g w) (decode g u) (fair-step f (R .sound) (future f s₁ ws) (decode g w) F′) W (to-match R H w ws K s₂ u (E .0)) in
       let K′ : Final s₁ (toldOf f h s w) ws = subst (λ (h′ : History). Final s₁ h′ ws) (heard-is f h s w) K in
       let E′ = subst (λ (h′ : History). Along g (SameEvent g final) h′ (rowsFrom f s₁ ws) (rowsFrom f (stepOf f s₂ u .state) us)) (heard-is f h s w) (E .1) in
