@@ -10,3 +10,5 @@ pub mod Fair
 pub mod Twins
 pub mod TwoRuns
 pub mod Demand3
+pub mod Claims
+pub mod Trials

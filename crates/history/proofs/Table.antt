@@ -118,7 +118,7 @@ module _ {b : Bearers} {h : History} {root : ℕ → Root} (T : Table b h root) 
   survives-is i = sym (ap isSettled (table-is i) ∙ entry-settled (h .fate (standsWith h i)))
 
   -- the writes that stand with the transaction of number x
-  stands-is : (x k : ℕ) → isActive (b x) ≡ true → same (standsWith h k) (h .bearer x) ≡ isAt x (root k)
+  pub stands-is : (x k : ℕ) → isActive (b x) ≡ true → same (standsWith h k) (h .bearer x) ≡ isAt x (root k)
   unfolding isBearing
   stands-is x k e = rw (table-is k) (go (h .fate (standsWith h k)) refl (same? (standsWith h k) (h .bearer x)))
     where
