@@ -1,6 +1,6 @@
 -- The central law at each prefix of a list, and what is settled after crashes and recoveries.
-use mathlib.Core.Path.{_≡_, refl, sym, ap, subst, subst⁻¹, _∙_, fun-ext}
-use mathlib.Core.Bool.{Bool, true, false, cond, _&&_, _||_, true≢false, false≢true}
+use mathlib.Core.Path.{_≡_, refl, sym, ap, _∙_}
+use mathlib.Core.Bool.{Bool, true, false, false≢true}
 use mathlib.Core.List.{List, [], _∷_, _++_}
 use mathlib.Core.Option.{Option, none, some}
 use Prim.Native.Nat.{ℕ}
@@ -10,18 +10,18 @@ use Rattle.laws.proofs.Booleans.{and-left, and-right, clash}
 use Rattle.laws.proofs.Tests.{Is, is?, yes′, no′}
 use Rattle.rules.specs.Store.{Page}
 use Rattle.rules.specs.Event.{Event, begin, lock, write, read, commit, abort, crash, recover, decode}
-use Rattle.rules.specs.State.{isActive, lineOf, State, live, down}
-use Rattle.rules.specs.Versions.{isSome, nearest}
+use Rattle.rules.specs.State.{lineOf, live, down}
+use Rattle.rules.specs.Versions.{isSome}
 use Rattle.rules.specs.Commit.{Cut}
-use Rattle.rules.specs.Form.{Form, Medium}
-use Rattle.rules.specs.Step.{Answer, StateOf, OutcomeOf, raised, concluded, finished, visible, refusal, recovers, act, step}
+use Rattle.rules.specs.Form.{Form}
+use Rattle.rules.specs.Step.{StateOf, raised, concluded, finished, visible, recovers, act, step}
 use Rattle.rules.specs.Run.{answerBytes, play}
 use Rattle.rules.proofs.Medium.{MediumLaws}
 use Rattle.rules.proofs.Acceptance.{Judged, acts, refuses, judge?}
 use Rattle.rules.proofs.Locks.{rooted-of, tree-of}
 use Rattle.rules.proofs.Soundness.{Reached, reached-start, reached-play}
-use Rattle.history.specs.History.{History, nothingYet, isWithin, standsWith, survives, writesTo, overlaid}
-use Rattle.history.specs.Demand3.{Row, rows, history, settledIn}
+use Rattle.history.specs.History.{History, nothingYet, standsWith, writesTo, overlaid}
+use Rattle.history.specs.Demand3.{rows, settledIn}
 use Rattle.history.specs.Claims.{seenBy, isRestart, restarts, stateAfter, historyAfter, Reads-overlay, Commit-survives}
 use Rattle.history.proofs.Overlay.{overlaid-pick, writesTo-pick}
 use Rattle.history.proofs.Roots.{Root, lost}

@@ -1,14 +1,14 @@
 -- The versions and the settled records hold the writes that stand with a transaction's line: kept by each kind of event,
 -- from facts about lines and locks that are premises here.
 use mathlib.Core.Path.{_≡_, refl, sym, ap, ap₂, _∙_}
-use mathlib.Core.Bool.{Bool, true, false, cond, _&&_, _||_, true≢false, false≢true, and-false}
+use mathlib.Core.Bool.{Bool, true, false, cond, _||_, true≢false, false≢true, and-false}
 use mathlib.Core.List.{List, [], _∷_}
 use mathlib.Core.Logic.{_≢_}
 use mathlib.Core.Option.{Option, none, some}
 use Prim.Native.Nat.{ℕ}
 use lib.ListN.{set}
 use Rattle.laws.specs.Tests.{same}
-use Rattle.laws.proofs.Tests.{same?, Same, is, isnt, same-eq, same-refl, ne-false, Is, is?, yes′, no′}
+use Rattle.laws.proofs.Tests.{same?, Same, is, isnt, same-refl, ne-false, Is, is?, yes′, no′}
 use Rattle.rules.specs.Store.{Page}
 use Rattle.rules.specs.State.{mem, Versions, open-state}
 use Rattle.rules.specs.Versions.{isSome, else, also, nearest, withVersion, handedUp, dropped, open-versions}

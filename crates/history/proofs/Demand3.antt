@@ -1,22 +1,20 @@
 -- Demand 3 of every run that is played: from its bytes to lists of words, and back.
 use mathlib.Core.Path.{_≡_, refl, sym, ap, subst, subst⁻¹, _∙_}
-use mathlib.Core.Bool.{Bool, true, false, not, cond, _||_, true≢false, false≢true}
+use mathlib.Core.Bool.{Bool, true, false, not, cond, true≢false}
 use mathlib.Core.List.{List, [], _∷_, _++_}
 use mathlib.Core.Logic.{_≢_}
 use mathlib.Core.Option.{Option, none, some}
-use Prim.Native.Nat.{ℕ, suc, _*_}
+use Prim.Native.Nat.{ℕ, _*_}
 use native.Mathlib.Omega.{arith}
-use lib.ListN.{length, getD, drop}
-use Rattle.laws.specs.Tests.{same, under}
+use lib.ListN.{length, drop}
+use Rattle.laws.specs.Tests.{same}
 use Rattle.laws.proofs.Tests.{same-eq}
 use Rattle.laws.proofs.Booleans.{not-false}
-use Rattle.rules.specs.Geometry.{Geometry, workSize, wordSize, longest}
-use Rattle.rules.specs.Store.{Page}
-use Rattle.rules.specs.Event.{Event, decode}
-use Rattle.rules.specs.State.{State, down}
-use Rattle.rules.specs.Form.{Form, Medium}
-use Rattle.rules.specs.Step.{Answer, numberOf, valueOf, StateOf, firstOf}
-use Rattle.rules.specs.Run.{Result, words, answerBytes, play, eventsIn, runRefusals, runAll, runBy, run}
+use Rattle.rules.specs.Geometry.{Geometry}
+use Rattle.rules.specs.State.{down}
+use Rattle.rules.specs.Form.{Form}
+use Rattle.rules.specs.Step.{StateOf, firstOf}
+use Rattle.rules.specs.Run.{words, answerBytes, play, eventsIn, runRefusals, runAll, runBy, run}
 use Rattle.rules.specs.Editions.{geometry1, edition1}
 use Rattle.rules.proofs.Medium.{MediumLaws}
 use Rattle.rules.proofs.Editions.{proper1}
@@ -24,11 +22,10 @@ use Rattle.rules.proofs.AtomicPages.{atomic-laws}
 use Rattle.rules.proofs.Acceptance.{pass}
 use Rattle.rules.proofs.Soundness.{Reached, reached-start, reached-play}
 use Rattle.history.specs.History.{History, nothingYet, survives, overlaid}
-use Rattle.history.specs.Demand3.{Row, rows, history, Along, SameEvent, SameAnswer, settledIn, Plays, rowsOf, historyOf, Demand-3, Demand-3-holds}
-use Rattle.history.proofs.Roots.{Root, lost}
-use Rattle.history.proofs.Invariant.{now, Holds, After}
+use Rattle.history.specs.Demand3.{Row, rows, history, Along, SameEvent, SameAnswer, settledIn, Plays, rowsOf, historyOf, Demand-3-holds}
+use Rattle.history.proofs.Roots.{lost}
+use Rattle.history.proofs.Invariant.{now, After}
 use Rattle.history.proofs.Runs.{rowBy, stepOf, rowsFrom, future, run-after, start-holds, settled-is}
-use Rattle.history.proofs.Twins.{swap, Twin}
 use Rattle.history.proofs.TwoRuns.{twice}
 
 -- no run is refused with 0

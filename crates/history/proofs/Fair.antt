@@ -1,20 +1,19 @@
 -- Where a transaction survives the rest of a run, so do its ancestors: a commit needs no live child, an abort takes the descendants, and
 -- nothing else parts them.
 use mathlib.Core.Path.{_≡_, refl, sym, ap, subst, subst⁻¹, _∙_, fun-ext}
-use mathlib.Core.Bool.{Bool, true, false, cond, _||_, true≢false, false≢true}
+use mathlib.Core.Bool.{Bool, true, false, cond, true≢false}
 use mathlib.Core.List.{List, [], _∷_}
 use mathlib.Core.Logic.{_≢_}
 use mathlib.Core.Option.{Option, none, some}
 use Prim.Native.Nat.{ℕ}
 use Rattle.laws.specs.Tests.{same, under}
-use Rattle.laws.specs.Functions.{updated}
-use Rattle.laws.proofs.Tests.{same?, Same, is, isnt, same-refl, ne-false, Is, is?, yes′, no′}
+use Rattle.laws.proofs.Tests.{same?, Same, is, isnt, ne-false, Is, is?, yes′, no′}
 use Rattle.laws.proofs.Booleans.{clash}
 use Rattle.rules.specs.Event.{Event, begin, lock, write, read, commit, abort, crash, recover, decode}
-use Rattle.rules.specs.State.{free, lineOf, mem, State, live, down, open-state}
+use Rattle.rules.specs.State.{free, lineOf, mem, live, down, open-state}
 use Rattle.rules.specs.Commit.{Cut}
-use Rattle.rules.specs.Form.{Form, Medium}
-use Rattle.rules.specs.Step.{Answer, done, refused, cut, Outcome, StateOf, OutcomeOf, firstFree, begun, locked, wrote, ended as endedState, passed, raised, concluded, finished, refusal, commitsTop, commitsChild, commits, recovers, act, step}
+use Rattle.rules.specs.Form.{Form}
+use Rattle.rules.specs.Step.{StateOf, OutcomeOf, firstFree, begun, locked, wrote, ended as endedState, passed, raised, concluded, finished, refusal, commitsTop, commitsChild, commits, recovers, act, step}
 use Rattle.rules.specs.Sound.{Sound}
 use Rattle.rules.proofs.Tree.{Lines, isCons, mem-cons}
 use Rattle.rules.proofs.Bearers.{endedIn, begun-line, ended-line}

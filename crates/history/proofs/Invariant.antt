@@ -1,8 +1,8 @@
 -- The invariant of a run: what the history tells holds of the state. Every event keeps it, and turns the labels as it turns the transactions.
-use mathlib.Core.Path.{_≡_, refl, sym, ap, ap₂, subst⁻¹, _∙_, fun-ext}
-use mathlib.Core.Bool.{Bool, true, false, cond, _&&_, _||_, true≢false, false≢true}
+use mathlib.Core.Path.{_≡_, refl, sym, ap, subst⁻¹, _∙_, fun-ext}
+use mathlib.Core.Bool.{Bool, true, false, cond, true≢false}
 use mathlib.Core.List.{List, [], _∷_}
-use mathlib.Core.Logic.{_≢_, _⊎_, inl, inr}
+use mathlib.Core.Logic.{_≢_}
 use mathlib.Core.Option.{Option, none, some}
 use Prim.Native.Nat.{ℕ, suc, _<_, _≤_}
 use native.Mathlib.Omega.{arith}
@@ -10,27 +10,27 @@ use lib.ListN.{set}
 use Rattle.laws.specs.Tests.{same, under}
 use Rattle.laws.specs.Counting.{count}
 use Rattle.laws.specs.Functions.{updated}
-use Rattle.laws.proofs.Tests.{same?, Same, is, isnt, same-refl, ne-false, Is, is?, yes′, no′}
+use Rattle.laws.proofs.Tests.{same-refl, ne-false}
 use Rattle.laws.proofs.Booleans.{or-right, refute, clash}
-use Rattle.rules.specs.Geometry.{Geometry, records, transactions, nobody}
+use Rattle.rules.specs.Geometry.{records, transactions, nobody}
 use Rattle.rules.specs.Store.{Page}
 use Rattle.rules.specs.Event.{Event, begin, lock, write, read, commit, abort, crash, recover}
-use Rattle.rules.specs.State.{Bearers, free, isActive, lineOf, mem, Versions, State, live, down, open-state}
-use Rattle.rules.specs.Versions.{isSome, else, withVersion, open-versions}
+use Rattle.rules.specs.State.{isActive, lineOf, mem, live, down}
+use Rattle.rules.specs.Versions.{isSome}
 use Rattle.rules.specs.Commit.{Cut}
-use Rattle.rules.specs.Form.{Form, Medium}
-use Rattle.rules.specs.Step.{Answer, done, refused, cut, valueOf, Outcome, StateOf, OutcomeOf, firstFree, begun, locked, wrote, ended as endedState, passed, raised, concluded, finished, visible, refusal, commitsTop, commitsChild, commits, recovers, act, step, open-step}
+use Rattle.rules.specs.Form.{Form}
+use Rattle.rules.specs.Step.{Answer, done, refused, cut, valueOf, StateOf, OutcomeOf, firstFree, begun, locked, wrote, ended as endedState, passed, raised, concluded, finished, visible, refusal, commitsTop, commitsChild, commits, recovers, act, step}
 use Rattle.rules.specs.Sound.{Sound}
 use Rattle.rules.proofs.Tree.{Lines, isCons}
-use Rattle.rules.proofs.Bearers.{begunIn, endedIn, begun-line, ended-rooted}
+use Rattle.rules.proofs.Bearers.{begun-line, ended-rooted}
 use Rattle.rules.proofs.Medium.{MediumLaws, changedIn, stored as storedBy}
 use Rattle.rules.proofs.Acceptance.{BeginOk, WriteOk, CommitOk, begin-ok, write-ok, commit-ok, abort-ok, Judged, acts, refuses, judge?}
-use Rattle.rules.proofs.Locks.{ChildOf, rooted-of, tree-of, live-line, own-line, member-live, beneath-closed, no-child, version-live, write-apart, top-apart, child-apart, top-line, child-line}
+use Rattle.rules.proofs.Locks.{rooted-of, tree-of, live-line, own-line, member-live, beneath-closed, no-child, version-live, write-apart, top-apart, child-apart, top-line, child-line}
 use Rattle.rules.proofs.Soundness.{alone-closed}
-use Rattle.history.specs.History.{Fate, stored, ended, committed, History, isWithin, changedBy, suffices, ending, allEnding, effect, effectOf, commitFate, after, begins, writes as writesBy, told, open-history}
-use Rattle.history.proofs.Roots.{Root, settled, lost, at, isAt, move, lose, allLost}
+use Rattle.history.specs.History.{Fate, stored, ended, committed, History, isWithin, changedBy, suffices, ending, allEnding, effect, effectOf, commitFate, after, begins, writes as writesBy, told}
+use Rattle.history.proofs.Roots.{Root, settled, at, move, lose, allLost}
 use Rattle.history.proofs.Data.{Data, write-data, begin-data}
-use Rattle.history.proofs.Table.{Table, bearer-some, root-bearer, changed-is, within-is}
+use Rattle.history.proofs.Table.{bearer-some, root-bearer, changed-is, within-is}
 use Rattle.history.proofs.TableKept.{begin-table, write-table}
 use Rattle.history.proofs.Tells.{Tells, renow, topTurn, lost-tells, down-tells, top-tells, child-tells, top-parent, child-parent}
 
@@ -81,9 +81,6 @@ module _ (f : Form) where
     pub turned : (i : ℕ) → i ≤ h .begun → root′ i ≡ φ (root i)
     pub grown : h .begun ≤ h′ .begun
     pub tells : Holds start s h′ root′
-
-  unfoldable pub toldBy : History → Option Event → Answer → History
-  toldBy h e a = told (records (f .geometry)) h e a
 
 module _ (f : Form) (M : MediumLaws (f .geometry) (f .medium)) {start : ℕ → Page} {s : StateOf f} {h : History} {root : ℕ → Root}
     (S : Sound f s) (H : Holds f start s h root) where

@@ -5,8 +5,8 @@ use mathlib.Core.List.{List, [], _∷_}
 use mathlib.Core.Logic.{_≢_, _⊎_, inl, inr}
 use Prim.Native.Nat.{ℕ}
 use Rattle.laws.specs.Tests.{same}
-use Rattle.laws.proofs.Tests.{same?, Same, is, isnt, same-refl, ne-false, Is, is?, yes′, no′}
-use Rattle.rules.specs.State.{mem, open-state}
+use Rattle.laws.proofs.Tests.{same?, Same, is, isnt, same-refl, ne-false}
+use Rattle.rules.specs.State.{mem}
 
 pub data Root : Type 0 where
   settled lost : Root

@@ -1,22 +1,20 @@
 -- A list of words from a state: its rows, what becomes of the labels in the rest of it, and the first half of demand 3.
-use mathlib.Core.Path.{_≡_, refl, sym, ap, subst, subst⁻¹, _∙_}
-use mathlib.Core.Bool.{Bool, true, false, cond, _||_, true≢false, false≢true}
-use mathlib.Core.List.{List, [], _∷_, _++_}
+use mathlib.Core.Path.{_≡_, refl, sym, ap, subst⁻¹, _∙_}
+use mathlib.Core.Bool.{true, false, true≢false, false≢true}
+use mathlib.Core.List.{List, [], _∷_}
 use mathlib.Core.Logic.{_≢_}
-use mathlib.Core.Option.{Option, none, some}
-use Prim.Native.Nat.{ℕ, suc, _<_, _≤_}
+use Prim.Native.Nat.{ℕ, _≤_}
 use native.Mathlib.Omega.{arith}
-use Rattle.laws.specs.Tests.{same, open-tests}
+use Rattle.laws.specs.Tests.{open-tests}
 use Rattle.laws.proofs.Tests.{ne-false}
-use Rattle.rules.specs.Geometry.{Geometry, records}
+use Rattle.rules.specs.Geometry.{records}
 use Rattle.rules.specs.Store.{Page}
-use Rattle.rules.specs.Event.{Event, decode}
-use Rattle.rules.specs.State.{State, live, lineOf, down, open-state}
+use Rattle.rules.specs.Event.{decode}
+use Rattle.rules.specs.State.{live, down, open-state}
 use Rattle.rules.specs.Versions.{open-versions}
-use Rattle.rules.specs.Form.{Form, Medium}
-use Rattle.rules.specs.Step.{Answer, done, refused, cut, numberOf, valueOf, Outcome, StateOf, OutcomeOf, visible, step}
+use Rattle.rules.specs.Form.{Form}
+use Rattle.rules.specs.Step.{Answer, done, refused, cut, numberOf, valueOf, StateOf, OutcomeOf, step}
 use Rattle.rules.specs.Run.{play}
-use Rattle.rules.specs.Sound.{Sound}
 use Rattle.rules.proofs.Medium.{MediumLaws}
 use Rattle.rules.proofs.Acceptance.{refused-number}
 use Rattle.rules.proofs.Soundness.{Reached, reached-word}
@@ -24,9 +22,7 @@ use Rattle.history.specs.History.{History, nothingYet, survives, overlai
 use Rattle.history.specs.Demand3.{Row, answerOf, heard, history}
 use Rattle.history.proofs.Overlay.{overlaid-pick}
 use Rattle.history.proofs.Roots.{Root, settled, lost, at, isSettled}
-use Rattle.history.proofs.Data.{Data}
-use Rattle.history.proofs.Table.{Table, bearer-known, root-bearer, survives-is}
-use Rattle.history.proofs.Tells.{Tells}
+use Rattle.history.proofs.Table.{bearer-known, root-bearer, survives-is}
 use Rattle.history.proofs.Invariant.{now, turn, Holds, After, step-after}
 
 abbrev pub rowBy : ℕ → Answer → Row

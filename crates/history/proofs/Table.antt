@@ -1,19 +1,17 @@
 -- The proofs' labels of transactions agree with the history, one step from child to parent at a time; the history's bearers, parents and
 -- ancestors are those of the state; and an ending, a begin and a write keep that.
 use mathlib.Core.Path.{_≡_, refl, sym, ap, _∙_, fun-ext}
-use mathlib.Core.Bool.{Bool, true, false, not, cond, _&&_, _||_, true≢false, false≢true, and-false, or-false, or-true}
-use mathlib.Core.List.{List, [], _∷_}
-use mathlib.Core.Logic.{_≢_, _⊎_, inl, inr}
+use mathlib.Core.Bool.{Bool, true, false, not, cond, _&&_, _||_, true≢false, false≢true}
+use mathlib.Core.List.{[]}
+use mathlib.Core.Logic.{_≢_}
 use Prim.Native.Nat.{ℕ, zero, suc, _<_, _≤_}
 use native.Mathlib.Omega.{arith}
 use Rattle.laws.specs.Tests.{same, under}
 use Rattle.laws.specs.Counting.{count}
-use Rattle.laws.specs.Functions.{updated, open-functions}
-use Rattle.laws.proofs.Tests.{same?, Same, is, isnt, same-eq, same-refl, ne-false, Is, is?, yes′, no′, under-lt, not-under}
-use Rattle.rules.specs.State.{Bearer, Bearers, free, active, isActive, parentIn, depthIn, lineOf, mem, open-state}
-use Rattle.rules.proofs.Tree.{Lines, Tree, isCons, own}
-use Rattle.rules.proofs.Bearers.{Rooted, rooted-tree, active-line, line-of-member, parent-line, begunIn, endedIn}
-use Rattle.history.specs.History.{Fate, bearing, committed, stored, ended, Write, History, isCommitted, isStored, isBearing, climbs, isWithin, follows, standsWith, survives, writesTo, changedBy, turned, ending, after, begins, writes, open-history}
+use Rattle.laws.proofs.Tests.{same?, Same, is, isnt, same-refl, ne-false, Is, is?, yes′, no′, under-lt, not-under}
+use Rattle.rules.specs.State.{Bearer, Bearers, free, active, isActive, lineOf, mem, open-state}
+use Rattle.rules.proofs.Bearers.{Rooted, parent-line}
+use Rattle.history.specs.History.{Fate, bearing, committed, stored, ended, History, isCommitted, isStored, isBearing, climbs, isWithin, follows, standsWith, survives, writesTo, changedBy, writes}
 use Rattle.history.proofs.Roots.{Root, settled, lost, at, isSettled, isAt, sees}
 
 -- the label of a transaction that stands so, from its parent's

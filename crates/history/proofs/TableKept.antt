@@ -1,20 +1,19 @@
 -- The labels go on agreeing with the history when transactions end, when one begins, and at a write.
 use mathlib.Core.Path.{_≡_, refl, sym, ap, _∙_}
-use mathlib.Core.Bool.{Bool, true, false, cond, _&&_, _||_, true≢false, false≢true}
-use mathlib.Core.List.{List, [], _∷_}
+use mathlib.Core.Bool.{Bool, true, false, cond, true≢false, false≢true, or-true}
 use mathlib.Core.Logic.{_≢_, _⊎_, inl, inr}
-use Prim.Native.Nat.{ℕ, zero, suc, _<_, _≤_}
+use Prim.Native.Nat.{ℕ, suc, _<_, _≤_}
 use native.Mathlib.Omega.{arith}
 use Rattle.laws.specs.Tests.{same}
-use Rattle.laws.specs.Functions.{updated, open-functions}
+use Rattle.laws.specs.Functions.{updated}
 use Rattle.laws.proofs.Tests.{same?, Same, is, isnt, same-refl, ne-false, Is, is?, yes′, no′}
 use Rattle.rules.specs.Geometry.{nobody}
 use Rattle.rules.specs.State.{Bearer, Bearers, free, active, isActive, depthIn, lineOf, mem, open-state}
 use Rattle.rules.proofs.Tree.{own}
 use Rattle.rules.proofs.Bearers.{Rooted, rooted-tree, active-line, parent-line, begunIn, endedIn}
-use Rattle.history.specs.History.{Fate, bearing, committed, stored, ended, History, isCommitted, isBearing, writesTo, turned, ending, after, begins, writes, open-history}
+use Rattle.history.specs.History.{Fate, bearing, committed, stored, ended, History, isBearing, writesTo, turned, ending, after, begins, writes}
 use Rattle.history.proofs.Roots.{Root, settled, lost, at}
-use Rattle.history.proofs.Table.{entry, Table, bearing≢, bearing-inj, bearer-some, bearer-known, bearer-most, committed-begun}
+use Rattle.history.proofs.Table.{entry, Table, bearing≢, bearing-inj, bearer-known, bearer-most, committed-begun}
 
 module _ {limit : ℕ} {b : Bearers} (S : Rooted limit nobody b) {h : History} {root : ℕ → Root} (T : Table b h root) where
   -- the transactions that `who` picks, whose numbers `dead` picks, end with one fate
@@ -94,11 +93,7 @@ module _ {limit : ℕ} {b : Bearers} (S : Rooted limit nobody b) {h : History} {
       where
         go : Is (dead p) → h .bearer p ≡ h′ .bearer p
         go (no′ m) = sym (bearer-left p m e)
-        go (yes′ m) = absurd (true≢false (sym (rw (parent-line S t p d q, own (rooted-tree S) p (sym (active-line S p) ∙ e)) (or-true′ (same p t))) ∙ closed t p k m))
-          where
-            or-true′ : (c : Bool) → (c || true) ≡ true
-            or-true′ true = refl
-            or-true′ false = refl
+        go (yes′ m) = absurd (true≢false (sym (rw (parent-line S t p d q, own (rooted-tree S) p (sym (active-line S p) ∙ e)) (or-true (same p t))) ∙ closed t p k m))
 
     above-kept : (t p d : ℕ) → b′ t ≡ active p d → h .parent (h′ .bearer t) ≡ h′ .bearer p
     unfolding isActive

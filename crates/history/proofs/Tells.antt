@@ -1,23 +1,23 @@
 -- What the history tells holds of bearers, versions and settled records, and goes on holding when transactions end.
 use mathlib.Core.Path.{_≡_, refl, sym, ap, subst⁻¹, _∙_, fun-ext}
-use mathlib.Core.Bool.{Bool, true, false, cond, _&&_, _||_, true≢false, false≢true}
+use mathlib.Core.Bool.{Bool, true, false, cond, true≢false, false≢true}
 use mathlib.Core.List.{List, [], _∷_}
 use mathlib.Core.Logic.{_≢_}
-use mathlib.Core.Option.{Option, none, some}
-use Prim.Native.Nat.{ℕ, _<_, _≤_}
+use mathlib.Core.Option.{none}
+use Prim.Native.Nat.{ℕ}
 use Rattle.laws.specs.Tests.{same}
-use Rattle.laws.proofs.Tests.{same?, Same, is, isnt, same-eq, same-refl, ne-false, Is, is?, yes′, no′}
+use Rattle.laws.proofs.Tests.{same?, Same, is, isnt, same-eq, same-refl, ne-false}
 use Rattle.laws.proofs.Booleans.{clash}
 use Rattle.rules.specs.Geometry.{nobody}
 use Rattle.rules.specs.Store.{Page}
 use Rattle.rules.specs.State.{Bearer, Bearers, free, active, isActive, lineOf, mem, Versions, open-state}
-use Rattle.rules.specs.Versions.{isSome, else, also, handedUp, dropped, open-versions}
-use Rattle.rules.proofs.Tree.{Lines, Tree, isCons}
+use Rattle.rules.specs.Versions.{isSome, else, dropped}
+use Rattle.rules.proofs.Tree.{Lines, isCons}
 use Rattle.rules.proofs.Bearers.{Rooted, rooted-tree, active-line, parent-line, endedIn, ended-line}
-use Rattle.history.specs.History.{Fate, bearing, committed, stored, ended, Write, History, isBearing, ending, allEnding, open-history}
-use Rattle.history.proofs.Roots.{Root, settled, lost, at, move, lose, allLost}
+use Rattle.history.specs.History.{committed, stored, ended, Write, History, isBearing, ending, allEnding}
+use Rattle.history.proofs.Roots.{Root, settled, at, move, lose, allLost}
 use Rattle.history.proofs.Data.{Data, gone, lift, child-data, top-data, lose-data}
-use Rattle.history.proofs.Table.{entry, Table, free-line, bearer-some, bearer-one, root-bearer}
+use Rattle.history.proofs.Table.{Table, bearer-one, root-bearer}
 use Rattle.history.proofs.TableKept.{ended-table}
 
 pub record Tells (start : ℕ → Page) (b : Bearers) (ver : Versions) (now : ℕ → Page) (h : History) (root : ℕ → Root) : Type 0 where

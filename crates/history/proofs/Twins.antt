@@ -1,34 +1,29 @@
 -- Two states with one control and stores that agree, whose versions differ at most where a transaction does not survive: every event that is
 -- the same, or an accepted write by one that does not survive, leaves two such states, and the same answer but for what such a one reads.
-use mathlib.Core.Path.{_≡_, refl, sym, ap, ap₂, subst, subst⁻¹, _∙_, fun-ext}
-use mathlib.Core.Bool.{Bool, true, false, cond, _&&_, _||_, true≢false, false≢true, or-true}
+use mathlib.Core.Path.{_≡_, refl, sym, ap, ap₂, subst⁻¹, _∙_}
+use mathlib.Core.Bool.{Bool, true, false, _&&_, _||_, or-true}
 use mathlib.Core.List.{List, [], _∷_}
 use mathlib.Core.Logic.{_≢_, _⊎_, inl, inr}
 use mathlib.Core.Option.{Option, none, some}
 use Prim.Native.Nat.{ℕ, _<_}
 use native.Mathlib.Omega.{arith}
 use lib.ListN.{getD, set}
-use Rattle.laws.specs.Tests.{same, under}
+use Rattle.laws.specs.Tests.{same}
 use Rattle.laws.proofs.Tests.{same?, Same, is, isnt, same-refl, ne-false, Is, is?, yes′, no′}
-use Rattle.laws.proofs.Booleans.{clash}
 use Rattle.rules.specs.Geometry.{records}
 use Rattle.rules.specs.Store.{Page}
-use Rattle.rules.specs.Event.{Event, begin, lock, write, read, commit, abort, crash, recover}
-use Rattle.rules.specs.State.{lineOf, mem, Versions, State, live, holds, down, open-state}
+use Rattle.rules.specs.Event.{Event, write, read, commit, abort, recover}
+use Rattle.rules.specs.State.{lineOf, mem, Versions, down}
 use Rattle.rules.specs.Versions.{isSome, else, also, nearest, withVersion, handedUp, dropped}
 use Rattle.rules.specs.Commit.{Cut}
-use Rattle.rules.specs.Form.{Form, Medium}
-use Rattle.rules.specs.Step.{Answer, done, refused, cut, Outcome, StateOf, OutcomeOf, hasChild, firstFree, begun, locked, wrote, ended as endedState, passed, raised, concluded, finished, visible, refusals, refusal, commitsTop, commitsChild, commits, recovers, act, judged, step}
+use Rattle.rules.specs.Form.{Form}
+use Rattle.rules.specs.Step.{Answer, done, cut, StateOf, OutcomeOf, wrote, ended as endedState, passed, raised, concluded, finished, visible, refusal, commitsTop, commitsChild, recovers, act}
 use Rattle.rules.specs.Sound.{Sound}
-use Rattle.rules.proofs.Tree.{isCons}
 use Rattle.rules.proofs.Medium.{MediumLaws, stored as storedBy}
 use Rattle.rules.proofs.Owners.{is-also}
-use Rattle.rules.proofs.Acceptance.{CommitOk, write-ok, read-ok, commit-ok}
-use Rattle.rules.proofs.Locks.{live-line, child-line}
 use Rattle.history.specs.History.{suffices}
-use Rattle.history.proofs.Roots.{Root, settled, lost, at, move, lose, allLost, settled?}
-use Rattle.history.proofs.Data.{gone, lift}
-use Rattle.history.proofs.Tells.{topTurn}
+use Rattle.history.proofs.Roots.{Root, settled, at, move, lose, settled?}
+use Rattle.history.proofs.Data.{lift}
 use Rattle.history.proofs.Invariant.{commitTurn, answered, turn, changedOf}
 use Rattle.history.proofs.Fair.{Fair}
 

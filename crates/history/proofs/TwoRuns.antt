@@ -1,18 +1,17 @@
 -- Two lists of words that differ in what lost transactions write, played side by side: the second half of demand 3 over lists of words.
 use mathlib.Core.Path.{_≡_, refl, sym, ap, subst, subst⁻¹, _∙_}
-use mathlib.Core.Bool.{Bool, true, false, cond, true≢false, false≢true}
+use mathlib.Core.Bool.{Bool, true, false≢true}
 use mathlib.Core.List.{List, [], _∷_}
 use mathlib.Core.Logic.{_≢_}
 use mathlib.Core.Option.{Option, none, some}
 use Prim.Native.Nat.{ℕ}
-use Rattle.laws.specs.Tests.{same}
 use Rattle.laws.proofs.Booleans.{clash}
-use Rattle.rules.specs.Geometry.{Geometry, records}
+use Rattle.rules.specs.Geometry.{Geometry}
 use Rattle.rules.specs.Store.{Page}
 use Rattle.rules.specs.Event.{Event, begin, lock, write, read, commit, abort, crash, recover, decode}
-use Rattle.rules.specs.State.{lineOf, Versions, State, live, holds, down}
-use Rattle.rules.specs.Form.{Form, Medium}
-use Rattle.rules.specs.Step.{Answer, done, refused, cut, numberOf, valueOf, Outcome, StateOf, OutcomeOf, hasChild, firstFree, begun, locked, finished, refusals, refusal, commitsChild, commits, act, judged, step}
+use Rattle.rules.specs.State.{lineOf, Versions, live, holds, down}
+use Rattle.rules.specs.Form.{Form}
+use Rattle.rules.specs.Step.{Answer, numberOf, valueOf, StateOf, hasChild, firstFree, begun, locked, finished, refusals, refusal, commitsChild, commits, act, judged, step}
 use Rattle.rules.specs.Run.{play}
 use Rattle.rules.specs.Sound.{Sound}
 use Rattle.rules.proofs.Tree.{isCons}
@@ -21,9 +20,9 @@ use Rattle.rules.proofs.Acceptance.{CommitOk, write-ok, read-ok, commit-ok, Jud
 use Rattle.rules.proofs.Locks.{live-line, child-line}
 use Rattle.rules.proofs.Soundness.{Reached, reached-word}
 use Rattle.history.specs.History.{History, accepted, names, bearerOf, belongs, survives, suffices}
-use Rattle.history.specs.Demand3.{Row, answerOf, heard, history, Along, SameEvent, same-word, other-value, SameAnswer, same-bytes, other-byte}
+use Rattle.history.specs.Demand3.{heard, history, Along, SameEvent, same-word, other-value, SameAnswer, same-bytes, other-byte}
 use Rattle.history.proofs.Roots.{Root, settled, at, isSettled, isnt-settled, not-settled}
-use Rattle.history.proofs.Invariant.{commitTurn, answered, turn, changedOf, Holds, After, step-after}
+use Rattle.history.proofs.Invariant.{commitTurn, answered, turn, changedOf, Holds, step-after}
 use Rattle.history.proofs.Runs.{rowBy, stepOf, rowsFrom, answer-back, toldOf, heard-is, future, final-is}
 use Rattle.history.proofs.Fair.{Fair, fair-step, fair-run}
 use Rattle.history.proofs.Twins.{swap, Match, same-event, lost-write, Echo, same-answer, lost-read, Twin, Next, twin-write, twin-read, twin-abort, twin-child, twin-top, twin-recover, down-twin}

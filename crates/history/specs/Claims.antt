@@ -4,14 +4,12 @@ use mathlib.Core.Path.{_≡_}
 use mathlib.Core.Bool.{Bool, true, false, _&&_, _||_}
 use mathlib.Core.List.{List, [], _∷_, _++_}
 use mathlib.Core.Option.{Option, none, some}
-use lib.ListN.{length}
 use Rattle.laws.specs.Tests.{same}
 use Rattle.rules.specs.Geometry.{Geometry}
-use Rattle.rules.specs.Store.{Page}
 use Rattle.rules.specs.Event.{Event, begin, lock, write, read, commit, abort, crash, recover, decode}
-use Rattle.rules.specs.State.{State, live, down}
+use Rattle.rules.specs.State.{live, down}
 use Rattle.rules.specs.Versions.{isSome}
-use Rattle.rules.specs.Form.{Form, Medium}
+use Rattle.rules.specs.Form.{Form}
 use Rattle.rules.specs.Step.{StateOf, visible}
 use Rattle.rules.specs.Run.{answerBytes, play}
 use Rattle.history.specs.History.{History, nothingYet, isWithin, standsWith, survives, writesTo, overlaid}

@@ -1,17 +1,17 @@
 -- Demand 3 of document 01: a claim about whole runs, in bytes. The history is told from the event bytes and the answer bytes.
-use Prim.Native.Nat.{ℕ, zero, suc}
+use Prim.Native.Nat.{ℕ}
 use mathlib.Core.Path.{_≡_}
 use mathlib.Core.Bool.{Bool, true, false, cond}
 use mathlib.Core.List.{List, [], _∷_}
-use mathlib.Core.Option.{Option, none, some}
+use mathlib.Core.Option.{some}
 use lib.ListN.{getD, drop}
 use Rattle.laws.specs.Tests.{same}
 use Rattle.rules.specs.Geometry.{Geometry, records}
 use Rattle.rules.specs.Store.{Page}
-use Rattle.rules.specs.Event.{Event, write, read, decode}
-use Rattle.rules.specs.Form.{Form, Medium}
+use Rattle.rules.specs.Event.{write, read, decode}
+use Rattle.rules.specs.Form.{Form}
 use Rattle.rules.specs.Step.{Answer, done, refused, cut}
-use Rattle.rules.specs.Run.{Result, words, eventsIn, run}
+use Rattle.rules.specs.Run.{words, eventsIn, run}
 use Rattle.history.specs.History.{History, nothingYet, accepted, belongs, survives, overlaid, told}
 
 -- an event word with the two bytes of its answer

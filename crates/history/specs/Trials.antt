@@ -1,14 +1,14 @@
 -- Trials of the history: lists of events with their answers, and how each transaction stands at the end.
 use Prim.Native.Nat.{ℕ, zero, suc}
-use mathlib.Core.Bool.{Bool, true, false, cond, _&&_}
+use mathlib.Core.Bool.{Bool, true, cond, _&&_}
 use mathlib.Core.List.{List, [], _∷_}
-use mathlib.Core.Option.{Option, none, some}
+use mathlib.Core.Option.{some}
 use lib.ListN.{getD, length}
 use Rattle.laws.specs.Tests.{same}
 use Rattle.laws.specs.Bytes.{sameList}
 use Rattle.rules.specs.Geometry.{nobody}
 use Rattle.rules.specs.Store.{blank}
-use Rattle.rules.specs.Event.{Event, begin, lock, write, read, commit, abort, crash, recover}
+use Rattle.rules.specs.Event.{Event, begin, lock, write, read, commit, abort, recover}
 use Rattle.rules.specs.Step.{Answer, done, refused, cut}
 use Rattle.history.specs.History.{Fate, bearing, committed, stored, ended, History, nothingYet, survives, overlaid, told}
 
