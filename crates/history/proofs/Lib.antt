@@ -12,3 +12,4 @@ pub mod TwoRuns
 pub mod Demand3
 pub mod Claims
 pub mod Trials
+pub mod Example
