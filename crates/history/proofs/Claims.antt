@@ -1,7 +1,7 @@
 -- The central law at each prefix of a list, and what is settled after crashes and recoveries.
 use mathlib.Core.Path.{_≡_, refl, sym, ap, _∙_}
 use mathlib.Core.Bool.{Bool, true, false, false≢true}
-use mathlib.Core.List.{List, [], _∷_, _++_}
+use mathlib.Core.List.{List, [], _∷_, _++_, append-nil}
 use mathlib.Core.Option.{Option, none, some}
 use Prim.Native.Nat.{ℕ}
 use lib.ListN.{length}
@@ -28,13 +28,11 @@ use Rattle.history.proofs.Roots.{Root, lost}
 use Rattle.history.proofs.Data.{reads-is}
 use Rattle.history.proofs.Table.{stands-is, seen-is}
 use Rattle.history.proofs.Invariant.{now, Holds, After}
-use Rattle.history.proofs.Runs.{rowBy, stepOf, rowsFrom, future, run-after, start-holds, settled-is}
+use Rattle.history.proofs.Runs.{stepOf, rowsFrom, rows-are, future, run-after, start-holds, settled-is}
 
 -- the rows of a list, from its answers
 rows-played : (f : Form) (s : StateOf f) (ws : List ℕ) → rows ws (answerBytes (play f s ws .answers)) ≡ rowsFrom f s ws
-unfolding rows rowsFrom play answerBytes
-rows-played f s [] = refl
-rows-played f s (w ∷ ws) = ap (rowBy w (stepOf f s w .answer) ∷_) (rows-played f (stepOf f s w .state) ws)
+rows-played f s ws = ap (rows ws) (sym (append-nil (answerBytes (play f s ws .answers)))) ∙ rows-are f s ws []
 
 -- a list and more
 play-more : (f : Form) (s : StateOf f) (ws more : List ℕ) → play f s (ws ++ more) .state ≡ play f (play f s ws .state) more .state

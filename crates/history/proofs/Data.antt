@@ -13,6 +13,7 @@ use Rattle.rules.specs.Store.{Page}
 use Rattle.rules.specs.State.{mem, Versions, open-state}
 use Rattle.rules.specs.Versions.{isSome, else, also, nearest, withVersion, handedUp, dropped, open-versions}
 use Rattle.rules.proofs.Tree.{Good, Lines}
+use Rattle.rules.proofs.Owners.{is-also}
 use Rattle.history.specs.History.{Write, writesTo, overlaid}
 use Rattle.history.proofs.Overlay.{overlaid-or, writesTo-or, writesTo-none, overlaid-pick, writesTo-pick, overlaid-fresh, writesTo-fresh}
 use Rattle.history.proofs.Roots.{Root, settled, lost, at, isSettled, isAt, sees, move, lose, sees-nil, sees-cons, gains, stays, moved-away, moved-to, moved-past}
@@ -115,11 +116,6 @@ lift x y ver = gone x (handedUp x y ver)
 none-some : {A : Type 0} {p : Page} → none ≡ some p → A
 unfolding open-state open-versions writesTo overlaid
 none-some {A} h = absurd (false≢true (ap isSome h))
-
-pub is-also : (o q : Option Page) → isSome (also o q) ≡ (isSome o || isSome q)
-unfolding open-state open-versions writesTo overlaid
-is-also none q = refl
-is-also (some p) q = refl
 
 -- a child x commits to its parent y
 module _ {line : Lines} {ver : Versions} {now start : ℕ → Page} {root : ℕ → Root} {ws : List Write} (D : Data line ver now start root ws)

@@ -1,7 +1,7 @@
 -- Demand 3 of every run that is played: from its bytes to lists of words, and back.
 use mathlib.Core.Path.{_≡_, refl, sym, ap, subst, subst⁻¹, _∙_}
 use mathlib.Core.Bool.{Bool, true, false, not, cond, true≢false}
-use mathlib.Core.List.{List, [], _∷_, _++_}
+use mathlib.Core.List.{List, [], _∷_}
 use mathlib.Core.Logic.{_≢_}
 use mathlib.Core.Option.{Option, none, some}
 use Prim.Native.Nat.{ℕ, _*_}
@@ -14,7 +14,7 @@ use Rattle.rules.specs.Geometry.{Geometry}
 use Rattle.rules.specs.State.{down}
 use Rattle.rules.specs.Form.{Form}
 use Rattle.rules.specs.Step.{StateOf, firstOf}
-use Rattle.rules.specs.Run.{words, answerBytes, play, eventsIn, runRefusals, runAll, runBy, run}
+use Rattle.rules.specs.Run.{words, play, eventsIn, runRefusals, runAll, runBy, run}
 use Rattle.rules.specs.Editions.{geometry1, edition1}
 use Rattle.rules.proofs.Medium.{MediumLaws}
 use Rattle.rules.proofs.Editions.{proper1}
@@ -22,10 +22,10 @@ use Rattle.rules.proofs.AtomicPages.{atomic-laws}
 use Rattle.rules.proofs.Acceptance.{pass}
 use Rattle.rules.proofs.Soundness.{Reached, reached-start, reached-play}
 use Rattle.history.specs.History.{History, nothingYet, survives, overlaid}
-use Rattle.history.specs.Demand3.{Row, rows, history, Along, SameEvent, SameAnswer, settledIn, Plays, rowsOf, historyOf, Demand-3-holds}
+use Rattle.history.specs.Demand3.{Row, history, Along, SameEvent, SameAnswer, settledIn, Plays, rowsOf, historyOf, Demand-3-holds}
 use Rattle.history.proofs.Roots.{lost}
 use Rattle.history.proofs.Invariant.{now, After}
-use Rattle.history.proofs.Runs.{rowBy, stepOf, rowsFrom, future, run-after, start-holds, settled-is}
+use Rattle.history.proofs.Runs.{rowsFrom, rows-are, future, run-after, start-holds, settled-is}
 use Rattle.history.proofs.TwoRuns.{twice}
 
 -- no run is refused with 0
@@ -60,12 +60,6 @@ module _ (f : Form) where
           → (runBy f store events answers (firstOf (runRefusals f store events work answers)) ≡ runAll f store events answers) × (length store ≡ f .medium .size)
       go none q h = (ap (runBy f store events answers) q, none-sized store events work answers q)
       go (some n) q h = absurd (first-some (runRefusals f store events work answers) (numbered store events work answers) (q ∙ ap some h))
-
-  -- the answer bytes of a list, behind which others may stand, with its words
-  rows-are : (s : StateOf f) (ws rest : List ℕ) → rows ws (answerBytes (play f s ws .answers) ++ rest) ≡ rowsFrom f s ws
-  unfolding rows rowsFrom play answerBytes
-  rows-are s [] rest = refl
-  rows-are s (w ∷ ws) rest = ap (rowBy w (stepOf f s w .answer) ∷_) (rows-are (stepOf f s w .state) ws rest)
 
 module _ (f : Form) (M : MediumLaws (f .geometry) (f .medium)) where
   abbrev g : Geometry

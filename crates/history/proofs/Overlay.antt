@@ -50,7 +50,7 @@ overlaid-pick r ws b h = ap (λ f. overlaid f r ws b) (fun-ext h)
 pub writesTo-pick : {p q : ℕ → Bool} (r : ℕ) (ws : List Write) → ((i : ℕ) → p i ≡ q i) → writesTo p r ws ≡ writesTo q r ws
 writesTo-pick r ws h = ap (λ f. writesTo f r ws) (fun-ext h)
 
--- a change of the pick at a job that writesTo nothing
+-- a change of the pick at a transaction that wrote nothing
 at-fresh : (i k : ℕ) (p q : ℕ → Bool) → ((j : ℕ) → j ≢ i → p j ≡ q j) → (same k i || p k) ≡ (same k i || q k)
 at-fresh i k p q h = go (same? k i)
   where

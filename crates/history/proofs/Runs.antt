@@ -1,7 +1,7 @@
 -- A list of words from a state: its rows, what becomes of the labels in the rest of it, and the first half of demand 3.
 use mathlib.Core.Path.{_≡_, refl, sym, ap, subst⁻¹, _∙_}
 use mathlib.Core.Bool.{true, false, true≢false, false≢true}
-use mathlib.Core.List.{List, [], _∷_}
+use mathlib.Core.List.{List, [], _∷_, _++_}
 use mathlib.Core.Logic.{_≢_}
 use Prim.Native.Nat.{ℕ, _≤_}
 use native.Mathlib.Omega.{arith}
@@ -14,12 +14,12 @@ use Rattle.rules.specs.State.{live, down, open-state}
 use Rattle.rules.specs.Versions.{open-versions}
 use Rattle.rules.specs.Form.{Form}
 use Rattle.rules.specs.Step.{Answer, done, refused, cut, numberOf, valueOf, StateOf, OutcomeOf, step}
-use Rattle.rules.specs.Run.{play}
+use Rattle.rules.specs.Run.{answerBytes, play}
 use Rattle.rules.proofs.Medium.{MediumLaws}
 use Rattle.rules.proofs.Acceptance.{refused-number}
 use Rattle.rules.proofs.Soundness.{Reached, reached-word}
 use Rattle.history.specs.History.{History, nothingYet, survives, overlaid, told, open-history}
-use Rattle.history.specs.Demand3.{Row, answerOf, heard, history}
+use Rattle.history.specs.Demand3.{Row, answerOf, rows, heard, history}
 use Rattle.history.proofs.Overlay.{overlaid-pick}
 use Rattle.history.proofs.Roots.{Root, settled, lost, at, isSettled}
 use Rattle.history.proofs.Table.{bearer-known, root-bearer, survives-is}
@@ -45,6 +45,12 @@ module _ (f : Form) where
   unfoldable pub rowsFrom : StateOf f → List ℕ → List Row
   rowsFrom s [] = []
   rowsFrom s (w ∷ ws) = rowBy w (stepOf s w .answer) ∷ rowsFrom (stepOf s w .state) ws
+
+  -- they are its words with its answer bytes, behind which others may stand
+  pub rows-are : (s : StateOf f) (ws rest : List ℕ) → rows ws (answerBytes (play f s ws .answers) ++ rest) ≡ rowsFrom s ws
+  unfolding rows rowsFrom play answerBytes
+  rows-are s [] rest = refl
+  rows-are s (w ∷ ws) rest = ap (rowBy w (stepOf s w .answer) ∷_) (rows-are (stepOf s w .state) ws rest)
 
   pub answer-back : (s : StateOf f) (w : ℕ) → answerOf (rowBy w (stepOf s w .answer)) ≡ stepOf s w .answer
   answer-back s w = read-back w (stepOf s w .answer) (refused-number f s (decode (f .geometry) w))

@@ -39,7 +39,7 @@ pub record History : Type 0 where
 unfoldable pub nothingYet : History
 nothingYet = record { begun = 0; bearer = λ t. 0; parent = λ i. 0; fate = λ i. ended; writes = [] }
 
--- An answer is accepted exactly if its number is 0 or 11.
+-- An event is accepted exactly if its answer's number is 0 (done) or 11 (cut).
 unfoldable pub accepted : Answer → Bool
 accepted (done v) = true
 accepted (refused n) = false
