@@ -12,9 +12,37 @@ ghost use Rattle.rules.specs.Editions.{geometry1, edition1};
 ghost use Rattle.numbers.specs.Named.{recordOf};
 ghost use Rattle.nekahuiro.specs.Ages.{toldAs, ageIn, ageNumber, ageLeft};
 ghost use Rattle.nekahuiro.specs.Laying.{LaidTo};
+ghost use Rattle.nekahuiro.specs.Running.{lengthsRefused, refusalNumber, Ran};
 ghost use Rattle.age.specs.Meaning.{meaning};
 
 const STORE: usize = 1056;
+
+const WORK: usize = 4096;
+
+// The bytes of the longest list: 4,096 events.
+const EVENTS: usize = 16384;
+
+// The refusal before the first event, by the lengths of the buffers; 0 for none.
+fn refusal(store: usize, events: usize, work: usize, answers: usize) -> u8
+    ensures { λ r. ⌜ r ≡ refusalNumber (lengthsRefused store events work answers) ⌝ }
+{
+    if store != STORE {
+        return 22;
+    }
+    if work != WORK {
+        return 24;
+    }
+    if events % 4 != 0 {
+        return 20;
+    }
+    if EVENTS < events {
+        return 20;
+    }
+    if answers < events / 4 * 2 {
+        return 21;
+    }
+    0
+}
 
 // Page n of a fresh store.
 fn fresh_page(n: usize) -> [u8; 32]
