@@ -6,15 +6,20 @@ use mathlib.Core.Logic.{_≢_}
 use mathlib.Core.Option.{Option, none, some}
 use Prim.Native.Nat.{ℕ, zero, suc, _+_, _*_, _/_, _%_, _<_, _≤_}
 use native.Mathlib.Omega.{arith}
-use lib.ListN.{length}
+use lib.ListN.{length, drop}
 use Rattle.laws.specs.Tests.{same, under}
 use Rattle.laws.proofs.Tests.{same-refl, same-eq, ne-false, lt-under, not-under, or-false-left, or-false-right}
 use Rattle.laws.proofs.Booleans.{not-false}
-use Rattle.rules.specs.Geometry.{open-geometry}
-use Rattle.rules.specs.Step.{firstOf}
-use Rattle.rules.specs.Run.{Result, runRefusals, runAll, runBy, run, eventsIn}
-use Rattle.rules.specs.Editions.{edition1}
+use Rattle.rules.specs.Geometry.{pageCount, open-geometry}
+use Rattle.rules.specs.Step.{firstOf, StateOf}
+use Rattle.rules.specs.Store.{pagesOf, flat}
+use Rattle.rules.specs.State.{down}
+use Rattle.rules.specs.Run.{Result, runRefusals, runAll, runBy, run, eventsIn, words, play, answerBytes}
+use Rattle.rules.specs.Editions.{geometry1, edition1}
 use Rattle.rules.proofs.Cuts.{not-lt-under}
+use Rattle.events.specs.Whole.{Arrays, view}
+use Rattle.engine.specs.Portion.{whole, played, Portion}
+use Rattle.engine.specs.declared.Engine.{Engine}
 use Rattle.nekahuiro.specs.Running.{lengthsRefused, refusalNumber, Ran}
 
 pub refused-store : (s e w a : ℕ) → s ≢ 1056 → 22 ≡ refusalNumber (lengthsRefused s e w a)
@@ -53,7 +58,7 @@ pub record Lengths (s e w a : ℕ) : Type 0 where
   pub work : w ≡ 4096
   pub whole : e % 4 ≡ 0
   pub short : e ≤ 16384
-  pub room : 2 * (e / 4) ≤ a
+  pub room : e ≤ 2 * a
 
 tests : Bool → Bool → Bool → Bool → Option ℕ
 tests b c d f = cond b (some 22) (cond c (some 24) (cond d (some 20) (cond f (some 21) none)))
@@ -80,7 +85,7 @@ lengths-of s e w a z = go (pass-all (not (same s 1056)) (not (same w 4096)) (not
       work = same-eq w 4096 (not-false _ q);
       whole = same-eq (e % 4) 0 (not-false _ (or-false-left _ _ r));
       short = not-under 16384 e (or-false-right (not (same (e % 4) 0)) _ r);
-      room = not-under a (2 * (e / 4)) t;
+      room = let w : e % 4 ≡ 0 = same-eq (e % 4) 0 (not-false _ (or-false-left _ _ r)) in let m : 2 * (e / 4) ≤ a = not-under a (2 * (e / 4)) t in omega arith;
     }
 
 -- a refused run
@@ -107,3 +112,12 @@ run-played store events work answers store′ work′ answers′ z p q l =
       untouched = λ k. absurd (k refl);
       long = l;
     }
+
+-- a portion from the start is the whole run
+pub from-start : (store events work answers : List ℕ) (e : Engine) (y : Arrays) (answers′ : List ℕ) → view (whole e work store) ≡ down (pagesOf store)
+    → Portion (whole e work store) events answers y answers′ → (y .store ≡ runAll edition1 store events answers .store) × (answers′ ≡ runAll edition1 store events answers .answers)
+unfolding runAll played
+from-start store events work answers e y answers′ v P = (
+  P .store ∙ ap (λ (s : StateOf edition1). flat (pageCount geometry1) (play edition1 s (words geometry1 (eventsIn edition1 events) events) .state .store)) v,
+  P .answered ∙ ap (λ (s : StateOf edition1). answerBytes (play edition1 s (words geometry1 (eventsIn edition1 events) events) .answers) ++ drop (2 * eventsIn edition1 events) answers) v,
+)

@@ -170,3 +170,22 @@ pub extern "C" fn nekahuiro_age(
         Told::Refused(n) => n,
     }
 }
+
+// Runs a list of events on a store, with an answer of two bytes for each. 0, or a refusal's number: 22, 24, 20 or 21, in this order, and then
+// touches no buffer.
+#[no_mangle]
+pub extern "C" fn nekahuiro_run(
+    store: &mut [u8],
+    events: &[u8],
+    work: &mut [u8],
+    answers: &mut [u8],
+) -> u8
+    ensures { λ r. ⌜ Ran (now (store .entry)) (now (events .entry)) (now (work .entry)) (now (answers .entry)) r (now (store .exit)) (now (work .exit)) (now (answers .exit)) ⌝ }
+{
+    let n = refusal(store.len(), events.len(), work.len(), answers.len());
+    if n != 0 {
+        return n;
+    }
+    engine::portion(engine::start(), store, events, work, answers);
+    0
+}
