@@ -17,6 +17,8 @@ use Rattle.rules.specs.State.{down}
 use Rattle.rules.specs.Run.{Result, runRefusals, runAll, runBy, run, eventsIn, words, play, answerBytes}
 use Rattle.rules.specs.Editions.{geometry1, edition1}
 use Rattle.rules.proofs.Cuts.{not-lt-under}
+use Rattle.history.specs.Demand3.{Demand-3, Demand-3-holds, Plays}
+use Rattle.history.proofs.Demand3.{demand-3-edition1}
 use Rattle.events.specs.Whole.{Arrays, view}
 use Rattle.engine.specs.Portion.{whole, played, Portion}
 use Rattle.engine.specs.declared.Engine.{Engine}
@@ -121,3 +123,12 @@ from-start store events work answers e y answers′ v P = (
   P .store ∙ ap (λ (s : StateOf edition1). flat (pageCount geometry1) (play edition1 s (words geometry1 (eventsIn edition1 events) events) .state .store)) v,
   P .answered ∙ ap (λ (s : StateOf edition1). answerBytes (play edition1 s (words geometry1 (eventsIn edition1 events) events) .answers) ++ drop (2 * eventsIn edition1 events) answers) v,
 )
+
+-- DEMAND 3 of a run that is played
+ran-demand : {store events work answers store′ work′ answers′ : List ℕ} {n : ℕ} → Ran store events work answers n store′ work′ answers′ → n ≡ 0 → Demand-3 edition1 store events work answers
+unfolding Demand-3-holds Plays
+ran-demand R z = demand-3-edition1 _ _ _ _ (sym (R .answered) ∙ z)
+
+pub signed : {store events work answers store′ work′ answers′ : List ℕ} {n : ℕ} → Ran store events work answers n store′ work′ answers′
+    → Ran store events work answers n store′ work′ answers′ × (n ≡ 0 → Demand-3 edition1 store events work answers)
+signed R = (R, ran-demand R)

@@ -10,6 +10,7 @@ ghost use Rattle.rules.specs.Run.{layFresh};
 ghost use Rattle.rules.specs.Age.{ageOf};
 ghost use Rattle.rules.specs.Editions.{geometry1, edition1};
 ghost use Rattle.numbers.specs.Named.{recordOf};
+ghost use Rattle.history.specs.Demand3.{Demand-3};
 ghost use Rattle.nekahuiro.specs.Ages.{toldAs, ageIn, ageNumber, ageLeft};
 ghost use Rattle.nekahuiro.specs.Laying.{LaidTo};
 ghost use Rattle.nekahuiro.specs.Running.{lengthsRefused, refusalNumber, Ran};
@@ -172,7 +173,7 @@ pub extern "C" fn nekahuiro_age(
 }
 
 // Runs a list of events on a store, with an answer of two bytes for each. 0, or a refusal's number: 22, 24, 20 or 21, in this order, and then
-// touches no buffer.
+// touches no buffer. Of a run that is played demand 3 holds: it speaks of `run edition1`, which is what this function leaves.
 #[no_mangle]
 pub extern "C" fn nekahuiro_run(
     store: &mut [u8],
@@ -181,6 +182,7 @@ pub extern "C" fn nekahuiro_run(
     answers: &mut [u8],
 ) -> u8
     ensures { λ r. ⌜ Ran (now (store .entry)) (now (events .entry)) (now (work .entry)) (now (answers .entry)) r (now (store .exit)) (now (work .exit)) (now (answers .exit)) ⌝ }
+    ensures { λ r. ⌜ (r ≡ 0 → Demand-3 edition1 (now (store .entry)) (now (events .entry)) (now (work .entry)) (now (answers .entry))) ⌝ }
 {
     let n = refusal(store.len(), events.len(), work.len(), answers.len());
     if n != 0 {

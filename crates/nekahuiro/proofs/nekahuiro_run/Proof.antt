@@ -2,7 +2,7 @@
 use borrow.Author.Needs.{needs}
 use mathlib.Core.Path.{_≡_, sym, _∙_}
 use native.Mathlib.Omega.{arith}
-use Rattle.nekahuiro.proofs.Running.{lengths-of, run-refused, run-played, from-start}
+use Rattle.nekahuiro.proofs.Running.{lengths-of, run-refused, run-played, from-start, signed}
 use Rattle.nekahuiro.proofs.nekahuiro_run.Statement.{statement}
 use Rattle.nekahuiro.proofs.nekahuiro_run.Tie as tie
 use Rattle.nekahuiro.proofs.nekahuiro_run.Reads as reads
@@ -19,7 +19,7 @@ refusal-requires c κs = search needs
 returns : tie.Need-returns
 returns c =
     let a = c .before .before .before .before .before .before .args in
-    run-refused (a .store .now) (a .events .now) (a .work .now) (a .answers .now) (c .before .refusal .result) (c .before .refusal .ensures) (c .if1 .taken)
+    signed (run-refused (a .store .now) (a .events .now) (a .work .now) (a .answers .now) (c .before .refusal .result) (c .before .refusal .ensures) (c .if1 .taken))
 
 -- src/lib.rt:189:21
 start-requires : tie.Need-start-requires
@@ -52,7 +52,7 @@ returns-2 c =
     let l = lengths-of _ _ _ _ none in
     let begun = c .before .before .before .before .before .before .before .before .before .before .start .ensures (a .work .now) (a .store .now) (l .work) (l .store) in
     let left = from-start (a .store .now) (a .events .now) (a .work .now) (a .answers .now) (c .before .before .before .before .before .before .before .before .before .before .start .result) _ _ (begun .1) (c .before .before .before .before .before .before .portion .ensures) in
-    run-played (a .store .now) (a .events .now) (a .work .now) (a .answers .now) _ _ _ none (left .0) (left .1) (search needs)
+    signed (run-played (a .store .now) (a .events .now) (a .work .now) (a .answers .now) _ _ _ none (left .0) (left .1) (search needs))
 
 pub nekahuiro-run-spec : {M : Type 1} → statement M
 nekahuiro-run-spec =
