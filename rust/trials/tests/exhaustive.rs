@@ -23,8 +23,8 @@ fn play(name: &str, store: Bytes, alphabet: &str, prefix: &str, length: usize, c
 #[test]
 fn every_short_list() {
     for (name, alphabet) in [("nested", NESTED), ("contended", CONTENDED), ("crashing", CRASHING), ("stray", STRAY)] {
-        play(&format!("{name}, fresh"), stores::fresh(), alphabet, "", 4, Choice::Every);
-        play(&format!("{name}, committed"), committed(), alphabet, "", 4, Choice::Every);
+        play(&format!("{name}, fresh"), stores::fresh(), alphabet, "", 5, Choice::Every);
+        play(&format!("{name}, committed"), committed(), alphabet, "", 5, Choice::Every);
     }
 }
 
@@ -32,7 +32,7 @@ fn every_short_list() {
 fn every_short_list_after_a_begin() {
     for (name, alphabet) in [("nested", NESTED), ("contended", CONTENDED), ("crashing", CRASHING)] {
         let prefix = "recover 63, begin none, lock 0 0";
-        play(&format!("{name}, begun"), committed(), alphabet, prefix, 4, Choice::Every);
+        play(&format!("{name}, begun"), committed(), alphabet, prefix, 5, Choice::Every);
     }
 }
 
@@ -40,7 +40,7 @@ fn every_short_list_after_a_begin() {
 fn every_short_list_on_damaged_stores() {
     for way in 0..stores::DAMAGES {
         let store = stores::damaged(&mut Rng::new(way as u64), way);
-        play(&format!("damaged in way {way}"), store, CRASHING, "", 3, Choice::Every);
+        play(&format!("damaged in way {way}"), store, CRASHING, "", 4, Choice::Every);
     }
 }
 
@@ -48,7 +48,7 @@ fn every_short_list_on_damaged_stores() {
 fn longer_lists_of_accepted_events() {
     for (name, alphabet) in [("nested", NESTED), ("contended", CONTENDED), ("crashing", CRASHING)] {
         for (kind, store) in [("fresh", stores::fresh()), ("committed", committed())] {
-            play(&format!("{name}, accepted, {kind}"), store, alphabet, "recover 63", 6, Choice::AcceptedButLast);
+            play(&format!("{name}, accepted, {kind}"), store, alphabet, "recover 63", 7, Choice::AcceptedButLast);
         }
     }
 }
