@@ -1,6 +1,8 @@
 /* How much stack the calls use: each runs on a painted stack, and the paint that is gone is counted.
  * The exit status is 0 only if it is less than the header says. */
 
+#define _POSIX_C_SOURCE 200809L
+
 #include "nekahuiro.h"
 
 #include <pthread.h>

@@ -2,7 +2,7 @@
 
 use nekahuiro_lists::stores::{self, Bytes};
 use nekahuiro_lists::Rng;
-use nekahuiro_trials::exhaustive::{Choice, Family, CONTENDED, CRASHING, NESTED, STRAY};
+use nekahuiro_trials::exhaustive::{Choice, Family, CONTENDED, CRASHING, INHERITED, NESTED, STRAY};
 use nekahuiro_trials::{settings, Program};
 use std::time::Instant;
 
@@ -24,15 +24,15 @@ fn play(name: &str, store: Bytes, alphabet: &str, prefix: &str, length: usize, c
 fn every_short_list() {
     for (name, alphabet) in [("nested", NESTED), ("contended", CONTENDED), ("crashing", CRASHING), ("stray", STRAY)] {
         play(&format!("{name}, fresh"), stores::fresh(), alphabet, "", 5, Choice::Every);
-        play(&format!("{name}, committed"), committed(), alphabet, "", 5, Choice::Every);
+        play(&format!("{name}, committed"), committed(), alphabet, "", 4, Choice::Every);
     }
 }
 
 #[test]
-fn every_short_list_after_a_begin() {
+fn every_short_list_after_a_lock() {
     for (name, alphabet) in [("nested", NESTED), ("contended", CONTENDED), ("crashing", CRASHING)] {
         let prefix = "recover 63, begin none, lock 0 0";
-        play(&format!("{name}, begun"), committed(), alphabet, prefix, 5, Choice::Every);
+        play(&format!("{name}, locked"), committed(), alphabet, prefix, 4, Choice::Every);
     }
 }
 
@@ -47,8 +47,10 @@ fn every_short_list_on_damaged_stores() {
 #[test]
 fn longer_lists_of_accepted_events() {
     for (name, alphabet) in [("nested", NESTED), ("contended", CONTENDED), ("crashing", CRASHING)] {
-        for (kind, store) in [("fresh", stores::fresh()), ("committed", committed())] {
-            play(&format!("{name}, accepted, {kind}"), store, alphabet, "recover 63", 7, Choice::AcceptedButLast);
+        for (kind, store, length) in [("fresh", stores::fresh(), 8), ("committed", committed(), 7)] {
+            play(&format!("{name}, accepted, {kind}"), store, alphabet, "recover 63", length, Choice::AcceptedButLast);
         }
     }
+    let prefix = "recover 63, begin none";
+    play("inherited, accepted", committed(), INHERITED, prefix, 10, Choice::AcceptedButLast);
 }
