@@ -28,7 +28,7 @@ pub fn fresh(arguments: &[String]) -> Outcome {
 
 /// Reads a store file.
 pub fn read_store(path: &str) -> Outcome<Store> {
-    let bytes = read(path)?;
+    let bytes = fs::read(path).map_err(|error| cant_read(path, &error))?;
     Store::of(&bytes).map_err(|refusal| {
         let reason = format!("{path} is no store: it has {} bytes ({refusal})", bytes.len());
         Failure::new(&reason, "make one with `./nekahuiro fresh STORE`")
@@ -42,16 +42,17 @@ pub fn read(path: &str) -> Outcome<Vec<u8>> {
         "-" => io::stdin().lock().read_to_end(&mut bytes).map(|_| ()),
         _ => fs::read(path).map(|found| bytes = found),
     };
-    outcome.map_err(|error| Failure::new(&format!("can't read {path}: {error}"), mend_read(&error)))?;
+    outcome.map_err(|error| cant_read(path, &error))?;
     Ok(bytes)
 }
 
-fn mend_read(error: &io::Error) -> &'static str {
-    match error.kind() {
+fn cant_read(path: &str, error: &io::Error) -> Failure {
+    let mend = match error.kind() {
         io::ErrorKind::NotFound => "check the name; `./nekahuiro fresh STORE` makes a store",
         io::ErrorKind::PermissionDenied => "ask for the right to read it",
         _ => "check that it is a file",
-    }
+    };
+    Failure::new(&format!("can't read {path}: {error}"), mend)
 }
 
 /// New content for a file, written beside it and not yet in its place. Dropped, it leaves no trace.

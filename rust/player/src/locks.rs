@@ -1,7 +1,7 @@
-//! The lock table: for each record that is locked at all, who holds and who retains.
+//! The lock table: for each record who holds its lock and who retains it.
 
 use crate::event::{Record, Transaction};
-use std::collections::BTreeMap;
+use crate::limits::RECORDS;
 
 /// The lock of one record.
 #[derive(Default)]
@@ -12,32 +12,32 @@ pub struct Lock {
     pub retainers: Vec<Transaction>,
 }
 
-/// The locks that somebody holds or retains.
+/// The lock of each record.
 #[derive(Default)]
 pub struct Locks {
-    table: BTreeMap<Record, Lock>,
+    table: [Lock; RECORDS],
 }
 
 impl Locks {
-    /// The lock of a record, if anybody has to do with it.
-    pub fn get(&self, record: Record) -> Option<&Lock> {
-        self.table.get(&record)
+    /// The lock of a record.
+    pub fn get(&self, record: Record) -> &Lock {
+        &self.table[usize::from(record.0)]
     }
 
     /// Whether this very transaction holds the lock.
     pub fn holds(&self, transaction: Transaction, record: Record) -> bool {
-        self.get(record).is_some_and(|lock| lock.holder == Some(transaction))
+        self.get(record).holder == Some(transaction)
     }
 
     /// The transaction holds the lock from now on.
     pub fn grant(&mut self, transaction: Transaction, record: Record) {
-        self.table.entry(record).or_default().holder = Some(transaction);
+        self.table[usize::from(record.0)].holder = Some(transaction);
     }
 
     /// The parent retains all that its child held or retained; the child has nothing left.
     pub fn pass_up(&mut self, child: Transaction, parent: Transaction) {
-        for lock in self.table.values_mut() {
-            if lock.discard(child) && !lock.retainers.contains(&parent) {
+        for lock in &mut self.table {
+            if lock.discard(&[child]) && !lock.retainers.contains(&parent) {
                 lock.retainers.push(parent);
             }
         }
@@ -45,29 +45,26 @@ impl Locks {
 
     /// Whoever is among these holds and retains nothing any more.
     pub fn discard(&mut self, ended: &[Transaction]) {
-        self.table.retain(|_, lock| {
-            for transaction in ended {
-                lock.discard(*transaction);
-            }
-            lock.holder.is_some() || !lock.retainers.is_empty()
-        });
+        for lock in &mut self.table {
+            lock.discard(ended);
+        }
     }
 
     /// Nobody holds or retains anything any more.
     pub fn clear(&mut self) {
-        self.table.clear();
+        *self = Locks::default();
     }
 }
 
 impl Lock {
-    /// Takes a transaction out of the lock; tells whether it held or retained it.
-    fn discard(&mut self, transaction: Transaction) -> bool {
-        let held = self.holder == Some(transaction);
+    /// Takes transactions out of the lock; tells whether any of them held or retained it.
+    fn discard(&mut self, ended: &[Transaction]) -> bool {
+        let held = self.holder.is_some_and(|holder| ended.contains(&holder));
         if held {
             self.holder = None;
         }
         let before = self.retainers.len();
-        self.retainers.retain(|retainer| *retainer != transaction);
+        self.retainers.retain(|retainer| !ended.contains(retainer));
         held || self.retainers.len() < before
     }
 }

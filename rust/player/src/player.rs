@@ -101,10 +101,8 @@ impl<'s> Player<'s> {
                 return Err(Refusal::TooDeep);
             }
         }
-        if self.tree.is_full() {
-            return Err(Refusal::Full);
-        }
-        Ok(Answer(DONE, self.tree.begin(parent).0))
+        let number = self.tree.begin(parent).ok_or(Refusal::Full)?;
+        Ok(Answer(DONE, number.0))
     }
 
     fn lock(&mut self, transaction: Transaction, record: Record) -> Outcome {
@@ -118,7 +116,7 @@ impl<'s> Player<'s> {
 
     /// No other transaction holds the lock and every retainer is the asker or its ancestor.
     fn grantable(&self, asker: Transaction, record: Record) -> bool {
-        let Some(lock) = self.locks.get(record) else { return true };
+        let lock = self.locks.get(record);
         let on_line = |retainer: &Transaction| self.tree.line(asker).any(|t| t == *retainer);
         lock.holder.is_none_or(|holder| holder == asker)
             && (self.planted(Bug::GrantBlindToRetainers) || lock.retainers.iter().all(on_line))
@@ -263,9 +261,8 @@ impl<'s> Player<'s> {
     }
 
     fn held(&self, transaction: Transaction, record: Record) -> Result<(), Refusal> {
-        let retains = |lock: &crate::locks::Lock| lock.retainers.contains(&transaction);
-        let enough = self.locks.holds(transaction, record)
-            || (self.planted(Bug::RetainerNeedsNoLock) && self.locks.get(record).is_some_and(retains));
+        let retains = || self.locks.get(record).retainers.contains(&transaction);
+        let enough = self.locks.holds(transaction, record) || (self.planted(Bug::RetainerNeedsNoLock) && retains());
         enough.then_some(()).ok_or(Refusal::NotHeld)
     }
 }

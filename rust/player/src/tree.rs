@@ -15,31 +15,26 @@ pub struct Node {
     pub versions: BTreeMap<Record, Page>,
 }
 
-/// All live transactions by number.
+/// All live transactions, each in the slot of its number.
 #[derive(Default)]
 pub struct Tree {
-    live: BTreeMap<Transaction, Node>,
+    slots: [Option<Node>; TRANSACTIONS],
 }
 
 impl Tree {
     /// The live transaction of this number.
     pub fn get(&self, transaction: Transaction) -> Option<&Node> {
-        self.live.get(&transaction)
+        self.slots.get(usize::from(transaction.0))?.as_ref()
     }
 
     /// The same, to change.
     pub fn get_mut(&mut self, transaction: Transaction) -> Option<&mut Node> {
-        self.live.get_mut(&transaction)
+        self.slots.get_mut(usize::from(transaction.0))?.as_mut()
     }
 
     /// Whether the number is live.
     pub fn is_live(&self, transaction: Transaction) -> bool {
-        self.live.contains_key(&transaction)
-    }
-
-    /// Whether every number is taken.
-    pub fn is_full(&self) -> bool {
-        self.live.len() == TRANSACTIONS
+        self.get(transaction).is_some()
     }
 
     /// Whether a child of it would be too deep.
@@ -47,13 +42,17 @@ impl Tree {
         self.get(transaction).is_some_and(|node| node.depth == DEPTH_LIMIT)
     }
 
-    /// Begins a transaction under the lowest free number.
-    pub fn begin(&mut self, parent: Option<Transaction>) -> Transaction {
+    /// Begins a transaction under the lowest free number, if there is one.
+    pub fn begin(&mut self, parent: Option<Transaction>) -> Option<Transaction> {
         let depth = 1 + parent.and_then(|p| self.get(p)).map_or(0, |node| node.depth);
-        let taken = self.live.keys().zip(0..).take_while(|(number, lowest)| number.0 == *lowest);
-        let number = Transaction(taken.count() as u8);
-        self.live.insert(number, Node { parent, depth, versions: BTreeMap::new() });
-        number
+        let free = self.slots.iter().position(Option::is_none)?;
+        self.slots[free] = Some(Node { parent, depth, versions: BTreeMap::new() });
+        Some(Transaction(free as u8))
+    }
+
+    /// The numbers of live transactions, rising.
+    fn live(&self) -> impl Iterator<Item = Transaction> + '_ {
+        (0..).zip(&self.slots).filter(|(_, slot)| slot.is_some()).map(|(number, _)| Transaction(number))
     }
 
     /// A transaction and its ancestors, nearest first.
@@ -63,12 +62,12 @@ impl Tree {
 
     /// Whether any live transaction has this one as its parent.
     pub fn has_child(&self, transaction: Transaction) -> bool {
-        self.live.values().any(|node| node.parent == Some(transaction))
+        self.slots.iter().flatten().any(|node| node.parent == Some(transaction))
     }
 
     /// A transaction and its live descendants.
     pub fn with_descendants(&self, transaction: Transaction) -> Vec<Transaction> {
-        self.live.keys().copied().filter(|t| self.line(*t).any(|up| up == transaction)).collect()
+        self.live().filter(|t| self.line(*t).any(|up| up == transaction)).collect()
     }
 
     /// What a transaction reads of a record where it or an ancestor has a version.
@@ -78,11 +77,11 @@ impl Tree {
 
     /// Ends one transaction and hands out what it was.
     pub fn remove(&mut self, transaction: Transaction) -> Option<Node> {
-        self.live.remove(&transaction)
+        self.slots.get_mut(usize::from(transaction.0))?.take()
     }
 
     /// Ends all.
     pub fn clear(&mut self) {
-        self.live.clear();
+        *self = Tree::default();
     }
 }

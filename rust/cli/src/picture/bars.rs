@@ -9,7 +9,7 @@ use nekahuiro_history::End;
 /// Draws all bars, parents first.
 pub fn draw(svg: &mut Svg, told: &Told, scale: &Scale, layout: &Layout, top: f64) {
     let label = if layout.bars.is_empty() { "no transactions" } else { "transactions" };
-    svg.text(16.0 - 8.0, top + 16.0, "label", label);
+    svg.text(16.0, top + 16.0, "label", label);
     let mut rows = vec![0.0; told.history.transactions.len()];
     for bar in &layout.bars {
         rows[bar.transaction] = top + bar.top;
@@ -44,10 +44,11 @@ fn draw_box(svg: &mut Svg, told: &Told, scale: &Scale, bar: &Bar, y: f64) {
 
 /// The transaction's number, where it begins.
 fn draw_badge(svg: &mut Svg, told: &Told, scale: &Scale, bar: &Bar, y: f64) {
+    let transaction = &told.history.transactions[bar.transaction];
     if !scale.has_room_for_text() {
+        svg.text(scale.left(bar.first) + 3.0, y - 4.5, "small", &transaction.number.to_string());
         return;
     }
-    let transaction = &told.history.transactions[bar.transaction];
     let class = if transaction.survives { "badge-survives" } else { "badge-lost" };
     svg.circle(scale.middle(bar.first), y, 8.5, class);
     svg.text(scale.middle(bar.first), y + 3.5, "badge", &transaction.number.to_string());
@@ -61,7 +62,7 @@ fn draw_event(svg: &mut Svg, told: &Told, scale: &Scale, at: usize, y: f64) {
     }
     let x = scale.middle(at);
     if !scale.has_room_for_text() {
-        svg.rect(scale.left(at), y - 4.0, scale.step - 1.0, 8.0, if accepted { "tick" } else { "tick-no" }, "");
+        svg.rect(scale.left(at), y - 2.0, scale.step - 1.0, 9.0, if accepted { "tick" } else { "tick-no" }, "");
     } else if accepted {
         svg.text(x, y + 4.0, class, &letters);
     } else {

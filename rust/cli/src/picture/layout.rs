@@ -2,7 +2,7 @@
 
 use nekahuiro_history::{End, History};
 
-const LEFT: f64 = 78.0;
+const LEFT: f64 = 94.0;
 const RIGHT: f64 = 16.0;
 const WIDEST: f64 = 34.0;
 const NARROWEST: f64 = 4.0;

@@ -3,42 +3,57 @@
 use super::layout::Scale;
 use super::svg::Svg;
 use super::Told;
-use crate::follow::{Follower, Lock};
+use crate::follow::Follower;
 use nekahuiro::limits::RECORDS;
 
 const ROW: f64 = 30.0;
 
-/// A stretch of events during which a lock stays the same.
+/// A stretch of events during which the same transactions have to do with a lock.
 struct Stretch {
     first: usize,
     /// One past the last event.
     end: usize,
-    lock: Lock,
+    /// Their numbers; empty for nobody.
+    who: String,
+}
+
+/// The lock of one record through a run.
+#[derive(Default)]
+struct Row {
+    held: Vec<Stretch>,
+    retained: Vec<Stretch>,
 }
 
 /// The locks of the records that were ever locked.
 pub struct Rows {
-    rows: Vec<(usize, Vec<Stretch>)>,
+    rows: Vec<(usize, Row)>,
+}
+
+/// Lengthens the last stretch, or begins another.
+fn note(stretches: &mut Vec<Stretch>, at: usize, who: String) {
+    match stretches.last_mut() {
+        Some(last) if last.who == who => last.end = at + 1,
+        _ => stretches.push(Stretch { first: at, end: at + 1, who }),
+    }
 }
 
 impl Rows {
     /// Follows the locks through a run.
     pub fn of(told: &Told) -> Rows {
         let mut follower = Follower::default();
-        let mut stretches: [Vec<Stretch>; RECORDS] = Default::default();
+        let mut rows: [Row; RECORDS] = Default::default();
         for (at, (event, answer)) in told.events.iter().zip(told.answers).enumerate() {
             if let Some(event) = event {
                 follower.event(*event, *answer);
             }
-            for (record, lock) in follower.locks.iter().enumerate() {
-                match stretches[record].last_mut() {
-                    Some(last) if last.lock == *lock => last.end = at + 1,
-                    _ => stretches[record].push(Stretch { first: at, end: at + 1, lock: lock.clone() }),
-                }
+            for (row, lock) in rows.iter_mut().zip(&follower.locks) {
+                let retainers: Vec<String> = lock.retainers.iter().map(u8::to_string).collect();
+                note(&mut row.held, at, lock.holder.map(|holder| holder.to_string()).unwrap_or_default());
+                note(&mut row.retained, at, retainers.join(" "));
             }
         }
-        let used = |stretches: &Vec<Stretch>| stretches.iter().any(|stretch| stretch.lock != Lock::default());
-        Rows { rows: stretches.into_iter().enumerate().filter(|(_, stretches)| used(stretches)).collect() }
+        let used = |row: &Row| row.held.iter().any(|stretch| !stretch.who.is_empty());
+        Rows { rows: rows.into_iter().enumerate().filter(|(_, row)| used(row)).collect() }
     }
 
     /// The height of all rows.
@@ -48,37 +63,25 @@ impl Rows {
 
     /// Draws the rows.
     pub fn draw(&self, svg: &mut Svg, scale: &Scale, top: f64) {
-        for (place, (record, stretches)) in self.rows.iter().enumerate() {
+        for (place, (record, row)) in self.rows.iter().enumerate() {
             let y = top + place as f64 * ROW;
             svg.line(16.0, y, scale.right() - 16.0, y, "grid");
             svg.text(16.0, y + 16.0, "label", &format!("record {record}"));
-            for stretch in stretches {
-                stretch.draw(svg, scale, y);
-            }
+            row.held.iter().for_each(|stretch| stretch.draw(svg, scale, y + 2.0, "held"));
+            row.retained.iter().for_each(|stretch| stretch.draw(svg, scale, y + 16.0, "retained"));
         }
     }
 }
 
 impl Stretch {
-    fn draw(&self, svg: &mut Svg, scale: &Scale, y: f64) {
-        let (x, width) = (scale.left(self.first), (self.end - self.first) as f64 * scale.step - 1.0);
-        if let Some(holder) = self.lock.holder {
-            svg.rect(x, y + 2.0, width, 13.0, "held", &format!("held by {holder}"));
-            self.name(svg, scale, y + 12.0, "held-by", &holder.to_string());
+    fn draw(&self, svg: &mut Svg, scale: &Scale, y: f64, class: &str) {
+        if self.who.is_empty() {
+            return;
         }
-        if !self.lock.retainers.is_empty() {
-            let names: Vec<String> = self.lock.retainers.iter().map(u8::to_string).collect();
-            let names = names.join(" ");
-            svg.rect(x, y + 16.0, width, 12.0, "retained", &format!("retained by {names}"));
-            self.name(svg, scale, y + 25.0, "retained-by", &names);
-        }
-    }
-
-    /// A name, where the stretch has room for it.
-    fn name(&self, svg: &mut Svg, scale: &Scale, y: f64, class: &str, name: &str) {
         let (left, right) = (scale.left(self.first), scale.left(self.end));
-        if right - left > 4.0 + 6.0 * name.len() as f64 {
-            svg.text((left + right) / 2.0, y, class, name);
+        svg.rect(left, y, right - left - 1.0, 12.0, class, &format!("{class} by {}", self.who));
+        if right - left > 4.0 + 6.0 * self.who.len() as f64 {
+            svg.text((left + right) / 2.0, y + 9.5, &format!("{class}-by"), &self.who);
         }
     }
 }

@@ -23,6 +23,7 @@ pub struct Told<'t> {
 
 const TITLE: f64 = 30.0;
 const AXIS: f64 = 44.0;
+const CRASH_LABEL: f64 = 28.0;
 const LEGEND: f64 = 58.0;
 const LEAST_WIDTH: f64 = 900.0;
 
@@ -37,13 +38,13 @@ pub fn draw(words: &[u8], answers: &[Answer], history: &History) -> String {
     let top_of_locks = top_of_bars + bars.height + 12.0;
     let bottom = top_of_locks + locks.height();
     let width = scale.right().max(LEAST_WIDTH);
-    let mut svg = Svg::new(width, bottom + LEGEND);
+    let mut svg = Svg::new(width, bottom + CRASH_LABEL + LEGEND);
     svg.text(16.0, 20.0, "title", &title(&told));
     axis(&mut svg, &told, &scale);
     bars::draw(&mut svg, &told, &scale, &bars, top_of_bars);
     locks.draw(&mut svg, &scale, top_of_locks);
     crashes(&mut svg, &told, &scale, bottom);
-    legend(&mut svg, bottom + 16.0);
+    legend(&mut svg, bottom + CRASH_LABEL + 12.0);
     svg.finish()
 }
 
@@ -80,18 +81,20 @@ fn axis(svg: &mut Svg, told: &Told, scale: &Scale) {
     }
 }
 
-/// A line through all at each crash, with what crashed.
+/// A line through all at each crash. Labels stand in two rows by turns, so that neighbours don't touch.
 fn crashes(svg: &mut Svg, told: &Told, scale: &Scale, bottom: f64) {
+    let mut lower = false;
     for (at, answer) in told.answers.iter().enumerate() {
         let plain = matches!(told.events[at], Some(Event::Crash)) && answer.is_accepted();
         if !plain && !answer.is_cut() {
             continue;
         }
         let x = scale.left(at) + scale.step - 1.0;
-        svg.line(x, TITLE + 26.0, x, bottom, "crash");
+        svg.line(x, TITLE + 26.0, x, bottom + CRASH_LABEL, "crash");
         if scale.has_room_for_text() {
-            let what = if plain { "crash".to_string() } else { format!("power cut after {}", nekahuiro::page_writes(answer.value)) };
-            svg.text(x - 4.0, bottom + 1.0, "crash-label", &what);
+            let what = if plain { "crash".to_string() } else { format!("cut at {}", answer.value) };
+            svg.text(x - 4.0, bottom + if lower { 24.0 } else { 11.0 }, "crash-label", &what);
+            lower = !lower;
         }
     }
 }
@@ -109,7 +112,7 @@ fn legend(svg: &mut Svg, top: f64) {
     entry(svg, "retained", "lock retained by");
     entry(svg, "up", "store up");
     entry(svg, "down", "store down");
-    let letters = "L lock  W write  R read, each with its record; struck through: refused.  \u{2713} commit  \u{2717} abort  \
-        red line: crash.  A bar inside a bar is a child; an open end is still live.";
+    let letters = "L lock, W write, R read, each with its record \u{b7} struck through: refused \u{b7} \u{2713} commit \u{b7} \
+        \u{2717} abort \u{b7} red line: crash; cut at 2: after 2 page writes \u{b7} a bar inside a bar is a child \u{b7} dashed: still live";
     svg.text(16.0, top + 30.0, "legend", letters);
 }

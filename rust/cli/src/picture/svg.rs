@@ -19,6 +19,7 @@ text { font-family: sans-serif; font-size: 11px; fill: #222 }
 .open { stroke-dasharray: 4 3 }
 .badge-survives { fill: #1b7f5c } .badge-lost { fill: #b8482f }
 .badge { fill: #fff; font-weight: bold; font-size: 10px; text-anchor: middle }
+.small { font-size: 8px; font-weight: bold }
 .event { font-size: 10px; text-anchor: middle }
 .no { fill: #b3261e; text-decoration: line-through }
 .end { font-size: 14px; font-weight: bold; text-anchor: middle }
