@@ -58,7 +58,10 @@ impl Bench {
         black_box(&self.answers);
         match number {
             0 => Ok(time),
-            _ => Err(Failure::new(&format!("a run was refused with {number}"), "make the library again with `rt staticlib nekahuiro`")),
+            _ => Err(Failure::new(
+                &format!("a run was refused with {number}"),
+                "make the library again with `rt staticlib nekahuiro`",
+            )),
         }
     }
 }
@@ -75,7 +78,10 @@ fn times() -> Outcome<String> {
         }
     }
     let mut text = format!("# machine: {}\n", machine());
-    let _ = writeln!(text, "# {EVENTS} events, least of {ROUNDS} rounds: list, ns/event engine, ns/event ordinary player, ratio");
+    let _ = writeln!(
+        text,
+        "# {EVENTS} events, least of {ROUNDS} rounds: list, ns/event engine, ns/event ordinary player, ratio"
+    );
     for ((name, _), [engine, player]) in lists.iter().zip(least) {
         let events = EVENTS as f64;
         let _ = writeln!(text, "{name} {:.1} {:.1} {:.2}", engine / events, player / events, engine / player);

@@ -59,7 +59,13 @@ fn text(words: &[u8], answers: &[Answer], history: &History, end: &Store) -> Out
         let bits = u32::from_be_bytes(word);
         let words_of_event = nekahuiro::describe(word);
         let what = trace::what_happened(event, word, *answer);
-        let _ = writeln!(text, "{:2}  {words_of_event:16} {bits:08X} -> {:02X}{:02X}  {what}", at + 1, answer.number, answer.value);
+        let _ = writeln!(
+            text,
+            "{:2}  {words_of_event:16} {bits:08X} -> {:02X}{:02X}  {what}",
+            at + 1,
+            answer.number,
+            answer.value
+        );
         let _ = writeln!(text, "      {}", STEPS[at]);
         if let Some(event) = event {
             follower.event(event, *answer);
@@ -74,8 +80,9 @@ fn text(words: &[u8], answers: &[Answer], history: &History, end: &Store) -> Out
         text.push('\n');
     }
     let _ = writeln!(text, "At the end {}", show::commit_page(end));
-    let record = Record::new(3).unwrap_or_else(|| unreachable!("there are sixteen records"));
-    let _ = writeln!(text, "record 3 is {}", show::hex(&end.settled(record)));
+    if let Some(record) = Record::new(3) {
+        let _ = writeln!(text, "record 3 is {}", show::hex(&end.settled(record)));
+    }
     Ok(text)
 }
 

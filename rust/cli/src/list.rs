@@ -24,7 +24,8 @@ pub fn text(bytes: &[u8]) -> Option<&str> {
 /// Raw words, if they are whole and not too many.
 pub fn raw(name: &str, bytes: Vec<u8>) -> Outcome<Vec<u8>> {
     if bytes.len() % EVENT_BYTES != 0 {
-        let reason = format!("{name}: {} raw bytes are no whole number of 4-byte event words (refusal 20)", bytes.len());
+        let reason =
+            format!("{name}: {} raw bytes are no whole number of 4-byte event words (refusal 20)", bytes.len());
         return Err(Failure::new(&reason, "check that the file is whole; a text list has printable characters only"));
     }
     check_length(name, bytes)

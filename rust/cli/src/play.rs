@@ -59,14 +59,19 @@ fn options(arguments: &[String]) -> Outcome<Options> {
             "--trace" => options.trace = true,
             "--dry" => options.dry = true,
             flag if flag.starts_with("--") => {
-                return Err(Failure::usage(&format!("play knows no `{flag}`"), "`./nekahuiro help` lists what it knows"));
+                return Err(Failure::usage(
+                    &format!("play knows no `{flag}`"),
+                    "`./nekahuiro help` lists what it knows",
+                ));
             }
             name => names.push(name.to_string()),
         }
     }
     match <[String; 2]>::try_from(names) {
         Ok([store, events]) => Ok(Options { store, events, ..options }),
-        Err(_) => Err(Failure::usage("play takes a store and a list of events", "write `./nekahuiro play STORE EVENTS`")),
+        Err(_) => {
+            Err(Failure::usage("play takes a store and a list of events", "write `./nekahuiro play STORE EVENTS`"))
+        }
     }
 }
 

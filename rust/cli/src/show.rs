@@ -27,7 +27,10 @@ pub fn commit_page(store: &Store) -> String {
         CommitPage::Committed(map) => {
             let named: Vec<String> = map.records().map(|record| record.to_string()).collect();
             let records = if named.len() == 1 { "record" } else { "records" };
-            format!("page 0 ({head} ..): committed, {records} {}; a recover will copy home what is settled here", named.join(", "))
+            format!(
+                "page 0 ({head} ..): committed, {records} {}; a recover will copy home what is settled here",
+                named.join(", ")
+            )
         }
         CommitPage::Damaged(why) => {
             format!("page 0 ({head} ..): damaged, {why}; recover and age are refused with 4, home pages are shown")

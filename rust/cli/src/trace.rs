@@ -16,7 +16,14 @@ pub fn tell(words: &[u8], answers: &[Answer], history: &History) -> String {
         let event = Event::of(word);
         let bits = u32::from_be_bytes(word);
         let what = what_happened(event, word, *answer);
-        let _ = writeln!(text, "{:5}  {bits:08X}  {:02X}{:02X}    {}: {what}", at + 1, answer.number, answer.value, describe(word));
+        let _ = writeln!(
+            text,
+            "{:5}  {bits:08X}  {:02X}{:02X}    {}: {what}",
+            at + 1,
+            answer.number,
+            answer.value,
+            describe(word)
+        );
         if let Some(event) = event {
             follower.event(event, *answer);
         }
@@ -57,9 +64,16 @@ pub fn endings(at: usize, history: &History) -> Vec<String> {
         let ended = history.transactions.iter().filter(|told| wanted(told.end, at));
         ended.map(|told| told.number.to_string()).collect()
     };
-    let committer = history.transactions.iter().find(|told| matches!(told.end, End::Committed { at: there, cut: true, .. } if there == at));
+    let committer = history
+        .transactions
+        .iter()
+        .find(|told| matches!(told.end, End::Committed { at: there, cut: true, .. } if there == at));
     if let Some(told) = committer {
-        let fate = if told.survives { "survives: the commit page was written" } else { "is lost: the commit page was not written" };
+        let fate = if told.survives {
+            "survives: the commit page was written"
+        } else {
+            "is lost: the commit page was not written"
+        };
         lines.push(format!("the store is down; transaction {} {fate}", told.number));
     }
     let crashed = of(|end, at| end == End::Crashed(at));

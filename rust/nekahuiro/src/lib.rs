@@ -41,3 +41,8 @@ pub use event::{encode, Event, Fields};
 pub use numbers::{Record, Transaction};
 pub use store::{Place, Store};
 pub use words::{describe, why_bad, BadWords};
+
+/// The README's examples are tested too.
+#[cfg(doctest)]
+#[doc = include_str!("../../../README.md")]
+struct Readme;

@@ -91,11 +91,9 @@ impl FromStr for Event {
                 offset: words.offset()?,
                 value: words.value()?,
             },
-            "read" => Event::Read {
-                transaction: words.transaction()?,
-                record: words.record()?,
-                offset: words.offset()?,
-            },
+            "read" => {
+                Event::Read { transaction: words.transaction()?, record: words.record()?, offset: words.offset()? }
+            }
             "commit" => Event::Commit { transaction: words.transaction()?, count: words.count()? },
             "abort" => Event::Abort { transaction: words.transaction()? },
             "crash" => Event::Crash,

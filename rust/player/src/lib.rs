@@ -54,13 +54,7 @@ pub fn run(store: &mut [u8], events: &[u8], work: &mut [u8], answers: &mut [u8])
 
 /// As [`run`], with a bug.
 #[cfg(feature = "planted")]
-pub fn run_with_bug(
-    bug: planted::Bug,
-    store: &mut [u8],
-    events: &[u8],
-    work: &mut [u8],
-    answers: &mut [u8],
-) -> u8 {
+pub fn run_with_bug(bug: planted::Bug, store: &mut [u8], events: &[u8], work: &mut [u8], answers: &mut [u8]) -> u8 {
     match open(store, events, work, answers) {
         Ok(mut player) => {
             player.plant(Some(bug));

@@ -76,21 +76,16 @@ impl<'s> Player<'s> {
     }
 
     fn outcome(&mut self, word: [u8; EVENT_BYTES]) -> Outcome {
-        let event = decode(word).ok_or(Refusal::Bad)?;
-        match event {
-            Event::Crash => return Ok(self.crash()),
-            Event::Recover(count) => return self.recover(count),
-            _ if !self.up => return Err(Refusal::Down),
-            _ => {}
-        }
-        match event {
+        match decode(word).ok_or(Refusal::Bad)? {
+            Event::Crash => Ok(self.crash()),
+            Event::Recover(count) => self.recover(count),
+            _ if !self.up => Err(Refusal::Down),
             Event::Begin(parent) => self.begin(parent),
             Event::Lock(transaction, record) => self.lock(transaction, record),
             Event::Write(transaction, record, offset, value) => self.write(transaction, record, offset, value),
             Event::Read(transaction, record, offset) => self.read(transaction, record, offset),
             Event::Commit(transaction, count) => self.commit(transaction, count),
             Event::Abort(transaction) => self.abort(transaction),
-            Event::Crash | Event::Recover(_) => unreachable!("played above"),
         }
     }
 

@@ -27,7 +27,8 @@ pub const INHERITED: &str =
     "begin 0, lock 1 0, write 1 0 0 11, write 1 0 31 22, commit 1 63, abort 1, commit 0 63, lock 0 0, read 0 0 31";
 
 /// Events that are bad or name what there isn't.
-pub const STRAY: &str = "00000000, 90000000, recover 63, begin none, begin 0, begin 24, 1F800001, lock 0 0, lock 31 0, \
+pub const STRAY: &str =
+    "00000000, 90000000, recover 63, begin none, begin 0, begin 24, 1F800001, lock 0 0, lock 31 0, \
     20004000, 30000100, write 0 0 0 11, 40000001, commit 0 63, 50080000, 60000001, 70000001, 80800000, crash";
 
 /// How the lists are chosen.
@@ -68,7 +69,7 @@ impl Family<'_> {
                 return;
             };
             let mut walk = Walk { family: self, letters: &letters, lists: 0 };
-            let outcome = walk.from_two(*first, second);
+            let outcome = walk.start_with(*first, second);
             lists.fetch_add(walk.lists, Ordering::Relaxed);
             if let Err(text) = outcome {
                 next.store(letters.len() * letters.len(), Ordering::Relaxed);
@@ -94,7 +95,7 @@ struct Walk<'w> {
 }
 
 impl Walk<'_> {
-    fn from_two(&mut self, first: [u8; EVENT_BYTES], second: [u8; EVENT_BYTES]) -> Result<(), String> {
+    fn start_with(&mut self, first: [u8; EVENT_BYTES], second: [u8; EVENT_BYTES]) -> Result<(), String> {
         let mut case = Case { store: self.family.store, events: listed::words(self.family.prefix) };
         case.events.extend(first);
         if self.family.length == 0 || !self.leads_on(&case)? || self.family.length == 1 {

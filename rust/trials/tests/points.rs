@@ -77,7 +77,9 @@ fn recover_writes_one_page_for_each_record_and_one_more() {
 
 #[test]
 fn damaged_pages_are_refused_and_stay() {
-    for head in [[0x15, 0x90, 0x00, 0x08], [0x10, 0, 0, 0x08], [0x15, 0x90, 0x00, 0x11], [0x20, 0, 0, 0], [0x11, 0, 0, 0]] {
+    for head in
+        [[0x15, 0x90, 0x00, 0x08], [0x10, 0, 0, 0x08], [0x15, 0x90, 0x00, 0x11], [0x20, 0, 0, 0], [0x11, 0, 0, 0]]
+    {
         let store = with_head(&head);
         let (answers, end) = play(store, "80003F00, 70000000, 1F800000");
         assert_eq!((answers.as_str(), end), ("0400 0000 0200", store));

@@ -23,7 +23,24 @@ fn every_word_is_taken_apart_and_put_together() {
 
 #[test]
 fn junk_text_is_an_error_with_a_reason_and_a_mend() {
-    let parts = ["begin", "lock", "write", "none", "", "0", "31", "32", "-1", "+1", "99999999999", "A5", "ü", "\0", "63", "recover"];
+    let parts = [
+        "begin",
+        "lock",
+        "write",
+        "none",
+        "",
+        "0",
+        "31",
+        "32",
+        "-1",
+        "+1",
+        "99999999999",
+        "A5",
+        "ü",
+        "\0",
+        "63",
+        "recover",
+    ];
     let mut rng = Rng::new(6);
     for _ in 0..100_000 {
         let line: Vec<&str> = (0..rng.below(7)).filter_map(|_| rng.pick(&parts).copied()).collect();

@@ -113,7 +113,8 @@ impl Builder<'_> {
     fn shelves(&self, siblings: &[usize]) -> Vec<Shelf> {
         let mut shelves: Vec<Shelf> = Vec::new();
         for place in siblings {
-            let (first, last, height) = (self.history.transactions[*place].begun, self.last(*place), self.heights[*place]);
+            let (first, last, height) =
+                (self.history.transactions[*place].begun, self.last(*place), self.heights[*place]);
             match shelves.iter_mut().find(|shelf| shelf.last < first) {
                 Some(shelf) => {
                     shelf.last = last;

@@ -90,10 +90,10 @@ fn crashes(svg: &mut Svg, told: &Told, scale: &Scale, bottom: f64) {
             continue;
         }
         let x = scale.left(at) + scale.step - 1.0;
-        svg.line(x, TITLE + 26.0, x, bottom + CRASH_LABEL, "crash");
+        svg.line(x, TITLE + 26.0, x, bottom, "crash");
         if scale.has_room_for_text() {
             let what = if plain { "crash".to_string() } else { format!("cut at {}", answer.value) };
-            svg.text(x - 4.0, bottom + if lower { 24.0 } else { 11.0 }, "crash-label", &what);
+            svg.text(x, bottom + if lower { 24.0 } else { 11.0 }, "crash-label", &what);
             lower = !lower;
         }
     }
@@ -112,7 +112,14 @@ fn legend(svg: &mut Svg, top: f64) {
     entry(svg, "retained", "lock retained by");
     entry(svg, "up", "store up");
     entry(svg, "down", "store down");
-    let letters = "L lock, W write, R read, each with its record \u{b7} struck through: refused \u{b7} \u{2713} commit \u{b7} \
-        \u{2717} abort \u{b7} red line: crash; cut at 2: after 2 page writes \u{b7} a bar inside a bar is a child \u{b7} dashed: still live";
-    svg.text(16.0, top + 30.0, "legend", letters);
+    let signs = [
+        "L lock, W write, R read, each with its record",
+        "struck through: refused",
+        "\u{2713} commit",
+        "\u{2717} abort",
+        "red line: crash; cut at 2: after 2 page writes",
+        "a bar inside a bar is a child",
+        "dashed: still live",
+    ];
+    svg.text(16.0, top + 30.0, "legend", &signs.join(" \u{b7} "));
 }

@@ -28,7 +28,7 @@ text { font-family: sans-serif; font-size: 11px; fill: #222 }
 .retained { fill: #c3d5f2 } .retained-by { fill: #23406e; font-size: 9px; text-anchor: middle }
 .grid { stroke: #eee }
 .crash { stroke: #b3261e; stroke-width: 2; stroke-dasharray: 6 3 }
-.crash-label { fill: #b3261e; font-weight: bold; font-size: 10px; text-anchor: end }
+.crash-label { fill: #b3261e; font-weight: bold; font-size: 10px; text-anchor: middle }
 .tick { fill: #222 } .tick-no { fill: #b3261e }
 ";
 
