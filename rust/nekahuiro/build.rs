@@ -7,7 +7,8 @@ fn main() {
     let here = PathBuf::from(std::env::var_os("CARGO_MANIFEST_DIR").unwrap_or_default());
     let folder = match std::env::var_os("NEKAHUIRO_LIB_DIR") {
         Some(folder) => PathBuf::from(folder),
-        None => here.join("../../target/staticlib"),
+        // This crate stands two folders below the root of the repository.
+        None => here.ancestors().nth(2).unwrap_or(&here).join("target/staticlib"),
     };
     let archive = folder.join("libnekahuiro.a");
     println!("cargo::rerun-if-changed={}", archive.display());

@@ -17,7 +17,7 @@ pub fn words(list: &str) -> Vec<u8> {
     list.split(',').map(str::trim).filter(|part| !part.is_empty()).flat_map(word).collect()
 }
 
-/// Plays a list on the engine, checks all that [`check`] checks, and gives the answers as hex words
+/// Plays a list on the engine, checks all that [`check()`] checks, and gives the answers as hex words
 /// and the store after.
 ///
 /// # Panics
