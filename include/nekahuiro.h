@@ -1,7 +1,8 @@
 /* Nekahuiro: a record store with nested transactions and page-by-page commit, proved in Rattle.
  *
  * Link target/staticlib/libnekahuiro.a, which `rt staticlib nekahuiro` makes. The library is for
- * x86-64. It allocates nothing, keeps nothing between calls and calls nothing back.
+ * x86-64. It allocates nothing, keeps nothing between calls, and calls at most memcpy, memmove, memset
+ * and memcmp of the C library.
  *
  * What a caller owes to every function here:
  *   - Each pointer points to as many bytes as the size after it says. No pointer is null, not even

@@ -35,7 +35,9 @@ ok "demo" "record 3 is 0000A500" "$run" demo
 ok "help" "encode" "$run" help
 ok "fresh" "1056 bytes" "$run" fresh store
 ok "show a fresh store" "empty, no commit is under way" "$run" show store
-text '80003F00 1F800000 10000000 # three words\n20980000\n309880A5\n50803F00\n10000000\n20980000\n30988011\n60800000\n50000200\n' hex.txt
+text '80003F00 1F800000 10000000 # three words\n20980000\n309880A5\n50803F00\n' hex.txt
+text '10000000\n20980000\n30988011\n60800000\n50000200\n' rest.txt
+cat rest.txt >>hex.txt
 ok "play hex words" "^50000200 0B02$" "$run" play store hex.txt
 ok "a cut commit shows its intention page" "3  intention page 4 +0000A500" "$run" show store
 ok "the commit page in words" "15 10 00 08 \.\.\): committed, record 3" "$run" show store
@@ -60,8 +62,9 @@ ok "answers to a file" "4 events: 4 done" "$run" play store words.txt --answers 
 text '\x00\x00\x00\x00\x00\x00\x00\xA5' due.bin
 same "the answers" answers.bin due.bin
 ok "trace" "record 3 held by 0" "$run" play store words.txt --trace
-ok "trace of a crash" "transaction 0 survives: the commit page was written" bash -c "'$run' fresh other && '$run' play other hex.txt --trace"
-ok "picture" "11 events" bash -c "'$run' fresh third && '$run' play third hex.txt --picture run.svg"
+ok "another store" "a fresh store" "$run" fresh other
+ok "trace of a crash" "transaction 0 survives: the commit page was written" "$run" play other hex.txt --trace --dry
+ok "picture" "11 events" "$run" play other hex.txt --picture run.svg
 holds "the picture is SVG" grep -q '</svg>' run.svg
 cp store before
 ok "a dry run" "11 events" "$run" play store hex.txt --dry
@@ -91,6 +94,8 @@ fails "no command" 2 "no command given" "$run"
 fails "unknown command" 2 "no command .frob." "$run" frob
 fails "unknown option" 2 "knows no" "$run" play store words.txt --frob
 fails "option without a file" 2 "needs a file" "$run" play store words.txt --answers
+fails "answers over the store" 2 "store is named twice" "$run" play store words.txt --answers ./store
+fails "picture over the list" 2 "words.txt is named twice" "$run" play store words.txt --picture words.txt
 fails "fresh over a store" 1 "is there already" "$run" fresh store
 same "all refused: the store stays" store before
 { printf '\x15'; head -c 1055 /dev/zero; } >damaged
@@ -112,7 +117,8 @@ fails "picture to a full device" 1 "No space left" "$run" play store change.txt 
 fails "output to a full device" 1 "standard output: No space left" bash -c "'$run' play store change.txt >/dev/full"
 holds "the full device is still there" test -c /dev/full
 # A file may have 1,024 bytes and a store has more: the write stops halfway.
-fails "no room for the store" 1 "can't write store: File too large" bash -c "trap '' XFSZ; ulimit -f 1; '$binary' play store change.txt"
+fails "no room for the store" 1 "can't write store: File too large" \
+    bash -c "trap '' XFSZ; ulimit -f 1; '$binary' play store change.txt"
 same "nothing lost" store before
 no_leftovers .
 if [ "$(id -u)" = 0 ] && mkdir disk && mount -t tmpfs -o size=8k tmpfs disk 2>/dev/null; then

@@ -7,6 +7,8 @@ use nekahuiro::limits::EVENT_BYTES;
 use nekahuiro::{Answer, Store};
 use nekahuiro_history::{tell, History};
 use std::fmt::Write;
+use std::fs;
+use std::path::PathBuf;
 
 /// What the user asked for.
 #[derive(Default)]
@@ -22,6 +24,7 @@ struct Options {
 /// Plays, writes what was asked for, and replaces the store last.
 pub fn command(arguments: &[String]) -> Outcome {
     let options = options(arguments)?;
+    options.check_files()?;
     let mut store = read_store(&options.store)?;
     let words = list::read(&options.events)?;
     let answers = store.play_words(&words).map_err(|refusal| {
@@ -42,6 +45,23 @@ pub fn command(arguments: &[String]) -> Outcome {
     }
     say(&report(&options, &store, &words, &answers, &history))?;
     staged.into_iter().try_for_each(Staged::keep)
+}
+
+impl Options {
+    /// No file may be written that is read or written as something else.
+    fn check_files(&self) -> Outcome {
+        let place = |name: &String| fs::canonicalize(name).unwrap_or_else(|_| PathBuf::from(name));
+        let mut taken = vec![place(&self.store), place(&self.events)];
+        for name in self.answers.iter().chain(&self.picture) {
+            let is_device = fs::metadata(name).is_ok_and(|found| !found.is_file());
+            if taken.contains(&place(name)) && !is_device {
+                let reason = format!("{name} is named twice, and one use would spoil the other");
+                return Err(Failure::usage(&reason, "give store, events, answers and picture different names"));
+            }
+            taken.push(place(name));
+        }
+        Ok(())
+    }
 }
 
 fn options(arguments: &[String]) -> Outcome<Options> {

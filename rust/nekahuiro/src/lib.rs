@@ -30,6 +30,7 @@ mod commit_page;
 mod event;
 pub mod limits;
 mod numbers;
+#[allow(unsafe_code)] // the only module that calls the linked library
 pub mod raw;
 mod store;
 mod words;
