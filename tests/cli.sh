@@ -33,6 +33,8 @@ no_leftovers() { [ -z "$(find "$1" -name '.*.new')" ]; report "no file is left o
 # The worked list.
 ok "demo" "record 3 is 0000A500" "$run" demo
 ok "help" "encode" "$run" help
+ok "bench" "^mixed [0-9]+\.[0-9] [0-9]+\.[0-9] [0-9]+\.[0-9][0-9]$" "$run" bench --quick
+fails "bench with something else" 2 "bench takes" "$run" bench --frob
 ok "fresh" "1056 bytes" "$run" fresh store
 ok "show a fresh store" "empty, no commit is under way" "$run" show store
 text '80003F00 1F800000 10000000 # three words\n20980000\n309880A5\n50803F00\n' hex.txt

@@ -24,14 +24,14 @@ const PLAYER: Program = nekahuiro_player::run;
 pub fn command(arguments: &[String]) -> Outcome {
     let words: Vec<&str> = arguments.iter().map(String::as_str).collect();
     match words[..] {
-        [] => say(&times()?),
-        ["--instructions"] => {
+        ["--quick"] => say(&times()?),
+        [] => {
             say(&times()?)?;
             say(&instructions()?)
         }
         // For valgrind: one program plays one list a few times.
         ["one", list, program, rounds] => one(list, program, rounds.parse().unwrap_or(0)),
-        _ => Err(Failure::usage("bench takes --instructions or nothing", "write `./nekahuiro bench`")),
+        _ => Err(Failure::usage("bench takes --quick or nothing", "write `./nekahuiro bench`")),
     }
 }
 

@@ -17,7 +17,8 @@ nekahuiro: a record store with nested transactions, proved
   ./nekahuiro age STORE RECORD CLOCK LIMIT  how old a record is, in minutes: live, ahead or stale
   ./nekahuiro encode [EVENT]              words to event words and back; without EVENT each line of
                                           standard input; --raw writes bytes for `play`
-  ./nekahuiro bench [--instructions]      time against an ordinary program
+  ./nekahuiro bench [--quick]             time against an ordinary program; --quick leaves out the
+                                          instruction counts, for which valgrind is used if it is there
   ./nekahuiro help                        this text
 
 EVENTS is a file, or - for standard input. It holds event words in hex, or events in words, one to a

@@ -48,15 +48,15 @@ impl Taste {
         };
         Taste {
             length,
-            records: *rng.pick(&[1, 2, 3, 5, RECORDS]).unwrap_or(&1),
-            offsets: *rng.pick(&[1, 2, PAGE_BYTES]).unwrap_or(&1),
-            nested: *rng.pick(&[20, 60, 90, 98]).unwrap_or(&60),
-            crowd: *rng.pick(&[1, 2, 3, 5, 9, TRANSACTIONS]).unwrap_or(&5),
-            deep: *rng.pick(&[10, 60, 95]).unwrap_or(&60),
-            cuts: *rng.pick(&[0, 10, 40, 80]).unwrap_or(&10),
-            crashes: *rng.pick(&[0, 1, 4]).unwrap_or(&1),
-            strays: *rng.pick(&[0, 3, 15]).unwrap_or(&3),
-            bad: *rng.pick(&[0, 1, 5]).unwrap_or(&1),
+            records: rng.one_of([1, 2, 3, 5, RECORDS]),
+            offsets: rng.one_of([1, 2, PAGE_BYTES]),
+            nested: rng.one_of([20, 60, 90, 98]),
+            crowd: rng.one_of([1, 2, 3, 5, 9, TRANSACTIONS]),
+            deep: rng.one_of([10, 60, 95]),
+            cuts: rng.one_of([0, 10, 40, 80]),
+            crashes: rng.one_of([0, 1, 4]),
+            strays: rng.one_of([0, 3, 15]),
+            bad: rng.one_of([0, 1, 5]),
             patience: 2 + rng.below(20),
         }
     }

@@ -34,7 +34,12 @@ impl Rng {
         self.below(100) < times
     }
 
-    /// One of these.
+    /// One of these, of which there is at least one.
+    pub fn one_of<T: Copy, const N: usize>(&mut self, items: [T; N]) -> T {
+        items[self.below(N)]
+    }
+
+    /// One of these, if there is any.
     pub fn pick<'i, T>(&mut self, items: &'i [T]) -> Option<&'i T> {
         match items.len() {
             0 => None,

@@ -37,7 +37,7 @@ pub fn damaged(rng: &mut Rng, way: usize) -> Bytes {
     let mut store = if rng.percent(50) { used(rng) } else { committed(rng, map) };
     match way {
         0 => store[0] = (store[0] & 15) | pick_other(rng, 1, 16) << 4,
-        1 => store[0] = 0x10 | *rng.pick(&[1, 2, 3, 4, 6, 7, 8, 15]).unwrap_or(&1),
+        1 => store[0] = 0x10 | rng.one_of([1, 2, 3, 4, 6, 7, 8, 15]),
         2 => set_head(&mut store, 0x15, 0, 0),
         3 => set_head(&mut store, 0x15, map, pick_other(rng, map.count_ones() as u8, 32) << 3),
         4 => store[3] |= 1 + rng.below(7) as u8,
@@ -59,7 +59,7 @@ pub fn any(rng: &mut Rng) -> Bytes {
         0..=4 => fresh(),
         5..=6 => used(rng),
         7..=8 => {
-            let map = *rng.pick(&[0x8000, 0x0001, 0x9000, 0x1000, 0xFFFF, 0x5555]).unwrap_or(&1);
+            let map = rng.one_of([0x8000, 0x0001, 0x9000, 0x1000, 0xFFFF, 0x5555]);
             let map = if rng.percent(50) { map } else { 1 + rng.below(0xFFFF) as u16 };
             committed(rng, map)
         }

@@ -59,6 +59,16 @@ fn refusals_come_in_order() {
 }
 
 #[test]
+fn every_kind_of_damage_is_refused() {
+    for way in 0..stores::DAMAGES {
+        for seed in 0..2_000 {
+            let store = stores::damaged(&mut Rng::new(seed), way);
+            assert_eq!(engine(&store, 3, 0, 0), Err(4), "damaged in way {way}, seed {seed}");
+        }
+    }
+}
+
+#[test]
 fn the_stamp_is_read_through_a_committed_map() {
     let mut store = stores::fresh();
     store[..4].copy_from_slice(&[0x15, 0x10, 0x00, 0x08]);
