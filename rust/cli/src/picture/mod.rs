@@ -44,7 +44,7 @@ pub fn draw(words: &[u8], answers: &[Answer], history: &History) -> String {
     bars::draw(&mut svg, &told, &scale, &bars, top_of_bars);
     locks.draw(&mut svg, &scale, top_of_locks);
     crashes(&mut svg, &told, &scale, bottom);
-    legend(&mut svg, bottom + CRASH_LABEL + 12.0);
+    legend(&mut svg, &scale, bottom + CRASH_LABEL + 12.0);
     svg.finish()
 }
 
@@ -99,7 +99,7 @@ fn crashes(svg: &mut Svg, told: &Told, scale: &Scale, bottom: f64) {
     }
 }
 
-fn legend(svg: &mut Svg, top: f64) {
+fn legend(svg: &mut Svg, scale: &Scale, top: f64) {
     let mut x = 16.0;
     let mut entry = |svg: &mut Svg, class: &str, text: &str| {
         svg.rect(x, top, 22.0, 12.0, class, "");
@@ -112,14 +112,15 @@ fn legend(svg: &mut Svg, top: f64) {
     entry(svg, "retained", "lock retained by");
     entry(svg, "up", "store up");
     entry(svg, "down", "store down");
-    let signs = [
+    let letters = [
         "L lock, W write, R read, each with its record",
         "struck through: refused",
         "\u{2713} commit",
         "\u{2717} abort",
         "red line: crash; cut at 2: after 2 page writes",
-        "a bar inside a bar is a child",
-        "dashed: still live",
     ];
-    svg.text(16.0, top + 30.0, "legend", &signs.join(" \u{b7} "));
+    let marks = ["black: an event of the transaction", "red: a refused one", "red line: crash"];
+    let nesting = ["a bar inside a bar is a child", "dashed: still live"];
+    let signs = if scale.has_room_for_text() { &letters[..] } else { &marks[..] };
+    svg.text(16.0, top + 30.0, "legend", &[signs, &nesting].concat().join(" \u{b7} "));
 }
