@@ -7,6 +7,7 @@ pub mod Locks
 pub mod Owners
 pub mod Parts
 pub mod Soundness
+pub mod Portions
 pub mod Editions
 pub mod Map
 pub mod CommitPage

@@ -11,5 +11,6 @@ pub mod Step
 pub mod Run
 pub mod Age
 pub mod Sound
+pub mod Portion
 pub mod Editions
 pub mod Trials
