@@ -93,7 +93,7 @@ module _ (f : Form) (M : MediumLaws (f .geometry) (f .medium)) where
     ran = run-after f M (wordsOf events) reached (start-holds f M (f .medium .fromBytes store))
 
   -- two lists of words from one start
-  list-runs : (final : ℕ → Bool) (store ws us : List ℕ) → Reached f M (start store) → ((i : ℕ) → final i ≡ survives (history g nothingYet (rowsFrom f (start store) ws)) i)
+  pub list-runs : (final : ℕ → Bool) (store ws us : List ℕ) → Reached f M (start store) → ((i : ℕ) → final i ≡ survives (history g nothingYet (rowsFrom f (start store) ws)) i)
       → Along g (SameEvent g final) nothingYet (rowsFrom f (start store) ws) (rowsFrom f (start store) us)
       → Along g (SameAnswer g final) nothingYet (rowsFrom f (start store) ws) (rowsFrom f (start store) us) × M .Agree (play f (start store) ws .state .store) (play f (start store) us .state .store)
   unfolding down

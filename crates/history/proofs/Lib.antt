@@ -11,5 +11,6 @@ pub mod Twins
 pub mod TwoRuns
 pub mod Demand3
 pub mod Claims
+pub mod Joined
 pub mod Trials
 pub mod Example

@@ -2,4 +2,5 @@
 pub mod History
 pub mod Demand3
 pub mod Claims
+pub mod Joined
 pub mod Trials
