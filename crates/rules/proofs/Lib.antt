@@ -8,6 +8,7 @@ pub mod Owners
 pub mod Parts
 pub mod Soundness
 pub mod Portions
+pub mod CutLists
 pub mod Editions
 pub mod Map
 pub mod CommitPage

@@ -106,6 +106,15 @@ module _ (f : Form) where
         rw (e, z),
       )
 
+  -- a portion that is played gives its answers to its events, and leaves the answer bytes behind them
+  pub answers-all : (s : StateOf f) (events answers : List ℕ) → take (2 * eventsIn f events) (portionAll f s events answers .answers) ≡ answerBytes (play f s (wordsIn f events) .answers)
+  unfolding portionAll wordsIn
+  answers-all s events answers =
+      let ws = words (f .geometry) (eventsIn f events) events in
+      let bs = answerBytes (play f s ws .answers) in
+      let e : length bs ≡ 2 * eventsIn f events = answers-length f s ws ∙ ap (λ (n : ℕ). 2 * n) (words-length (f .geometry) (eventsIn f events) events) in
+      ap (λ (n : ℕ). take n (bs ++ drop (2 * eventsIn f events) answers)) (sym e) ∙ take-append-seam bs (drop (2 * eventsIn f events) answers)
+
   -- a run is one portion on a start state, found sound
   pub run-portion : (store events work answers : List ℕ) → let p = portion f true (down (f .medium .fromBytes store)) store events work answers in
       run f store events work answers ≡ record { answer = p .answer; store = p .store; answers = p .answers }
@@ -164,14 +173,8 @@ module _ (f : Form) (M : MediumLaws (f .geometry) (f .medium)) where
     answers : addedAnswers f p l ≡ answerBytes (play f s (added f p l) .answers)
 
   adds-all : (s : StateOf f) (l : Lent) → Adds s (portionAll f s (l .events) (l .answers)) l
-  unfolding added addedAnswers portionAll wordsIn open-tests
-  adds-all s l = record {
-    state = refl;
-    answers =
-        let bs = answerBytes (play f s (words (f .geometry) (eventsIn f (l .events)) (l .events)) .answers) in
-        let e : length bs ≡ 2 * eventsIn f (l .events) = answers-length f s (words (f .geometry) (eventsIn f (l .events)) (l .events)) ∙ ap (λ (n : ℕ). 2 * n) (words-length (f .geometry) (eventsIn f (l .events)) (l .events)) in
-        ap (λ (n : ℕ). take n (bs ++ drop (2 * eventsIn f (l .events)) (l .answers))) (sym e) ∙ take-append-seam bs (drop (2 * eventsIn f (l .events)) (l .answers));
-  }
+  unfolding added addedAnswers portionAll open-tests
+  adds-all s l = record { state = refl; answers = answers-all f s (l .events) (l .answers) }
 
   adds-none : (s : StateOf f) (store : List ℕ) (n : ℕ) (l : Lent) → same n 0 ≡ false → Adds s (record { answer = n; state = s; store = store; answers = l .answers }) l
   unfolding added addedAnswers play answerBytes

@@ -2,16 +2,16 @@
 -- changes; or its events are played on the state that the last portion left.
 use Prim.Native.Nat.{ℕ, _*_}
 use mathlib.Core.Path.{_≡_}
-use mathlib.Core.Bool.{Bool, true, false, not, cond}
+use mathlib.Core.Bool.{Bool, true, false, not, cond, _&&_}
 use mathlib.Core.List.{List, [], _∷_, _++_}
 use mathlib.Core.Option.{Option, none, some}
-use lib.ListN.{take, drop}
+use lib.ListN.{length, take, drop}
 use Rattle.laws.specs.Tests.{same}
 use Rattle.rules.specs.Geometry.{Geometry}
 use Rattle.rules.specs.State.{State, down}
 use Rattle.rules.specs.Form.{Form, Medium}
 use Rattle.rules.specs.Step.{StateOf, firstOf}
-use Rattle.rules.specs.Run.{words, answerBytes, play, eventsIn, runRefusals}
+use Rattle.rules.specs.Run.{words, answerBytes, play, eventsIn, runRefusals, run}
 use Rattle.rules.specs.Sound.{Sound}
 
 -- the buffers lent for one portion, beside the state and the store
@@ -20,7 +20,24 @@ pub record Lent : Type 0 where
   pub work : List ℕ
   pub answers : List ℕ
 
+-- the event bytes of all portions
+unfoldable pub eventsOf : List Lent → List ℕ
+eventsOf [] = []
+eventsOf (l ∷ ls) = l .events ++ eventsOf ls
+
+unfoldable pub allZero : List ℕ → Bool
+allZero [] = true
+allZero (n ∷ ns) = same n 0 && allZero ns
+
 module _ (f : Form) where
+  -- the lengths of the buffers are as a run with any store of the right length asks
+  abbrev pub Fits : Lent → Type 0
+  Fits l = (store : List ℕ) → length store ≡ f .medium .size → firstOf (runRefusals f store (l .events) (l .work) (l .answers)) ≡ none
+
+  abbrev pub AllFit : List Lent → Type 0
+  AllFit [] = Unit {0}
+  AllFit (l ∷ ls) = Fits l × AllFit ls
+
   -- the event words of a list of bytes
   unfoldable pub wordsIn : List ℕ → List ℕ
   wordsIn events = words (f .geometry) (eventsIn f events) events
@@ -99,7 +116,15 @@ module _ (f : Form) where
     abbrev pub Takes : Type 0
     Takes = (s : StateOf f) → Sound f s → sound s ≡ true
 
+    -- FROM A START STATE, CUTTING A LIST ANYWHERE gives what the whole run gives: no portion is refused, and they leave its answers, its store
+    -- and its state.
+    pub record As-whole (store : List ℕ) (ls : List Lent) (work answers : List ℕ) : Type 0 where
+      pub played : allZero (chainFrom store ls .results) ≡ true
+      pub same-answers : chainFrom store ls .answers ≡ take (2 * eventsIn f (eventsOf ls)) (run f store (eventsOf ls) work answers .answers)
+      pub same-store : chainFrom store ls .store ≡ run f store (eventsOf ls) work answers .store
+      pub same-state : chainFrom store ls .state ≡ portion true (down (f .medium .fromBytes store)) store (eventsOf ls) work answers .state
+
 -- opens the definitions of this module: for what is proved by computing
 unfoldable pub open-portion : Unit {0}
-unfolding wordsIn portionRefusals portionAll portionBy portion added addedAnswers next chain chainFrom
+unfolding eventsOf allZero wordsIn portionRefusals portionAll portionBy portion added addedAnswers next chain chainFrom
 open-portion = tt

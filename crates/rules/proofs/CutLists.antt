@@ -1,0 +1,149 @@
+-- A list of events cut anywhere: the words of the pieces are the words of the whole, so the portions leave what the whole run leaves.
+use mathlib.Core.Path.{_≡_, refl, sym, ap, ap₂, subst, subst⁻¹, _∙_}
+use mathlib.Core.Bool.{Bool, true, false, not, cond, _||_}
+use mathlib.Core.List.{List, [], _∷_, _++_, append-assoc}
+use mathlib.Core.Option.{Option, none, some}
+use Prim.Native.Nat.{ℕ, zero, suc, _+_, _*_, _/_, _%_, _<_, _≤_}
+use native.Mathlib.Nat.{div-add-mod', add-mul-div-right, add-comm, suc-mul, suc-add, zero-add, zero-div}
+use native.Mathlib.Omega.{arith}
+use lib.ListN.{length, take, drop, length-append, length-drop}
+use lib.Seq.{take-append-le, drop-append-le}
+use Rattle.laws.specs.Tests.{same, under, open-tests}
+use Rattle.laws.specs.Bytes.{number}
+use Rattle.laws.proofs.Tests.{same-eq, same-refl}
+use Rattle.laws.proofs.Booleans.{not-false}
+use Rattle.rules.specs.Geometry.{Geometry, wordSize}
+use Rattle.rules.specs.State.{down}
+use Rattle.rules.specs.Form.{Form}
+use Rattle.rules.specs.Step.{StateOf, firstOf}
+use Rattle.rules.specs.Run.{Result, Played, words, answerBytes, play, eventsIn, runRefusals, runAll, runBy, run}
+use Rattle.rules.specs.Portion.{Lent, eventsOf, allZero, Fits, AllFit, wordsIn, Portion, portionRefusals, portionAll, portionBy, portion, added, chain, chainFrom, next, Takes, As-whole}
+use Rattle.rules.proofs.Medium.{MediumLaws}
+use Rattle.rules.proofs.Acceptance.{pass}
+use Rattle.rules.proofs.Portions.{Carried, carried-start, sound-portion, Whole, chain-whole, run-portion, answers-all}
+
+-- the words of bytes that begin with n whole words
+words-append : (g : Geometry) (n m : ℕ) (a b : List ℕ) → length a ≡ n * wordSize g → words g (n + m) (a ++ b) ≡ words g n a ++ words g m b
+unfolding words
+words-append g zero m [] b h = ap (λ (k : ℕ). words g k b) (zero-add m)
+words-append g zero m (x ∷ a) b h = absurd (omega (arith, h))
+words-append g (suc n) m a b h =
+    let w : ℕ = wordSize g in
+    let e : suc n * w ≡ n * w + w = suc-mul n w in
+    let le : w ≤ length a = omega (arith, h, e) in
+    let left : length (drop w a) ≡ n * w = length-drop w a ∙ omega (arith, h, e) in
+    ap (λ (k : ℕ). words g k (a ++ b)) (suc-add n m)
+    ∙ ap₂ (λ (x y : List ℕ). number x ∷ words g (n + m) y) (take-append-le w a b le) (drop-append-le w a b le)
+    ∙ (ap (λ (l : List ℕ). number (take w a) ∷ l) (words-append g n m (drop w a) b left))
+
+module _ (f : Form) (positive : 0 < wordSize (f .geometry)) where
+  abbrev w : ℕ
+  w = wordSize (f .geometry)
+
+  whole-words : (a : List ℕ) → length a % w ≡ 0 → length a ≡ eventsIn f a * w
+  unfolding eventsIn
+  whole-words a h = sym (div-add-mod' (length a) w) ∙ omega (arith, h)
+
+  events-append : (a b : List ℕ) → length a % w ≡ 0 → eventsIn f (a ++ b) ≡ eventsIn f a + eventsIn f b
+  unfolding eventsIn
+  events-append a b h =
+      ap (λ (n : ℕ). n / w) (length-append a b ∙ ap (λ (n : ℕ). n + length b) (whole-words a h) ∙ add-comm (eventsIn f a * w) (length b))
+      ∙ add-mul-div-right (length b) (eventsIn f a) positive
+      ∙ add-comm (length b / w) (length a / w)
+
+  pub wordsIn-append : (a b : List ℕ) → length a % w ≡ 0 → wordsIn f (a ++ b) ≡ wordsIn f a ++ wordsIn f b
+  unfolding wordsIn
+  wordsIn-append a b h =
+      ap (λ (n : ℕ). words (f .geometry) n (a ++ b)) (events-append a b h)
+      ∙ words-append (f .geometry) (eventsIn f a) (eventsIn f b) a b (whole-words a h)
+
+-- in a store whose bytes have the store's size
+abbrev pub Spelled : (f : Form) (M : MediumLaws (f .geometry) (f .medium)) → Type 0
+Spelled f M = (d : f .medium .Store) → M .Shaped d → length (f .medium .toBytes d) ≡ f .medium .size
+
+module _ (f : Form) (M : MediumLaws (f .geometry) (f .medium)) (spelled : Spelled f M) (positive : 0 < wordSize (f .geometry)) where
+  -- the store of a state between portions has its size
+  carried-size : (s : StateOf f) (store : List ℕ) → Carried f M s store → length store ≡ f .medium .size
+  carried-size s store C = ap length (sym (C .writes)) ∙ spelled (s .store) (C .reached .shaped)
+
+  -- with lengths that fit, a sound state that is found sound is played
+  fits-played : (s : StateOf f) (store : List ℕ) (l : Lent) → length store ≡ f .medium .size → Fits f l
+      → portion f true s store (l .events) (l .work) (l .answers) ≡ portionAll f s (l .events) (l .answers)
+  unfolding portion portionBy portionRefusals runRefusals firstOf
+  fits-played s store l sized F = ap (portionBy f s store (l .events) (l .answers)) (F store sized)
+
+  -- whole words only
+  fits-words : (store : List ℕ) (l : Lent) → length store ≡ f .medium .size → Fits f l → length (l .events) % wordSize (f .geometry) ≡ 0
+  unfolding runRefusals
+  fits-words store l sized F =
+      let p₁ = pass 22 _ _ (F store sized) in
+      let p₂ = pass 24 _ _ (p₁ .1) in
+      let p₃ = pass 20 _ _ (p₂ .1) in
+      same-eq _ _ (not-false _ (left _ _ (p₃ .0)))
+    where
+      left : (a b : Bool) → (a || b) ≡ false → a ≡ false
+      left true b e = e
+      left false b e = refl
+
+  zero-of : (s : StateOf f) (l : Lent) (p : Portion f) → p ≡ portionAll f s (l .events) (l .answers) → same (p .answer) 0 ≡ true
+  unfolding portionAll
+  zero-of s l p e = rw e (same-refl 0)
+
+  added-of : (s : StateOf f) (l : Lent) (p : Portion f) → p ≡ portionAll f s (l .events) (l .answers) → added f p l ≡ wordsIn f (l .events)
+  unfolding added
+  added-of s l p e = rw (zero-of s l p e)
+
+  store-all : (s : StateOf f) (events answers : List ℕ) → f .medium .toBytes (play f s (wordsIn f events) .state .store) ≡ portionAll f s events answers .store
+  unfolding portionAll
+  store-all s events answers = refl
+
+  state-all : (s : StateOf f) (events answers : List ℕ) → play f s (wordsIn f events) .state ≡ portionAll f s events answers .state
+  unfolding portionAll
+  state-all s events answers = refl
+
+  module _ (sound : StateOf f → Bool) (T : Takes f sound) where
+    -- every portion is played, and the joined list is that of all event bytes
+    pub record AllPlayed (s : StateOf f) (store : List ℕ) (ls : List Lent) : Type 0 where
+      pub zeros : allZero (chain f sound s store ls .results) ≡ true
+      pub whole : chain f sound s store ls .joined ≡ wordsIn f (eventsOf ls)
+
+    no-words : wordsIn f [] ≡ []
+    unfolding wordsIn eventsIn words
+    no-words = ap (λ (n : ℕ). words (f .geometry) n []) (zero-div (wordSize (f .geometry)))
+
+    pub all-played : (s : StateOf f) (store : List ℕ) (ls : List Lent) → Carried f M s store → AllFit f ls → AllPlayed s store ls
+    unfolding chain next allZero eventsOf
+    all-played s store [] C F = record { zeros = refl; whole = sym no-words }
+    all-played s store (l ∷ ls) C F =
+        let sized = carried-size s store C in
+        let p = portion f (sound s) s store (l .events) (l .work) (l .answers) in
+        let e : p ≡ portionAll f s (l .events) (l .answers)
+            = ap (λ (b : Bool). portion f b s store (l .events) (l .work) (l .answers)) (T s (C .reached .sound)) ∙ fits-played s store l sized (F .0) in
+        let rest = all-played (p .state) (p .store) ls (sound-portion f M (sound s) s store (l .events) (l .work) (l .answers) C) (F .1) in
+        record {
+          zeros = rw (zero-of s l p e, rest .zeros);
+          whole = ap₂ (λ (x y : List ℕ). x ++ y) (added-of s l p e) (rest .whole) ∙ sym (wordsIn-append f positive (l .events) (eventsOf ls) (fits-words store l sized (F .0)));
+        }
+
+    -- FROM A START STATE, CUTTING A LIST ANYWHERE
+    pub portions-whole : (store : List ℕ) (ls : List Lent) (work answers : List ℕ) → length store ≡ f .medium .size → AllFit f ls
+        → Fits f (record { events = eventsOf ls; work = work; answers = answers }) → As-whole f sound store ls work answers
+    unfolding chainFrom
+    portions-whole store ls work answers sized A F =
+        let s₀ = down (f .medium .fromBytes store) in
+        let E = eventsOf ls in
+        let P = all-played s₀ store ls (carried-start f M store sized) A in
+        let W = chain-whole f M sound s₀ store ls (carried-start f M store sized) in
+        let c = chain f sound s₀ store ls in
+        let one : portion f true s₀ store E work answers ≡ portionAll f s₀ E answers = fits-played s₀ store (record { events = E; work = work; answers = answers }) sized F in
+        let r = run-portion f store E work answers in
+        let joined : (ws : List ℕ) → c .joined ≡ ws → play f s₀ (c .joined) ≡ play f s₀ ws = λ ws e. ap (play f s₀) e in
+        let e = joined (wordsIn f E) (P .whole) in
+        record {
+          played = P .zeros;
+          same-answers = W .answers ∙ ap (λ (x : Played f). answerBytes (x .answers)) e ∙ sym (answers-all f s₀ E answers)
+              ∙ ap (λ (x : Portion f). take (2 * eventsIn f E) (x .answers)) (sym one) ∙ ap (λ (x : Result). take (2 * eventsIn f E) (x .answers)) (sym r);
+          same-store = sym (W .carried .writes) ∙ ap (λ (s : StateOf f). f .medium .toBytes (s .store)) (W .state ∙ ap (λ (x : Played f). x .state) e)
+              ∙ store-all s₀ E answers ∙ ap (λ (x : Portion f). x .store) (sym one) ∙ ap (λ (x : Result). x .store) (sym r);
+          same-state = W .state ∙ ap (λ (x : Played f). x .state) e ∙ state-all s₀ E answers ∙ ap (λ (x : Portion f). x .state) (sym one);
+        }
