@@ -1,14 +1,14 @@
 -- Demand 3 and the central law of a chain of portions: a chain leaves what its joined list leaves, and of lists of words both are proved.
-use mathlib.Core.Path.{_≡_, refl, sym, ap, subst, subst⁻¹, _∙_}
-use mathlib.Core.Bool.{Bool, true, false}
-use mathlib.Core.List.{List, [], _∷_, _++_}
+use mathlib.Core.Path.{_≡_, sym, ap, subst, subst⁻¹, _∙_}
+use mathlib.Core.Bool.{Bool}
+use mathlib.Core.List.{List, _++_}
 use Prim.Native.Nat.{ℕ}
 use lib.ListN.{length}
 use Rattle.rules.specs.Geometry.{Geometry}
 use Rattle.rules.specs.State.{down}
 use Rattle.rules.specs.Form.{Form}
 use Rattle.rules.specs.Step.{StateOf}
-use Rattle.rules.specs.Run.{Played, answerBytes, play}
+use Rattle.rules.specs.Run.{play}
 use Rattle.rules.specs.Portion.{Lent, Chain, chain, chainFrom}
 use Rattle.rules.specs.Editions.{geometry1, edition1}
 use Rattle.rules.proofs.Medium.{MediumLaws}
@@ -17,9 +17,9 @@ use Rattle.rules.proofs.AtomicPages.{atomic-laws}
 use Rattle.rules.proofs.Soundness.{reached-start}
 use Rattle.rules.proofs.Portions.{play-append, Carried, carried-start, Whole, chain-whole}
 use Rattle.history.specs.History.{History, nothingYet, survives, overlaid}
-use Rattle.history.specs.Demand3.{Row, rows, history, Along, SameEvent, SameAnswer, settledIn}
+use Rattle.history.specs.Demand3.{rows, history, Along, SameEvent, SameAnswer, settledIn}
 use Rattle.history.specs.Claims.{stateAfter, historyAfter, Commit-survives}
-use Rattle.history.specs.Joined.{rowsJoined, historyJoined, Demand-3-joined, Reads-joined, Commit-survives-joined, Demand-3-joined-holds}
+use Rattle.history.specs.Joined.{rowsJoined, historyJoined, Reads-joined, Commit-survives-joined, Demand-3-joined-holds}
 use Rattle.history.proofs.Runs.{rowsFrom}
 use Rattle.history.proofs.Demand3.{list-runs}
 use Rattle.history.proofs.Claims.{rows-played, reads-overlay, commit-survives}
@@ -80,15 +80,8 @@ module _ (f : Form) (M : MediumLaws (f .geometry) (f .medium)) (sound : StateOf 
         × ((r : ℕ) → settledIn f (c ls′ .store) r ≡ settledIn f (c ls .store) r)
     unfolding historyJoined stateAfter
     second ls ls′ E =
-        let final = survives (historyJoined f sound store ls) in
-        let T = list-runs f M final store (c ls .joined) (c ls′ .joined) (reached-start f M store sized)
-        (λ i. ap (λ (x : List Row). survives (history g nothingYet x) i) (rows-joined ls))
-        (subst (λ (b : List Row). Along g (SameEvent g final) nothingYet (rowsFrom f s₀ (c ls .joined)) b) (rows-joined ls′)
-        (subst (λ (a : List Row). Along g (SameEvent g final) nothingYet a (rowsJoined f sound store ls′)) (rows-joined ls) E)) in (
-          subst⁻¹ (λ (a : List Row). Along g (SameAnswer g final) nothingYet a (rowsJoined f sound store ls′)) (rows-joined ls)
-              (subst⁻¹ (λ (b : List Row). Along g (SameAnswer g final) nothingYet (rowsFrom f s₀ (c ls .joined)) b) (rows-joined ls′) (T .0)),
-          λ r. settled-joined ls′ r ∙ M .agree-settled _ _ (T .1) r ∙ sym (settled-joined ls r),
-        )
+        let T = list-runs f M store (c ls .joined) (c ls′ .joined) (reached-start f M store sized) (rows-joined ls) (rows-joined ls′) E in
+        (T .0, λ r. settled-joined ls′ r ∙ T .1 r ∙ sym (settled-joined ls r))
 
     -- crashes and recoveries in more portions
     pub commit-survives-joined : (ls more : List Lent) → Commit-survives-joined f sound store ls more

@@ -1,26 +1,30 @@
 -- A list of events cut anywhere: the words of the pieces are the words of the whole, so the portions leave what the whole run leaves.
-use mathlib.Core.Path.{_≡_, refl, sym, ap, ap₂, subst, subst⁻¹, _∙_}
-use mathlib.Core.Bool.{Bool, true, false, not, cond, _||_}
-use mathlib.Core.List.{List, [], _∷_, _++_, append-assoc}
-use mathlib.Core.Option.{Option, none, some}
+use mathlib.Core.Path.{_≡_, refl, sym, ap, ap₂, _∙_}
+use mathlib.Core.Bool.{Bool, true, false, _||_}
+use mathlib.Core.List.{List, [], _∷_, _++_}
 use Prim.Native.Nat.{ℕ, zero, suc, _+_, _*_, _/_, _%_, _<_, _≤_}
-use native.Mathlib.Nat.{div-add-mod', add-mul-div-right, add-comm, suc-mul, suc-add, zero-add, zero-div}
+use native.Mathlib.Bridge.{le-by-compare, IsLe}
+use native.Mathlib.Nat.{mul-comm, div-add-mod', add-mul-div-right, add-comm, suc-mul, suc-add, zero-add, zero-div}
 use native.Mathlib.Omega.{arith}
 use lib.ListN.{length, take, drop, length-append, length-drop}
 use lib.Seq.{take-append-le, drop-append-le}
-use Rattle.laws.specs.Tests.{same, under, open-tests}
+use Rattle.laws.specs.Tests.{same}
 use Rattle.laws.specs.Bytes.{number}
 use Rattle.laws.proofs.Tests.{same-eq, same-refl}
 use Rattle.laws.proofs.Booleans.{not-false}
-use Rattle.rules.specs.Geometry.{Geometry, wordSize}
+use Rattle.rules.specs.Geometry.{Geometry, Proper, pageCount, wordSize, open-geometry}
 use Rattle.rules.specs.State.{down}
-use Rattle.rules.specs.Form.{Form}
-use Rattle.rules.specs.Step.{StateOf, firstOf}
-use Rattle.rules.specs.Run.{Result, Played, words, answerBytes, play, eventsIn, runRefusals, runAll, runBy, run}
-use Rattle.rules.specs.Portion.{Lent, eventsOf, allZero, Fits, AllFit, wordsIn, Portion, portionRefusals, portionAll, portionBy, portion, added, chain, chainFrom, next, Takes, As-whole}
+use Rattle.rules.specs.Form.{Form, atomicPages}
+use Rattle.rules.specs.Step.{StateOf}
+use Rattle.rules.specs.Run.{Result, Played, words, answerBytes, play, eventsIn, runRefusals, run}
+use Rattle.rules.specs.Portion.{Lent, allEvents, allZero, Fits, AllFit, wordsIn, Portion, portionAll, portion, added, chain, chainFrom, next, Takes, As-whole}
 use Rattle.rules.proofs.Medium.{MediumLaws}
+use Rattle.rules.specs.Editions.{geometry1, edition1}
+use Rattle.rules.proofs.Pages.{flat-length}
+use Rattle.rules.proofs.Editions.{proper1}
+use Rattle.rules.proofs.AtomicPages.{atomic-laws, shaped-sized}
 use Rattle.rules.proofs.Acceptance.{pass}
-use Rattle.rules.proofs.Portions.{Carried, carried-start, sound-portion, Whole, chain-whole, run-portion, answers-all}
+use Rattle.rules.proofs.Portions.{Carried, carried-start, sound-portion, chain-whole, run-portion, answers-all, sound-played}
 
 -- the words of bytes that begin with n whole words
 words-append : (g : Geometry) (n m : ℕ) (a b : List ℕ) → length a ≡ n * wordSize g → words g (n + m) (a ++ b) ≡ words g n a ++ words g m b
@@ -66,12 +70,6 @@ module _ (f : Form) (M : MediumLaws (f .geometry) (f .medium)) (spelled : Spelle
   carried-size : (s : StateOf f) (store : List ℕ) → Carried f M s store → length store ≡ f .medium .size
   carried-size s store C = ap length (sym (C .writes)) ∙ spelled (s .store) (C .reached .shaped)
 
-  -- with lengths that fit, a sound state that is found sound is played
-  fits-played : (s : StateOf f) (store : List ℕ) (l : Lent) → length store ≡ f .medium .size → Fits f l
-      → portion f true s store (l .events) (l .work) (l .answers) ≡ portionAll f s (l .events) (l .answers)
-  unfolding portion portionBy portionRefusals runRefusals firstOf
-  fits-played s store l sized F = ap (portionBy f s store (l .events) (l .answers)) (F store sized)
-
   -- whole words only
   fits-words : (store : List ℕ) (l : Lent) → length store ≡ f .medium .size → Fits f l → length (l .events) % wordSize (f .geometry) ≡ 0
   unfolding runRefusals
@@ -105,37 +103,37 @@ module _ (f : Form) (M : MediumLaws (f .geometry) (f .medium)) (spelled : Spelle
     -- every portion is played, and the joined list is that of all event bytes
     pub record AllPlayed (s : StateOf f) (store : List ℕ) (ls : List Lent) : Type 0 where
       pub zeros : allZero (chain f sound s store ls .results) ≡ true
-      pub whole : chain f sound s store ls .joined ≡ wordsIn f (eventsOf ls)
+      pub whole : chain f sound s store ls .joined ≡ wordsIn f (allEvents ls)
 
     no-words : wordsIn f [] ≡ []
     unfolding wordsIn eventsIn words
     no-words = ap (λ (n : ℕ). words (f .geometry) n []) (zero-div (wordSize (f .geometry)))
 
     pub all-played : (s : StateOf f) (store : List ℕ) (ls : List Lent) → Carried f M s store → AllFit f ls → AllPlayed s store ls
-    unfolding chain next allZero eventsOf
+    unfolding chain next allZero allEvents
     all-played s store [] C F = record { zeros = refl; whole = sym no-words }
     all-played s store (l ∷ ls) C F =
         let sized = carried-size s store C in
         let p = portion f (sound s) s store (l .events) (l .work) (l .answers) in
         let e : p ≡ portionAll f s (l .events) (l .answers)
-            = ap (λ (b : Bool). portion f b s store (l .events) (l .work) (l .answers)) (T s (C .reached .sound)) ∙ fits-played s store l sized (F .0) in
+        = ap (λ (b : Bool). portion f b s store (l .events) (l .work) (l .answers)) (T s (C .reached .sound)) ∙ sound-played f s store (l .events) (l .work) (l .answers) (F .0 store sized) in
         let rest = all-played (p .state) (p .store) ls (sound-portion f M (sound s) s store (l .events) (l .work) (l .answers) C) (F .1) in
         record {
           zeros = rw (zero-of s l p e, rest .zeros);
-          whole = ap₂ (λ (x y : List ℕ). x ++ y) (added-of s l p e) (rest .whole) ∙ sym (wordsIn-append f positive (l .events) (eventsOf ls) (fits-words store l sized (F .0)));
+          whole = ap₂ (λ (x y : List ℕ). x ++ y) (added-of s l p e) (rest .whole) ∙ sym (wordsIn-append f positive (l .events) (allEvents ls) (fits-words store l sized (F .0)));
         }
 
     -- FROM A START STATE, CUTTING A LIST ANYWHERE
     pub portions-whole : (store : List ℕ) (ls : List Lent) (work answers : List ℕ) → length store ≡ f .medium .size → AllFit f ls
-        → Fits f (record { events = eventsOf ls; work = work; answers = answers }) → As-whole f sound store ls work answers
+        → Fits f (record { events = allEvents ls; work = work; answers = answers }) → As-whole f sound store ls work answers
     unfolding chainFrom
     portions-whole store ls work answers sized A F =
         let s₀ = down (f .medium .fromBytes store) in
-        let E = eventsOf ls in
+        let E = allEvents ls in
         let P = all-played s₀ store ls (carried-start f M store sized) A in
         let W = chain-whole f M sound s₀ store ls (carried-start f M store sized) in
         let c = chain f sound s₀ store ls in
-        let one : portion f true s₀ store E work answers ≡ portionAll f s₀ E answers = fits-played s₀ store (record { events = E; work = work; answers = answers }) sized F in
+        let one : portion f true s₀ store E work answers ≡ portionAll f s₀ E answers = sound-played f s₀ store E work answers (F store sized) in
         let r = run-portion f store E work answers in
         let joined : (ws : List ℕ) → c .joined ≡ ws → play f s₀ (c .joined) ≡ play f s₀ ws = λ ws e. ap (play f s₀) e in
         let e = joined (wordsIn f E) (P .whole) in
@@ -147,3 +145,17 @@ module _ (f : Form) (M : MediumLaws (f .geometry) (f .medium)) (spelled : Spelle
               ∙ store-all s₀ E answers ∙ ap (λ (x : Portion f). x .store) (sym one) ∙ ap (λ (x : Result). x .store) (sym r);
           same-state = W .state ∙ ap (λ (x : Played f). x .state) e ∙ state-all s₀ E answers ∙ ap (λ (x : Portion f). x .state) (sym one);
         }
+
+-- atomic pages have their size
+pub atomic-spelled : (g : Geometry) (proper : Proper g) → Spelled (record { geometry = g; medium = atomicPages g }) (atomic-laws g proper)
+atomic-spelled g proper d S = flat-length (pageCount g) d (shaped-sized g proper d S .full) ∙ mul-comm 32 (pageCount g)
+
+-- of edition 1
+pub portions-whole-edition1 : (sound : StateOf edition1 → Bool) → Takes edition1 sound → (store : List ℕ) (ls : List Lent) (work answers : List ℕ)
+    → length store ≡ edition1 .medium .size → AllFit edition1 ls → Fits edition1 (record { events = allEvents ls; work = work; answers = answers })
+    → As-whole edition1 sound store ls work answers
+unfolding open-geometry IsLe
+portions-whole-edition1 = portions-whole edition1 (atomic-laws geometry1 proper1) (atomic-spelled geometry1 proper1) positive1
+  where
+    positive1 : 0 < wordSize geometry1
+    positive1 = le-by-compare 1 4 tt

@@ -1,4 +1,5 @@
 pub mod Trials
+pub mod PortionTrials
 pub mod Medium
 pub mod Tree
 pub mod Bearers

@@ -1,7 +1,7 @@
 -- Portions one after the other: they leave what their joined list leaves when it is played at once, whatever the portions; a sound state stays
 -- sound, so none of them is refused with 25; a refused one changes nothing.
 use mathlib.Core.Path.{_≡_, refl, sym, ap, subst, subst⁻¹, _∙_}
-use mathlib.Core.Bool.{Bool, true, false, not, cond, _||_, true≢false}
+use mathlib.Core.Bool.{Bool, true, false, not, cond, true≢false}
 use mathlib.Core.List.{List, [], _∷_, _++_}
 use mathlib.Core.Logic.{_≢_}
 use mathlib.Core.Option.{Option, none, some}
@@ -10,16 +10,15 @@ use native.Mathlib.Omega.{arith}
 use lib.ListN.{length, take, drop}
 use lib.Seq.{take-append-seam}
 use Rattle.laws.specs.Tests.{same, open-tests}
-use Rattle.laws.proofs.Tests.{same-eq, same-refl, ne-false}
-use Rattle.laws.proofs.Booleans.{not-false}
+use Rattle.laws.proofs.Tests.{ne-false}
 use Rattle.rules.specs.Geometry.{Geometry, wordSize}
 use Rattle.rules.specs.Event.{decode}
 use Rattle.rules.specs.State.{mem, down}
 use Rattle.rules.specs.Form.{Form}
 use Rattle.rules.specs.Step.{Answer, numberOf, valueOf, StateOf, firstOf, step}
-use Rattle.rules.specs.Run.{Result, Played, words, answerBytes, play, eventsIn, runRefusals, runAll, runBy, run}
+use Rattle.rules.specs.Run.{Played, words, answerBytes, play, eventsIn, runRefusals, runAll, runBy, run}
 use Rattle.rules.specs.Sound.{Sound}
-use Rattle.rules.specs.Portion.{Lent, wordsIn, Portion, portionRefusals, portionAll, portionBy, portion, Chain, added, addedAnswers, next, chain, chainFrom, Takes}
+use Rattle.rules.specs.Portion.{Lent, wordsIn, Portion, portionRefusals, portionAll, portionBy, portion, added, addedAnswers, next, chain, chainFrom, Takes}
 use Rattle.rules.proofs.Medium.{MediumLaws}
 use Rattle.rules.proofs.Soundness.{Reached, reached-start, reached-play}
 
@@ -36,6 +35,25 @@ first-lacks m (x ∷ xs) h e = go (x .1) refl e (first-lacks m xs (h .1))
     go : (b : Bool) → x .1 ≡ b → cond b (some (x .0)) (firstOf xs) ≡ some m → firstOf xs ≢ some m → ⊥
     go true q e n = let z : x .0 ≡ m = cc in let k : true ≡ false = sym q ∙ h .0 z in true≢false k
     go false q e n = n e
+
+-- two tables of refusals, one after the other
+first-then : (xs ys : List (ℕ × Bool)) (n : ℕ) → firstOf xs ≡ some n → firstOf (xs ++ ys) ≡ some n
+unfolding firstOf
+first-then [] ys n h = let z : true ≡ false = cc in absurd (true≢false z)
+first-then (x ∷ xs) ys n h = go (x .1) h (first-then xs ys n)
+  where
+    go : (b : Bool) → cond b (some (x .0)) (firstOf xs) ≡ some n → (firstOf xs ≡ some n → firstOf (xs ++ ys) ≡ some n) → cond b (some (x .0)) (firstOf (xs ++ ys)) ≡ some n
+    go true h ih = h
+    go false h ih = ih h
+
+first-else : (xs ys : List (ℕ × Bool)) → firstOf xs ≡ none → firstOf (xs ++ ys) ≡ firstOf ys
+unfolding firstOf
+first-else [] ys h = refl
+first-else (x ∷ xs) ys h = go (x .1) h (first-else xs ys)
+  where
+    go : (b : Bool) → cond b (some (x .0)) (firstOf xs) ≡ none → (firstOf xs ≡ none → firstOf (xs ++ ys) ≡ firstOf ys) → cond b (some (x .0)) (firstOf (xs ++ ys)) ≡ firstOf ys
+    go true h ih = let z : true ≡ false = cc in absurd (true≢false z)
+    go false h ih = ih h
 
 -- a number for each word, two bytes for each answer
 pub words-length : (g : Geometry) (n : ℕ) (bs : List ℕ) → length (words g n bs) ≡ n
@@ -86,6 +104,25 @@ module _ (f : Form) where
       go : (o : Option ℕ) → firstOf (portionRefusals f sound store events work answers) ≡ o → Case sound s store events work answers
       go none q = plays q (ap (portionBy f s store events answers) q)
       go (some n) q = refuses n q (ne-false n 0 (λ e. never-zero sound store events work answers (q ∙ ap some e))) (ap (portionBy f s store events answers) q)
+
+  -- the lengths are tried before the state, whatever is found of that
+  pub lengths-first : (sound : Bool) (s : StateOf f) (store events work answers : List ℕ) (n : ℕ) → firstOf (runRefusals f store events work answers) ≡ some n
+      → portion f sound s store events work answers .answer ≡ n
+  unfolding portion portionBy portionRefusals
+  lengths-first sound s store events work answers n h =
+      ap (λ (o : Option ℕ). portionBy f s store events answers o .answer) (first-then (runRefusals f store events work answers) ((25, not sound) ∷ []) n h)
+
+  -- with lengths that fit, 25 is answered exactly if the state is found unsound
+  pub unsound-refused : (s : StateOf f) (store events work answers : List ℕ) → firstOf (runRefusals f store events work answers) ≡ none
+      → portion f false s store events work answers .answer ≡ 25
+  unfolding portion portionBy portionRefusals firstOf
+  unsound-refused s store events work answers h =
+      ap (λ (o : Option ℕ). portionBy f s store events answers o .answer) (first-else (runRefusals f store events work answers) ((25, true) ∷ []) h)
+
+  pub sound-played : (s : StateOf f) (store events work answers : List ℕ) → firstOf (runRefusals f store events work answers) ≡ none
+      → portion f true s store events work answers ≡ portionAll f s events answers
+  unfolding portion portionBy portionRefusals firstOf
+  sound-played s store events work answers h = ap (portionBy f s store events answers) (first-else (runRefusals f store events work answers) ((25, false) ∷ []) h)
 
   -- a portion that does not answer 0 is refused: it changes nothing, and adds nothing to the joined list
   pub refused-portion : (sound : Bool) (s : StateOf f) (store : List ℕ) (l : Lent) → let p = portion f sound s store (l .events) (l .work) (l .answers) in
@@ -178,7 +215,12 @@ module _ (f : Form) (M : MediumLaws (f .geometry) (f .medium)) where
 
   adds-none : (s : StateOf f) (store : List ℕ) (n : ℕ) (l : Lent) → same n 0 ≡ false → Adds s (record { answer = n; state = s; store = store; answers = l .answers }) l
   unfolding added addedAnswers play answerBytes
-  adds-none s store n l z = record { state = rw z; answers = rw z }
+  adds-none s store n l z = record {
+    state = ap (λ (b : Bool). play f s (cond b (wordsIn f (l .events)) []) .state) (sym z);
+    answers =
+        ap (λ (b : Bool). cond b (take (2 * eventsIn f (l .events)) (l .answers)) []) z
+        ∙ ap (λ (b : Bool). answerBytes (play f s (cond b (wordsIn f (l .events)) []) .answers)) (sym z);
+  }
 
   adds : (sound : Bool) (s : StateOf f) (store : List ℕ) (l : Lent) → Adds s (portion f sound s store (l .events) (l .work) (l .answers)) l
   adds sound s store l = go (case? f sound s store (l .events) (l .work) (l .answers))
@@ -224,3 +266,8 @@ module _ (f : Form) (M : MediumLaws (f .geometry) (f .medium)) where
         let kept = sound-portion (sound s) s store (l .events) (l .work) (l .answers) C in
         let not-25 : p .answer ≢ 25 = subst⁻¹ (λ (b : Bool). portion f b s store (l .events) (l .work) (l .answers) .answer ≢ 25) (T s (C .reached .sound)) (sound-taken s store (l .events) (l .work) (l .answers)) in
         rw (ne-false 25 (p .answer) (λ e. not-25 (sym e))) (never-25 T (p .state) (p .store) ls kept)
+
+    -- from a start state
+    pub never-25-start : Takes f sound → (store : List ℕ) (ls : List Lent) → length store ≡ f .medium .size → mem 25 (chainFrom f sound store ls .results) ≡ false
+    unfolding chainFrom
+    never-25-start T store ls sized = never-25 T (down (f .medium .fromBytes store)) store ls (carried-start store sized)

@@ -14,3 +14,4 @@ pub mod Sound
 pub mod Portion
 pub mod Editions
 pub mod Trials
+pub mod PortionTrials

@@ -2,13 +2,12 @@
 -- changes; or its events are played on the state that the last portion left.
 use Prim.Native.Nat.{ℕ, _*_}
 use mathlib.Core.Path.{_≡_}
-use mathlib.Core.Bool.{Bool, true, false, not, cond, _&&_}
+use mathlib.Core.Bool.{Bool, true, not, cond, _&&_}
 use mathlib.Core.List.{List, [], _∷_, _++_}
 use mathlib.Core.Option.{Option, none, some}
 use lib.ListN.{length, take, drop}
 use Rattle.laws.specs.Tests.{same}
-use Rattle.rules.specs.Geometry.{Geometry}
-use Rattle.rules.specs.State.{State, down}
+use Rattle.rules.specs.State.{down}
 use Rattle.rules.specs.Form.{Form, Medium}
 use Rattle.rules.specs.Step.{StateOf, firstOf}
 use Rattle.rules.specs.Run.{words, answerBytes, play, eventsIn, runRefusals, run}
@@ -21,9 +20,9 @@ pub record Lent : Type 0 where
   pub answers : List ℕ
 
 -- the event bytes of all portions
-unfoldable pub eventsOf : List Lent → List ℕ
-eventsOf [] = []
-eventsOf (l ∷ ls) = l .events ++ eventsOf ls
+unfoldable pub allEvents : List Lent → List ℕ
+allEvents [] = []
+allEvents (l ∷ ls) = l .events ++ allEvents ls
 
 unfoldable pub allZero : List ℕ → Bool
 allZero [] = true
@@ -120,11 +119,11 @@ module _ (f : Form) where
     -- and its state.
     pub record As-whole (store : List ℕ) (ls : List Lent) (work answers : List ℕ) : Type 0 where
       pub played : allZero (chainFrom store ls .results) ≡ true
-      pub same-answers : chainFrom store ls .answers ≡ take (2 * eventsIn f (eventsOf ls)) (run f store (eventsOf ls) work answers .answers)
-      pub same-store : chainFrom store ls .store ≡ run f store (eventsOf ls) work answers .store
-      pub same-state : chainFrom store ls .state ≡ portion true (down (f .medium .fromBytes store)) store (eventsOf ls) work answers .state
+      pub same-answers : chainFrom store ls .answers ≡ take (2 * eventsIn f (allEvents ls)) (run f store (allEvents ls) work answers .answers)
+      pub same-store : chainFrom store ls .store ≡ run f store (allEvents ls) work answers .store
+      pub same-state : chainFrom store ls .state ≡ portion true (down (f .medium .fromBytes store)) store (allEvents ls) work answers .state
 
 -- opens the definitions of this module: for what is proved by computing
 unfoldable pub open-portion : Unit {0}
-unfolding eventsOf allZero wordsIn portionRefusals portionAll portionBy portion added addedAnswers next chain chainFrom
+unfolding allEvents allZero wordsIn portionRefusals portionAll portionBy portion added addedAnswers next chain chainFrom
 open-portion = tt
