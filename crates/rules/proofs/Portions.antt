@@ -139,8 +139,8 @@ module _ (f : Form) where
         ap (λ (x : Portion f). x .state) e,
         ap (λ (x : Portion f). x .store) e,
         ap (λ (x : Portion f). x .answers) e,
-        rw (e, z),
-        rw (e, z),
+        ap (λ (x : Portion f). added f x l) e ∙ ap (λ (b : Bool). cond b (wordsIn f (l .events)) []) z,
+        ap (λ (x : Portion f). addedAnswers f x l) e ∙ ap (λ (b : Bool). cond b (take (2 * eventsIn f (l .events)) (l .answers)) []) z,
       )
 
   -- a portion that is played gives its answers to its events, and leaves the answer bytes behind them

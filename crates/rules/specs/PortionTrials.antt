@@ -1,8 +1,8 @@
 -- Trials of portions: document 01's worked list with one event a portion, and rows at the edges of a portion.
-use Prim.Native.Nat.{ℕ}
+use Prim.Native.Nat.{ℕ, _*_}
 use mathlib.Core.Bool.{Bool, true, false, _&&_}
 use mathlib.Core.List.{List, [], _∷_, _++_}
-use lib.ListN.{take, replicate}
+use lib.ListN.{length, take, replicate}
 use Rattle.laws.specs.Tests.{same}
 use Rattle.laws.specs.Bytes.{sameList}
 use Rattle.rules.specs.Geometry.{workSize}
@@ -48,7 +48,7 @@ abbrev freshBytes : List ℕ
 freshBytes = edition1 .medium .toBytes (edition1 .medium .fresh)
 
 abbrev pub passes : PortionTrial → Bool
-passes (lends ls results answers) = let c = chained freshBytes ls in sameList (c .results) results && sameList (c .answers) answers
+passes (lends ls results answers) = let c = chained freshBytes ls in sameList (c .results) results && sameList (c .answers) answers && same (2 * length (c .joined)) (length answers)
 passes (turned sound a b c d n) =
     let p : Portion edition1 = portion edition1 sound (down (edition1 .medium .fresh)) (replicate a 7) (replicate b 7) (replicate c 7) (replicate d 7) in
     same (p .answer) n && sameList (p .store) (replicate a 7) && sameList (p .answers) (replicate d 7)
