@@ -1,6 +1,6 @@
 -- A list of events cut anywhere: the words of the pieces are the words of the whole, so the portions leave what the whole run leaves.
 use mathlib.Core.Path.{_≡_, refl, sym, ap, ap₂, _∙_}
-use mathlib.Core.Bool.{Bool, true, false, _||_}
+use mathlib.Core.Bool.{Bool, true, false}
 use mathlib.Core.List.{List, [], _∷_, _++_}
 use Prim.Native.Nat.{ℕ, zero, suc, _+_, _*_, _/_, _%_, _<_, _≤_}
 use native.Mathlib.Bridge.{le-by-compare, IsLe}
@@ -8,14 +8,15 @@ use native.Mathlib.Nat.{mul-comm, div-add-mod', add-mul-div-right, add-comm, suc
 use native.Mathlib.Omega.{arith}
 use lib.ListN.{length, take, drop, length-append, length-drop}
 use lib.Seq.{take-append-le, drop-append-le}
-use Rattle.laws.specs.Tests.{same}
+use Rattle.laws.specs.Tests.{same, under}
 use Rattle.laws.specs.Bytes.{number}
-use Rattle.laws.proofs.Tests.{same-eq, same-refl}
-use Rattle.laws.proofs.Booleans.{not-false}
-use Rattle.rules.specs.Geometry.{Geometry, Proper, pageCount, wordSize, open-geometry}
+use mathlib.Core.Option.{none}
+use Rattle.laws.proofs.Tests.{same-refl, under-lt}
+use Rattle.laws.proofs.Booleans.{refute}
+use Rattle.rules.specs.Geometry.{Geometry, Proper, pageCount, workSize, wordSize, longest, open-geometry}
 use Rattle.rules.specs.State.{down}
 use Rattle.rules.specs.Form.{Form, atomicPages}
-use Rattle.rules.specs.Step.{StateOf}
+use Rattle.rules.specs.Step.{StateOf, firstOf}
 use Rattle.rules.specs.Run.{Result, Played, words, answerBytes, play, eventsIn, runRefusals, run}
 use Rattle.rules.specs.Portion.{Lent, allEvents, allZero, Fits, AllFit, wordsIn, Portion, portionAll, portion, added, chain, chainFrom, next, Takes, As-whole}
 use Rattle.rules.proofs.Medium.{MediumLaws}
@@ -23,7 +24,6 @@ use Rattle.rules.specs.Editions.{geometry1, edition1}
 use Rattle.rules.proofs.Pages.{flat-length}
 use Rattle.rules.proofs.Editions.{proper1}
 use Rattle.rules.proofs.AtomicPages.{atomic-laws, shaped-sized}
-use Rattle.rules.proofs.Acceptance.{pass}
 use Rattle.rules.proofs.Portions.{Carried, carried-start, sound-portion, chain-whole, run-portion, answers-all, sound-played}
 
 -- the words of bytes that begin with n whole words
@@ -61,6 +61,24 @@ module _ (f : Form) (positive : 0 < wordSize (f .geometry)) where
       ap (λ (n : ℕ). words (f .geometry) n (a ++ b)) (events-append a b h)
       ∙ words-append (f .geometry) (eventsIn f a) (eventsIn f b) a b (whole-words a h)
 
+-- lengths that fit are not refused
+pub fits-passes : (f : Form) (store : List ℕ) (l : Lent) → length store ≡ f .medium .size → Fits f l → firstOf (runRefusals f store (l .events) (l .work) (l .answers)) ≡ none
+unfolding runRefusals firstOf
+fits-passes f store l sized F =
+    rw (
+      is-same (length store) (f .medium .size) sized,
+      is-same (length (l .work)) (workSize (f .geometry)) (F .slots),
+      is-same (length (l .events) % wordSize (f .geometry)) 0 (F .whole),
+      not-under′ (longest * wordSize (f .geometry)) (length (l .events)) (F .short),
+      not-under′ (length (l .answers)) (2 * eventsIn f (l .events)) (F .room),
+    )
+  where
+    is-same : (a b : ℕ) → a ≡ b → same a b ≡ true
+    is-same a b e = rw e (same-refl b)
+
+    not-under′ : (a b : ℕ) → b ≤ a → under a b ≡ false
+    not-under′ a b h = refute (under a b) (λ e. omega (arith, h, under-lt a b e))
+
 -- in a store whose bytes have the store's size
 abbrev pub Spelled : (f : Form) (M : MediumLaws (f .geometry) (f .medium)) → Type 0
 Spelled f M = (d : f .medium .Store) → M .Shaped d → length (f .medium .toBytes d) ≡ f .medium .size
@@ -69,19 +87,6 @@ module _ (f : Form) (M : MediumLaws (f .geometry) (f .medium)) (spelled : Spelle
   -- the store of a state between portions has its size
   carried-size : (s : StateOf f) (store : List ℕ) → Carried f M s store → length store ≡ f .medium .size
   carried-size s store C = ap length (sym (C .writes)) ∙ spelled (s .store) (C .reached .shaped)
-
-  -- whole words only
-  fits-words : (store : List ℕ) (l : Lent) → length store ≡ f .medium .size → Fits f l → length (l .events) % wordSize (f .geometry) ≡ 0
-  unfolding runRefusals
-  fits-words store l sized F =
-      let p₁ = pass 22 _ _ (F store sized) in
-      let p₂ = pass 24 _ _ (p₁ .1) in
-      let p₃ = pass 20 _ _ (p₂ .1) in
-      same-eq _ _ (not-false _ (left _ _ (p₃ .0)))
-    where
-      left : (a b : Bool) → (a || b) ≡ false → a ≡ false
-      left true b e = e
-      left false b e = refl
 
   zero-of : (s : StateOf f) (l : Lent) (p : Portion f) → p ≡ portionAll f s (l .events) (l .answers) → same (p .answer) 0 ≡ true
   unfolding portionAll
@@ -116,11 +121,11 @@ module _ (f : Form) (M : MediumLaws (f .geometry) (f .medium)) (spelled : Spelle
         let sized = carried-size s store C in
         let p = portion f (sound s) s store (l .events) (l .work) (l .answers) in
         let e : p ≡ portionAll f s (l .events) (l .answers)
-        = ap (λ (b : Bool). portion f b s store (l .events) (l .work) (l .answers)) (T s (C .reached .sound)) ∙ sound-played f s store (l .events) (l .work) (l .answers) (F .0 store sized) in
+        = ap (λ (b : Bool). portion f b s store (l .events) (l .work) (l .answers)) (T s (C .reached .sound)) ∙ sound-played f s store (l .events) (l .work) (l .answers) (fits-passes f store l sized (F .0)) in
         let rest = all-played (p .state) (p .store) ls (sound-portion f M (sound s) s store (l .events) (l .work) (l .answers) C) (F .1) in
         record {
           zeros = rw (zero-of s l p e, rest .zeros);
-          whole = ap₂ (λ (x y : List ℕ). x ++ y) (added-of s l p e) (rest .whole) ∙ sym (wordsIn-append f positive (l .events) (allEvents ls) (fits-words store l sized (F .0)));
+          whole = ap₂ (λ (x y : List ℕ). x ++ y) (added-of s l p e) (rest .whole) ∙ sym (wordsIn-append f positive (l .events) (allEvents ls) (F .0 .whole));
         }
 
     -- FROM A START STATE, CUTTING A LIST ANYWHERE
@@ -133,7 +138,7 @@ module _ (f : Form) (M : MediumLaws (f .geometry) (f .medium)) (spelled : Spelle
         let P = all-played s₀ store ls (carried-start f M store sized) A in
         let W = chain-whole f M sound s₀ store ls (carried-start f M store sized) in
         let c = chain f sound s₀ store ls in
-        let one : portion f true s₀ store E work answers ≡ portionAll f s₀ E answers = sound-played f s₀ store E work answers (F store sized) in
+        let one : portion f true s₀ store E work answers ≡ portionAll f s₀ E answers = sound-played f s₀ store E work answers (fits-passes f store (record { events = E; work = work; answers = answers }) sized F) in
         let r = run-portion f store E work answers in
         let joined : (ws : List ℕ) → c .joined ≡ ws → play f s₀ (c .joined) ≡ play f s₀ ws = λ ws e. ap (play f s₀) e in
         let e = joined (wordsIn f E) (P .whole) in

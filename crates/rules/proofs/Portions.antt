@@ -18,7 +18,7 @@ use Rattle.rules.specs.Form.{Form}
 use Rattle.rules.specs.Step.{Answer, numberOf, valueOf, StateOf, firstOf, step}
 use Rattle.rules.specs.Run.{Played, words, answerBytes, play, eventsIn, runRefusals, runAll, runBy, run}
 use Rattle.rules.specs.Sound.{Sound}
-use Rattle.rules.specs.Portion.{Lent, wordsIn, Portion, portionRefusals, portionAll, portionBy, portion, added, addedAnswers, next, chain, chainFrom, Takes}
+use Rattle.rules.specs.Portion.{Lent, Finds, wordsIn, Portion, portionRefusals, portionAll, portionBy, portion, added, addedAnswers, next, chain, chainFrom, Takes}
 use Rattle.rules.proofs.Medium.{MediumLaws}
 use Rattle.rules.proofs.Soundness.{Reached, reached-start, reached-play}
 
@@ -85,6 +85,12 @@ bytes-append [] ys = refl
 bytes-append (x ∷ xs) ys = ap (λ (l : List ℕ). numberOf x ∷ valueOf x ∷ l) (bytes-append xs ys)
 
 module _ (f : Form) where
+  -- two findings that are right are the same
+  pub finds-one : (content : StateOf f → Type 0) (a b : Bool) → Finds f content a → Finds f content b → a ≡ b
+  finds-one content true b A B = let k = A .only-sound refl in sym (B .every-sound (k .0) (k .1) (k .2))
+  finds-one content false true A B = let k = B .only-sound refl in A .every-sound (k .0) (k .1) (k .2)
+  finds-one content false false A B = refl
+
   -- a portion is played, or refused with a number that is not 0
   pub data Case (sound : Bool) (s : StateOf f) (store events work answers : List ℕ) : Type 0 where
     plays : firstOf (portionRefusals f sound store events work answers) ≡ none

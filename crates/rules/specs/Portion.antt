@@ -1,12 +1,13 @@
 -- Events in portions (document 02, L1): the state is lent and changed, one list of events after the other. A portion is refused, and nothing
 -- changes; or its events are played on the state that the last portion left.
-use Prim.Native.Nat.{ℕ, _*_}
+use Prim.Native.Nat.{ℕ, _*_, _%_, _≤_}
 use mathlib.Core.Path.{_≡_}
 use mathlib.Core.Bool.{Bool, true, not, cond, _&&_}
 use mathlib.Core.List.{List, [], _∷_, _++_}
 use mathlib.Core.Option.{Option, none, some}
 use lib.ListN.{length, take, drop}
 use Rattle.laws.specs.Tests.{same}
+use Rattle.rules.specs.Geometry.{workSize, wordSize, longest}
 use Rattle.rules.specs.State.{down}
 use Rattle.rules.specs.Form.{Form, Medium}
 use Rattle.rules.specs.Step.{StateOf, firstOf}
@@ -29,9 +30,12 @@ allZero [] = true
 allZero (n ∷ ns) = same n 0 && allZero ns
 
 module _ (f : Form) where
-  -- the lengths of the buffers are as a run with any store of the right length asks
-  abbrev pub Fits : Lent → Type 0
-  Fits l = (store : List ℕ) → length store ≡ f .medium .size → firstOf (runRefusals f store (l .events) (l .work) (l .answers)) ≡ none
+  -- the lengths of the buffers are as a run asks
+  pub record Fits (l : Lent) : Type 0 where
+    pub slots : length (l .work) ≡ workSize (f .geometry)
+    pub whole : length (l .events) % wordSize (f .geometry) ≡ 0
+    pub short : length (l .events) ≤ longest * wordSize (f .geometry)
+    pub room : 2 * eventsIn f (l .events) ≤ length (l .answers)
 
   abbrev pub AllFit : List Lent → Type 0
   AllFit [] = Unit {0}
@@ -48,7 +52,12 @@ module _ (f : Form) where
     pub store : List ℕ
     pub answers : List ℕ
 
-  -- A run's refusals, and then 25. `sound` says whether what is lent as a state is the content of a sound one.
+  -- What is lent as a state is the content of a state, or of none. What is found of it is right: that it is the content of a sound one.
+  pub record Finds (content : StateOf f → Type 0) (sound : Bool) : Type 0 where
+    pub only-sound : sound ≡ true → (s : StateOf f) × content s × Sound f s
+    pub every-sound : (s : StateOf f) → content s → Sound f s → sound ≡ true
+
+  -- A run's refusals, and then 25. `sound` says what is found of what is lent as a state.
   unfoldable pub portionRefusals : Bool → List ℕ → List ℕ → List ℕ → List ℕ → List (ℕ × Bool)
   portionRefusals sound store events work answers = runRefusals f store events work answers ++ ((25, not sound) ∷ [])
 
