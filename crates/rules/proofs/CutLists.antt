@@ -2,6 +2,7 @@
 use mathlib.Core.Path.{_≡_, refl, sym, ap, ap₂, _∙_}
 use mathlib.Core.Bool.{Bool, true, false}
 use mathlib.Core.List.{List, [], _∷_, _++_}
+use mathlib.Core.Option.{none}
 use Prim.Native.Nat.{ℕ, zero, suc, _+_, _*_, _/_, _%_, _<_, _≤_}
 use native.Mathlib.Bridge.{le-by-compare, IsLe}
 use native.Mathlib.Nat.{mul-comm, div-add-mod', add-mul-div-right, add-comm, suc-mul, suc-add, zero-add, zero-div}
@@ -10,7 +11,6 @@ use lib.ListN.{length, take, drop, length-append, length-drop}
 use lib.Seq.{take-append-le, drop-append-le}
 use Rattle.laws.specs.Tests.{same, under}
 use Rattle.laws.specs.Bytes.{number}
-use mathlib.Core.Option.{none}
 use Rattle.laws.proofs.Tests.{same-refl, under-lt}
 use Rattle.laws.proofs.Booleans.{refute}
 use Rattle.rules.specs.Geometry.{Geometry, Proper, pageCount, workSize, wordSize, longest, open-geometry}
@@ -19,8 +19,8 @@ use Rattle.rules.specs.Form.{Form, atomicPages}
 use Rattle.rules.specs.Step.{StateOf, firstOf}
 use Rattle.rules.specs.Run.{Result, Played, words, answerBytes, play, eventsIn, runRefusals, run}
 use Rattle.rules.specs.Portion.{Lent, allEvents, allZero, Fits, AllFit, wordsIn, Portion, portionAll, portion, added, chain, chainFrom, next, Takes, As-whole}
-use Rattle.rules.proofs.Medium.{MediumLaws}
 use Rattle.rules.specs.Editions.{geometry1, edition1}
+use Rattle.rules.proofs.Medium.{MediumLaws}
 use Rattle.rules.proofs.Pages.{flat-length}
 use Rattle.rules.proofs.Editions.{proper1}
 use Rattle.rules.proofs.AtomicPages.{atomic-laws, shaped-sized}
@@ -38,7 +38,7 @@ words-append g (suc n) m a b h =
     let left : length (drop w a) ≡ n * w = length-drop w a ∙ omega (arith, h, e) in
     ap (λ (k : ℕ). words g k (a ++ b)) (suc-add n m)
     ∙ ap₂ (λ (x y : List ℕ). number x ∷ words g (n + m) y) (take-append-le w a b le) (drop-append-le w a b le)
-    ∙ (ap (λ (l : List ℕ). number (take w a) ∷ l) (words-append g n m (drop w a) b left))
+    ∙ ap (λ (l : List ℕ). number (take w a) ∷ l) (words-append g n m (drop w a) b left)
 
 module _ (f : Form) (positive : 0 < wordSize (f .geometry)) where
   abbrev w : ℕ
@@ -60,6 +60,31 @@ module _ (f : Form) (positive : 0 < wordSize (f .geometry)) where
   wordsIn-append a b h =
       ap (λ (n : ℕ). words (f .geometry) n (a ++ b)) (events-append a b h)
       ∙ words-append (f .geometry) (eventsIn f a) (eventsIn f b) a b (whole-words a h)
+
+no-events : (f : Form) → eventsIn f [] ≡ 0
+unfolding eventsIn
+no-events f = zero-div (wordSize (f .geometry))
+
+no-words : (f : Form) → wordsIn f [] ≡ []
+unfolding wordsIn words
+no-words f = ap (λ (n : ℕ). words (f .geometry) n []) (no-events f)
+
+-- an empty portion of a sound state answers 0 and changes nothing
+pub empty-portion : (f : Form) (M : MediumLaws (f .geometry) (f .medium)) (s : StateOf f) (store work answers : List ℕ) → Carried f M s store
+    → firstOf (runRefusals f store [] work answers) ≡ none → portion f true s store [] work answers ≡ record { answer = 0; state = s; store = store; answers = answers }
+unfolding portionAll play answerBytes
+empty-portion f M s store work answers C h =
+    sound-played f s store [] work answers h
+    ∙ ap₂ left (no-events f) (no-words f)
+    ∙ ap (λ (bs : List ℕ). record { answer = 0; state = s; store = bs; answers = answers }) (C .writes)
+  where
+    left : ℕ → List ℕ → Portion f
+    left n ws = record {
+      answer = 0;
+      state = play f s ws .state;
+      store = f .medium .toBytes (play f s ws .state .store);
+      answers = answerBytes (play f s ws .answers) ++ drop (2 * n) answers;
+    }
 
 -- lengths that fit are not refused
 pub fits-passes : (f : Form) (store : List ℕ) (l : Lent) → length store ≡ f .medium .size → Fits f l → firstOf (runRefusals f store (l .events) (l .work) (l .answers)) ≡ none
@@ -110,13 +135,9 @@ module _ (f : Form) (M : MediumLaws (f .geometry) (f .medium)) (spelled : Spelle
       pub zeros : allZero (chain f sound s store ls .results) ≡ true
       pub whole : chain f sound s store ls .joined ≡ wordsIn f (allEvents ls)
 
-    no-words : wordsIn f [] ≡ []
-    unfolding wordsIn eventsIn words
-    no-words = ap (λ (n : ℕ). words (f .geometry) n []) (zero-div (wordSize (f .geometry)))
-
     pub all-played : (s : StateOf f) (store : List ℕ) (ls : List Lent) → Carried f M s store → AllFit f ls → AllPlayed s store ls
     unfolding chain next allZero allEvents
-    all-played s store [] C F = record { zeros = refl; whole = sym no-words }
+    all-played s store [] C F = record { zeros = refl; whole = sym (no-words f) }
     all-played s store (l ∷ ls) C F =
         let sized = carried-size s store C in
         let p = portion f (sound s) s store (l .events) (l .work) (l .answers) in

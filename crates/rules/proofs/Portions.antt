@@ -263,6 +263,18 @@ module _ (f : Form) (M : MediumLaws (f .geometry) (f .medium)) where
           carried = rest .carried;
         }
 
+    -- two chains with one joined list, cut in any two ways, leave the same
+    pub same-joined : (s : StateOf f) (store : List ℕ) (ls ls′ : List Lent) → Carried s store → let a = chain f sound s store ls in let b = chain f sound s store ls′ in
+        a .joined ≡ b .joined → (a .answers ≡ b .answers) × (a .state ≡ b .state) × (a .store ≡ b .store)
+    same-joined s store ls ls′ C e =
+        let A = chain-whole s store ls C in
+        let B = chain-whole s store ls′ C in
+        let states = A .state ∙ ap (λ (ws : List ℕ). play f s ws .state) e ∙ sym (B .state) in (
+          A .answers ∙ ap (λ (ws : List ℕ). answerBytes (play f s ws .answers)) e ∙ sym (B .answers),
+          states,
+          sym (A .carried .writes) ∙ ap (λ (t : StateOf f). f .medium .toBytes (t .store)) states ∙ B .carried .writes,
+        )
+
     -- soundness is kept, so no portion of a chain is refused with 25
     pub never-25 : Takes f sound → (s : StateOf f) (store : List ℕ) (ls : List Lent) → Carried s store → mem 25 (chain f sound s store ls .results) ≡ false
     unfolding chain next mem
