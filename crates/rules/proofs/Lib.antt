@@ -10,6 +10,7 @@ pub mod Parts
 pub mod Soundness
 pub mod Portions
 pub mod CutLists
+pub mod Calls
 pub mod Editions
 pub mod Map
 pub mod CommitPage

@@ -12,6 +12,7 @@ pub mod Run
 pub mod Age
 pub mod Sound
 pub mod Portion
+pub mod Calls
 pub mod Editions
 pub mod Trials
 pub mod PortionTrials
