@@ -12,5 +12,6 @@ pub mod TwoRuns
 pub mod Demand3
 pub mod Claims
 pub mod Joined
+pub mod Called
 pub mod Trials
 pub mod Example

@@ -1,5 +1,5 @@
 -- Calls that keep their promise, each on what the last one left, are a chain of portions: from a sound state every one of them is found sound.
-use mathlib.Core.Path.{_≡_, refl, sym, ap, ap₂, subst, subst⁻¹, _∙_}
+use mathlib.Core.Path.{_≡_, refl, ap, ap₂, subst, subst⁻¹, _∙_}
 use mathlib.Core.Bool.{Bool, true, cond}
 use mathlib.Core.List.{List, [], _∷_, _++_}
 use Prim.Native.Nat.{ℕ, _*_}
@@ -8,8 +8,8 @@ use Rattle.laws.specs.Tests.{same}
 use Rattle.rules.specs.Form.{Form}
 use Rattle.rules.specs.Step.{StateOf}
 use Rattle.rules.specs.Run.{eventsIn}
-use Rattle.rules.specs.Portion.{Lent, wordsIn, Portion, portion, Chain, added, addedAnswers, next, chain}
-use Rattle.rules.specs.Calls.{Call, lents, results, left, joinedOf, answersOf, Promised, AllPromised}
+use Rattle.rules.specs.Portion.{wordsIn, Portion, portion, Chain, added, addedAnswers, next, chain}
+use Rattle.rules.specs.Calls.{Call, lents, results, left, joinedOf, answersOf, AllPromised}
 use Rattle.rules.proofs.Medium.{MediumLaws}
 use Rattle.rules.proofs.Portions.{Carried, sound-portion}
 
