@@ -1,10 +1,10 @@
 pub mod Tests
 pub mod Bits
 pub mod Filled
+pub mod Booleans
+pub mod Counting
 pub mod Those
 pub mod Bytes
 pub mod Updated
-pub mod Booleans
-pub mod Counting
 pub mod All
 pub mod Compared

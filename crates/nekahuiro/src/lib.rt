@@ -10,11 +10,40 @@ ghost use Rattle.rules.specs.Run.{layFresh};
 ghost use Rattle.rules.specs.Age.{ageOf};
 ghost use Rattle.rules.specs.Editions.{geometry1, edition1};
 ghost use Rattle.numbers.specs.Named.{recordOf};
+ghost use Rattle.history.specs.Demand3.{Demand-3};
 ghost use Rattle.nekahuiro.specs.Ages.{toldAs, ageIn, ageNumber, ageLeft};
 ghost use Rattle.nekahuiro.specs.Laying.{LaidTo};
+ghost use Rattle.nekahuiro.specs.Running.{lengthsRefused, refusalNumber, Ran};
 ghost use Rattle.age.specs.Meaning.{meaning};
 
 const STORE: usize = 1056;
+
+const WORK: usize = 4096;
+
+// The bytes of the longest list: 4,096 events.
+const EVENTS: usize = 16384;
+
+// The refusal before the first event, by the lengths of the buffers; 0 for none.
+fn refusal(store: usize, events: usize, work: usize, answers: usize) -> u8
+    ensures { λ r. ⌜ r ≡ refusalNumber (lengthsRefused store events work answers) ⌝ }
+{
+    if store != STORE {
+        return 22;
+    }
+    if work != WORK {
+        return 24;
+    }
+    if events % 4 != 0 {
+        return 20;
+    }
+    if EVENTS < events {
+        return 20;
+    }
+    if answers < events / 4 * 2 {
+        return 21;
+    }
+    0
+}
 
 // Page n of a fresh store.
 fn fresh_page(n: usize) -> [u8; 32]
@@ -141,4 +170,24 @@ pub extern "C" fn nekahuiro_age(
         Told::Judged(j) => leave(j, age),
         Told::Refused(n) => n,
     }
+}
+
+// Runs a list of events on a store, with an answer of two bytes for each. 0, or a refusal's number: 22, 24, 20 or 21, in this order, and then
+// touches no buffer. Of a run that is played demand 3 holds: it speaks of `run edition1`, which is what this function leaves.
+#[no_mangle]
+pub extern "C" fn nekahuiro_run(
+    store: &mut [u8],
+    events: &[u8],
+    work: &mut [u8],
+    answers: &mut [u8],
+) -> u8
+    ensures { λ r. ⌜ Ran (now (store .entry)) (now (events .entry)) (now (work .entry)) (now (answers .entry)) r (now (store .exit)) (now (work .exit)) (now (answers .exit)) ⌝ }
+    ensures { λ r. ⌜ (r ≡ 0 → Demand-3 edition1 (now (store .entry)) (now (events .entry)) (now (work .entry)) (now (answers .entry))) ⌝ }
+{
+    let n = refusal(store.len(), events.len(), work.len(), answers.len());
+    if n != 0 {
+        return n;
+    }
+    engine::portion(engine::start(), store, events, work, answers);
+    0
 }

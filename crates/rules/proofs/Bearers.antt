@@ -21,7 +21,7 @@ pub record Rooted (limit nobody : ℕ) (b : Bearers) : Type 0 where
 
 module _ {limit nobody : ℕ} {b : Bearers} (S : Rooted limit nobody b) where
   -- the depth of a parent
-  up-one : (t n : ℕ) → depthIn (b t) ≡ suc n → depthIn (b (parentIn (b t))) ≡ n
+  pub up-one : (t n : ℕ) → depthIn (b t) ≡ suc n → depthIn (b (parentIn (b t))) ≡ n
   unfolding open-state updated
   up-one t n e = go (b t) refl e
     where

@@ -118,7 +118,8 @@ module _ {f : Form} {s : StateOf f} (S : Sound f s) where
   unfolding inLine
   versions-in-line j k r v w = owned-of .in-line r j k (owned-of .by-lock j r v) (owned-of .by-lock k r w)
 
-  line-apart : (j k : ℕ) → mem j (lineOf (s .bearer) k) ≡ true → j ≢ k → depthIn (s .bearer j) < depthIn (s .bearer k)
+  -- who is above another on a line is less deep
+  pub line-apart : (j k : ℕ) → mem j (lineOf (s .bearer) k) ≡ true → j ≢ k → depthIn (s .bearer j) < depthIn (s .bearer k)
   line-apart j k e n = rw (← line-length (s .bearer) j, ← line-length (s .bearer) k) (shorter tree-of j k e n)
 
   pub depths-apart : (j k r : ℕ) → isSome (s .version j r) ≡ true → isSome (s .version k r) ≡ true → j ≢ k → depthIn (s .bearer j) ≢ depthIn (s .bearer k)

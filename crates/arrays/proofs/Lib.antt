@@ -1,0 +1,4 @@
+pub mod Sweep
+pub mod Joined
+pub mod Modes
+pub mod View

@@ -1,0 +1,93 @@
+-- Events by their kind: what is refused before a transaction is looked at, and that every event keeps the arrays sound.
+use mathlib.Core.Path.{_≡_, refl, sym, ap, subst⁻¹, _∙_}
+use mathlib.Core.Bool.{Bool, true, false, _&&_, true≢false}
+use mathlib.Core.List.{List, [], _∷_}
+use mathlib.Core.Logic.{_≢_}
+use mathlib.Core.Option.{Option, none, some}
+use Prim.Native.Nat.{ℕ, zero, suc, _+_, _<_, _≤_}
+use native.Mathlib.Omega.{arith}
+use lib.ListN.{length, getD}
+use Rattle.laws.specs.Tests.{under}
+use Rattle.laws.proofs.Tests.{lt-under}
+use Rattle.rules.specs.Geometry.{records, pageCount}
+use Rattle.rules.specs.Store.{pagesOf}
+use Rattle.rules.specs.Event.{Event, begin, lock, write, read, commit, abort, crash, recover, eventOf, fits}
+use Rattle.rules.specs.State.{live}
+use Rattle.rules.specs.Form.{atomicPages}
+use Rattle.rules.specs.Step.{refused, StateOf, OutcomeOf, step}
+use Rattle.rules.specs.Sound.{Sound}
+use Rattle.rules.specs.Editions.{geometry1, edition1}
+use Rattle.rules.proofs.Medium.{MediumLaws}
+use Rattle.rules.proofs.AtomicPages.{atomic-laws}
+use Rattle.rules.proofs.Editions.{proper1}
+use Rattle.rules.proofs.Soundness.{sound-step, sound-bad}
+use Rattle.event.specs.Meaning.{meaning, fieldsOf, InRange}
+use Rattle.event.specs.declared.Event.{Event as Fields}
+use Rattle.event.proofs.Meaning.{means-begin, means-lock, means-write, means-read, means-commit, means-abort}
+use Rattle.events.specs.Whole.{Arrays, view, Intact, Stepped}
+use Rattle.events.specs.declared.Answer.{Answer}
+use Rattle.events.proofs.Rules.{begin-down, lock-down, write-down, read-down, commit-down, abort-down, lock-unknown, write-unknown, read-unknown, commit-unknown, abort-unknown}
+use Rattle.events.proofs.Steps.{answer, unmoved, up-is, down-is, not-live}
+
+abbrev pub laws1 : MediumLaws geometry1 (atomicPages geometry1)
+laws1 = atomic-laws geometry1 proper1
+
+pub shaped-of : (store : List ℕ) → length store ≡ 1056 → laws1 .Shaped (pagesOf store)
+unfolding pageCount records
+shaped-of store h = laws1 .shaped-from store h
+
+-- down: 2, whatever else
+down-kinds : (s : StateOf edition1) (e : Fields) (k : ℕ) → e .kind ≡ k → 0 < k → k < 7 → s .up ≡ false → step edition1 s (meaning e) ≡ record { state = s; answer = refused 2 }
+down-kinds s e zero q h g d = absurd (omega arith)
+down-kinds s e (suc zero) q h g d = ap (step edition1 s) (means-begin e q) ∙ begin-down edition1 s d (e .transaction)
+down-kinds s e (suc (suc zero)) q h g d = ap (step edition1 s) (means-lock e q) ∙ lock-down edition1 s d (e .transaction) (e .rec)
+down-kinds s e (suc (suc (suc zero))) q h g d = ap (step edition1 s) (means-write e q) ∙ write-down edition1 s d (e .transaction) (e .rec) (e .offset) (e .value)
+down-kinds s e (suc (suc (suc (suc zero)))) q h g d = ap (step edition1 s) (means-read e q) ∙ read-down edition1 s d (e .transaction) (e .rec) (e .offset)
+down-kinds s e (suc (suc (suc (suc (suc zero))))) q h g d = ap (step edition1 s) (means-commit e q) ∙ commit-down edition1 s d (e .transaction) (e .count)
+down-kinds s e (suc (suc (suc (suc (suc (suc zero)))))) q h g d = ap (step edition1 s) (means-abort e q) ∙ abort-down edition1 s d (e .transaction)
+down-kinds s e (suc (suc (suc (suc (suc (suc (suc k))))))) q h g d = absurd (omega arith)
+
+pub down-steps : (x : Arrays) (e : Fields) → Intact x → 0 < e .kind → e .kind < 7 → x .up ≢ 1 → Stepped x (meaning e) (answer 2 0) x
+down-steps x e I h g d = unmoved x (meaning e) 2 (I .form) (down-kinds (view x) e (e .kind) refl h g (down-is x d))
+
+-- a transaction that isn't live is named: 5
+unknown-kinds : (s : StateOf edition1) (e : Fields) (k : ℕ) → e .kind ≡ k → 1 < k → k < 7 → s .up ≡ true → live s (e .transaction) ≡ false
+    → step edition1 s (meaning e) ≡ record { state = s; answer = refused 5 }
+unknown-kinds s e zero q h g u l = absurd (omega arith)
+unknown-kinds s e (suc zero) q h g u l = absurd (omega arith)
+unknown-kinds s e (suc (suc zero)) q h g u l = ap (step edition1 s) (means-lock e q) ∙ lock-unknown edition1 s (e .transaction) u l (e .rec)
+unknown-kinds s e (suc (suc (suc zero))) q h g u l = ap (step edition1 s) (means-write e q) ∙ write-unknown edition1 s (e .transaction) u l (e .rec) (e .offset) (e .value)
+unknown-kinds s e (suc (suc (suc (suc zero)))) q h g u l = ap (step edition1 s) (means-read e q) ∙ read-unknown edition1 s (e .transaction) u l (e .rec) (e .offset)
+unknown-kinds s e (suc (suc (suc (suc (suc zero))))) q h g u l = ap (step edition1 s) (means-commit e q) ∙ commit-unknown edition1 s (e .transaction) u l (e .count)
+unknown-kinds s e (suc (suc (suc (suc (suc (suc zero)))))) q h g u l = ap (step edition1 s) (means-abort e q) ∙ abort-unknown edition1 s (e .transaction) u l
+unknown-kinds s e (suc (suc (suc (suc (suc (suc (suc k))))))) q h g u l = absurd (omega arith)
+
+pub unknown-steps : (x : Arrays) (e : Fields) → Intact x → 1 < e .kind → e .kind < 7 → x .up ≡ 1 → live (view x) (e .transaction) ≡ false → Stepped x (meaning e) (answer 5 0) x
+unknown-steps x e I h g u l = unmoved x (meaning e) 5 (I .form) (unknown-kinds (view x) e (e .kind) refl h g (up-is x u) l)
+
+-- an event whose fields are in range fits a word
+fits-of : (k t r o c v : ℕ) → t < 32 → r < 16 → o < 32 → c < 64 → v < 256 → (e : Event) → eventOf (fieldsOf k t r o c v) ≡ some e → fits geometry1 e ≡ true
+unfolding eventOf fieldsOf fits records
+fits-of zero t r o c v ht hr ho hc hv e q = let z : true ≡ false = cc in absurd (true≢false z)
+fits-of (suc zero) t r o c v ht hr ho hc hv e q = let p : begin t ≡ e = cc in rw (← p) (lt-under t 32 ht)
+fits-of (suc (suc zero)) t r o c v ht hr ho hc hv e q = let p : lock t r ≡ e = cc in rw (← p, lt-under t 32 ht, lt-under r 16 hr)
+fits-of (suc (suc (suc zero))) t r o c v ht hr ho hc hv e q = let p : write t r o v ≡ e = cc in rw (← p, lt-under t 32 ht, lt-under r 16 hr, lt-under o 32 ho, lt-under v 256 hv)
+fits-of (suc (suc (suc (suc zero)))) t r o c v ht hr ho hc hv e q = let p : read t r o ≡ e = cc in rw (← p, lt-under t 32 ht, lt-under r 16 hr, lt-under o 32 ho)
+fits-of (suc (suc (suc (suc (suc zero))))) t r o c v ht hr ho hc hv e q = let p : commit t c ≡ e = cc in rw (← p, lt-under t 32 ht, lt-under c 64 hc)
+fits-of (suc (suc (suc (suc (suc (suc zero)))))) t r o c v ht hr ho hc hv e q = let p : abort t ≡ e = cc in rw (← p) (lt-under t 32 ht)
+fits-of (suc (suc (suc (suc (suc (suc (suc zero))))))) t r o c v ht hr ho hc hv e q = let p : crash ≡ e = cc in rw (← p)
+fits-of (suc (suc (suc (suc (suc (suc (suc (suc zero)))))))) t r o c v ht hr ho hc hv e q = let p : recover c ≡ e = cc in rw (← p) (lt-under c 64 hc)
+fits-of (suc (suc (suc (suc (suc (suc (suc (suc (suc k))))))))) t r o c v ht hr ho hc hv e q = let z : true ≡ false = cc in absurd (true≢false z)
+
+meaning-fits : (e : Fields) → InRange e → (f : Event) → meaning e ≡ some f → fits geometry1 f ≡ true
+unfolding meaning
+meaning-fits e R f q = fits-of (e .kind) (e .transaction) (e .rec) (e .offset) (e .count) (e .value) (R .transaction) (R .rec) (R .offset) (R .count) (R .value) f q
+
+-- every event keeps the arrays sound
+pub keeps : (x y : Arrays) (e : Fields) (a : Answer) → InRange e → Intact x → Stepped x (meaning e) a y → Stepped x (meaning e) a y × Intact y
+unfolding view
+keeps x y e a R I T = (T, record { sound = subst⁻¹ (Sound edition1) (T .is) (go (meaning e) refl); form = T .form })
+  where
+    go : (o : Option Event) → meaning e ≡ o → Sound edition1 (step edition1 (view x) o .state)
+    go none q = sound-bad edition1 laws1 (I .sound) (shaped-of (x .store) (I .form .stores))
+    go (some f) q = sound-step edition1 laws1 (I .sound) (shaped-of (x .store) (I .form .stores)) f (meaning-fits e R f q)

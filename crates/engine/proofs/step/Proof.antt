@@ -1,0 +1,96 @@
+use mathlib.Core.Path.{_≡_, refl, sym, ap, ap₂, subst, subst⁻¹, _∙_, fun-ext}
+use mathlib.Core.Bool.{Bool, true, false, not, cond, _&&_, _||_}
+use mathlib.Core.List.{List}
+use Prim.Native.Nat.{ℕ, suc, _+_, _*_, _-_, _/_, _%_, _<_, _≤_}
+use native.Mathlib.Omega.{arith}
+use lib.ListN.{length, getD, set}
+use mathlib.Core.Option.{some}
+use Rattle.rules.specs.Event.{begin, lock, write, read, commit, abort, crash, recover}
+use Rattle.event.proofs.Meaning.{means-bad, means-begin, means-lock, means-write, means-read, means-commit, means-abort, means-crash, means-recover}
+use Rattle.engine.proofs.ByKind.{down-steps, unknown-steps, keeps}
+use Rattle.events.proofs.Steps.{retold, unmoved, sources, not-live, not-live-past}
+use Rattle.events.proofs.Rules.{bad-refused}
+use Rattle.rules.specs.Step.{step}
+use Rattle.rules.specs.Editions.{edition1}
+use borrow.Author.Needs.{needs}
+use Rattle.engine.proofs.step.Statement.{statement}
+use Rattle.engine.proofs.step.Tie as tie
+use Rattle.engine.proofs.step.Reads as reads
+use Rattle.engine.proofs.step.Lts as lts
+use Rattle.events.proofs.begin_event.Reads as begin-event-reads
+use Rattle.events.proofs.crash_event.Reads as crash-event-reads
+use Rattle.engine.proofs.named_event.Reads as named-event-reads
+use Rattle.events.proofs.recover_event.Reads as recover-event-reads
+
+returns : tie.Need-returns
+returns c = keeps _ _ (c .before .before .before .args .e) _ (c .before .before .before .pre .0) (c .before .before .before .pre .1) (unmoved _ _ 1 (c .before .before .before .pre .1 .form) (ap (step edition1 _) (means-bad (c .before .before .before .args .e) (c .if1 .taken)) ∙ bad-refused edition1 _))
+
+crash-event-requires : tie.Need-crash-event-requires
+crash-event-requires c κs = search needs
+
+returns-2 : tie.Need-returns-2
+returns-2 c = keeps _ _ (c .before .before .before .before .before .before .before .before .before .before .before .before .args .e) _ (c .before .before .before .before .before .before .before .before .before .before .before .before .pre .0) (c .before .before .before .before .before .before .before .before .before .before .before .before .pre .1) (retold _ _ _ _ _ (means-crash (c .before .before .before .before .before .before .before .before .before .before .before .before .args .e) (c .before .before .before .before .before .before .before .before .if2 .taken)) (c .crash-event .ensures _ _ (c .before .before .before .before .before .before .before .before .before .before .before .before .pre .1)))
+
+recover-event-requires : tie.Need-recover-event-requires
+recover-event-requires c κs = search needs
+
+same-length : tie.Need-same-length
+same-length c = search needs
+
+returns-3 : tie.Need-returns-3
+returns-3 c = keeps _ _ (c .before .before .before .before .before .before .before .before .before .before .args .e) _ (c .before .before .before .before .before .before .before .before .before .before .pre .0) (c .before .before .before .before .before .before .before .before .before .before .pre .1) (retold _ _ _ _ _ (means-recover (c .before .before .before .before .before .before .before .before .before .before .args .e) (c .before .before .before .before .before .if3 .taken)) (c .before .before .recover-event .ensures _ _ _ _ _ _ _ (c .before .before .before .before .before .before .before .before .before .before .pre .1)))
+
+returns-4 : tie.Need-returns-4
+returns-4 c = let R = c .before .before .before .before .before .before .before .pre .0 .kind in keeps _ _ (c .before .before .before .before .before .before .before .args .e) _ (c .before .before .before .before .before .before .before .pre .0) (c .before .before .before .before .before .before .before .pre .1) (down-steps _ (c .before .before .before .before .before .before .before .args .e) (c .before .before .before .before .before .before .before .pre .1) (omega arith) (omega arith) (c .if4 .taken))
+
+begin-event-requires : tie.Need-begin-event-requires
+begin-event-requires c κs = (c .before .before .before .before .before .before .before .before .before .before .before .pre .0 .transaction, c .before .before .before .before .before .before .before .before .before .before .before .pre .1 .form .depths, c .before .before .before .before .before .before .before .before .before .before .before .pre .1 .form .long, sources _ (c .before .before .before .before .before .before .before .before .before .before .before .pre .1) .shallow)
+
+returns-5 : tie.Need-returns-5
+returns-5 c = keeps _ _ (c .before .before .before .before .before .before .before .before .before .before .before .before .args .e) _ (c .before .before .before .before .before .before .before .before .before .before .before .before .pre .0) (c .before .before .before .before .before .before .before .before .before .before .before .before .pre .1) (retold _ _ _ _ _ (means-begin (c .before .before .before .before .before .before .before .before .before .before .before .before .args .e) (c .before .before .before .before .if5 .taken)) (c .begin-event .ensures _ _ _ _ _ _ (c .before .before .before .before .before .before .before .before .before .before .before .before .pre .1) (c .before .before .before .before .before .if4 .left)))
+
+returns-6 : tie.Need-returns-6
+returns-6 c = let R = c .before .before .before .before .before .before .before .before .before .pre .0 .kind in keeps _ _ (c .before .before .before .before .before .before .before .before .before .args .e) _ (c .before .before .before .before .before .before .before .before .before .pre .0) (c .before .before .before .before .before .before .before .before .before .pre .1) (unknown-steps _ (c .before .before .before .before .before .before .before .before .before .args .e) (c .before .before .before .before .before .before .before .before .before .pre .1) (omega arith) (omega arith) (c .before .before .if4 .left) (not-live-past _ (c .before .before .before .before .before .before .before .before .before .args .e .transaction) (c .before .before .before .before .before .before .before .before .before .pre .1 .form) (omega arith)))
+
+cast-if7 : tie.Need-cast-if7
+cast-if7 c = search needs
+
+element-copy-out-if7 : tie.Need-element-copy-out-if7
+element-copy-out-if7 c = search needs
+
+returns-7 : tie.Need-returns-7
+returns-7 c = let R = c .before .before .before .before .before .before .before .before .before .before .before .pre .0 .kind in keeps _ _ (c .before .before .before .before .before .before .before .before .before .before .before .args .e) _ (c .before .before .before .before .before .before .before .before .before .before .before .pre .0) (c .before .before .before .before .before .before .before .before .before .before .before .pre .1) (unknown-steps _ (c .before .before .before .before .before .before .before .before .before .before .before .args .e) (c .before .before .before .before .before .before .before .before .before .before .before .pre .1) (omega arith) (omega arith) (c .before .before .before .before .if4 .left) (not-live _ (c .before .before .before .before .before .before .before .before .before .before .before .args .e .transaction) (c .if7 .taken)))
+
+named-event-requires : tie.Need-named-event-requires
+named-event-requires c κs = let R = c .before .before .before .before .before .before .before .before .before .before .before .before .before .before .before .before .before .before .before .before .pre .0 .kind in (omega arith, refl, omega arith, omega arith, c .before .before .before .before .before .before .before .before .before .before .before .before .before .before .before .before .before .before .before .before .pre .0, c .before .before .before .before .before .before .before .before .before .before .before .before .before .before .before .before .before .before .before .before .pre .1, record { up = c .before .before .before .before .before .before .before .before .before .before .before .before .before .if4 .left; live = omega arith })
+
+same-length-2 : tie.Need-same-length-2
+same-length-2 c = search needs
+
+same-length-3 : tie.Need-same-length-3
+same-length-3 c = search needs
+
+returns-8 : tie.Need-returns-8
+returns-8 c = keeps _ _ (c .before .before .before .before .before .before .before .before .before .before .before .before .before .before .before .before .before .before .before .before .before .before .before .before .before .args .e) _ (c .before .before .before .before .before .before .before .before .before .before .before .before .before .before .before .before .before .before .before .before .before .before .before .before .before .pre .0) (c .before .before .before .before .before .before .before .before .before .before .before .before .before .before .before .before .before .before .before .before .before .before .before .before .before .pre .1) (c .before .before .before .before .named-event .ensures)
+
+pub step-spec : {M : Type 1} → statement M
+step-spec =
+    tie.close
+    (tie.spec
+    returns
+    crash-event-requires
+    returns-2
+    recover-event-requires
+    same-length
+    returns-3
+    returns-4
+    begin-event-requires
+    returns-5
+    returns-6
+    cast-if7
+    element-copy-out-if7
+    returns-7
+    named-event-requires
+    same-length-2
+    same-length-3
+    returns-8)

@@ -1,0 +1,200 @@
+// The engine: step, one event at a time, in place; portion, a list of events; and the start.
+ghost use mathlib.Core.Path.{_≡_};
+ghost use mathlib.Core.List.{List};
+ghost use Prim.Native.Nat.{ℕ, _+_, _*_, _<_, _≤_};
+ghost use lib.ListN.{length, getD, set};
+ghost use Rattle.rules.specs.Store.{pagesOf};
+ghost use Rattle.rules.specs.State.{down};
+ghost use Rattle.event.specs.Meaning.{meaning, InRange};
+ghost use Rattle.events.specs.Whole.{Arrays, arrays, view, Intact, Stepped, Ready};
+ghost use Rattle.engine.specs.Portion.{whole, Portion};
+use event::Event;
+use events::Answer;
+
+// An event of a live transaction.
+fn named_event(
+    up: &mut u8,
+    parent: &mut [u8; 24],
+    depth: &mut [u8; 24],
+    line: &mut [u32; 24],
+    held: &mut [u32; 16],
+    retained: &mut [u32; 16],
+    writers: &mut [u32; 16],
+    work: &mut [u8],
+    store: &mut [u8],
+    e: Event,
+    t: u8,
+) -> Answer
+    requires { ⌜ (t < 24) × (t ≡ e .transaction) × (1 < e .kind) × (e .kind < 7) × InRange e × Intact (arrays (now up) (now parent) (now depth) (now line) (now held) (now retained) (now writers) (now work) (now store)) × Ready (arrays (now up) (now parent) (now depth) (now line) (now held) (now retained) (now writers) (now work) (now store)) t ⌝ }
+    ensures { λ a. ⌜ Stepped (arrays (now (up .entry)) (now (parent .entry)) (now (depth .entry)) (now (line .entry)) (now (held .entry)) (now (retained .entry)) (now (writers .entry)) (now (work .entry)) (now (store .entry))) (meaning e) a (arrays (now (up .exit)) (now (parent .exit)) (now (depth .exit)) (now (line .exit)) (now (held .exit)) (now (retained .exit)) (now (writers .exit)) (now (work .exit)) (now (store .exit))) ⌝ }
+{
+    let r = e.rec as usize;
+    let o = e.offset as usize;
+    let kind = e.kind;
+    match kind {
+        2 => events::lock_event(line, held, retained, t, r),
+        3 => events::write_event(parent, depth, held, writers, work, store, t, r, o, e.value),
+        4 => events::read_event(parent, depth, held, writers, work, store, t, r, o),
+        5 => events::commit_event(
+            up,
+            parent,
+            depth,
+            line,
+            held,
+            retained,
+            writers,
+            work,
+            store,
+            t,
+            e.count,
+        ),
+        _ => events::abort_event(parent, depth, line, held, retained, writers, t),
+    }
+}
+
+// One event: the only place where all the arrays meet.
+fn step(
+    up: &mut u8,
+    parent: &mut [u8; 24],
+    depth: &mut [u8; 24],
+    line: &mut [u32; 24],
+    held: &mut [u32; 16],
+    retained: &mut [u32; 16],
+    writers: &mut [u32; 16],
+    work: &mut [u8],
+    store: &mut [u8],
+    e: Event,
+) -> Answer
+    requires { ⌜ InRange e × Intact (arrays (now up) (now parent) (now depth) (now line) (now held) (now retained) (now writers) (now work) (now store)) ⌝ }
+    ensures { λ a. ⌜ Stepped (arrays (now (up .entry)) (now (parent .entry)) (now (depth .entry)) (now (line .entry)) (now (held .entry)) (now (retained .entry)) (now (writers .entry)) (now (work .entry)) (now (store .entry))) (meaning e) a (arrays (now (up .exit)) (now (parent .exit)) (now (depth .exit)) (now (line .exit)) (now (held .exit)) (now (retained .exit)) (now (writers .exit)) (now (work .exit)) (now (store .exit))) × Intact (arrays (now (up .exit)) (now (parent .exit)) (now (depth .exit)) (now (line .exit)) (now (held .exit)) (now (retained .exit)) (now (writers .exit)) (now (work .exit)) (now (store .exit))) ⌝ }
+{
+    let kind = e.kind;
+    let t = e.transaction;
+    if kind == 0 {
+        return Answer {
+            number: 1,
+            value: 0,
+        };
+    }
+    if kind == 7 {
+        return events::crash_event(up, parent, depth, line, held, retained, writers);
+    }
+    if kind == 8 {
+        return events::recover_event(up, store, e.count);
+    }
+    if *up != 1 {
+        return Answer {
+            number: 2,
+            value: 0,
+        };
+    }
+    if kind == 1 {
+        return events::begin_event(parent, depth, line, t);
+    }
+    if 24 <= t {
+        return Answer {
+            number: 5,
+            value: 0,
+        };
+    }
+    if depth[t as usize] == 0 {
+        return Answer {
+            number: 5,
+            value: 0,
+        };
+    }
+    named_event(
+        up,
+        parent,
+        depth,
+        line,
+        held,
+        retained,
+        writers,
+        work,
+        store,
+        e,
+        t,
+    )
+}
+
+// The answer to event k.
+fn put_answer(answers: &mut [u8], k: usize, a: Answer)
+    requires { ⌜ (k < 4096) × (2 * k + 2 ≤ length (now answers)) ⌝ }
+    ensures { λ _. ⌜ now (answers .exit) ≡ set (set (now (answers .entry)) (2 * k) (a .number)) (2 * k + 1) (a .value) ⌝ }
+{
+    let at = 2 * k;
+    answers[at] = a.number;
+    answers[at + 1] = a.value;
+}
+
+pub struct Engine {
+    pub up: u8,
+    pub parent: [u8; 24],
+    pub depth: [u8; 24],
+    pub line: [u32; 24],
+    pub held: [u32; 16],
+    pub retained: [u32; 16],
+    pub writers: [u32; 16],
+}
+
+// A portion of events: the engine comes in and goes out by value, and is changed in place between.
+pub fn portion(
+    e: Engine,
+    store: &mut [u8],
+    events: &[u8],
+    work: &mut [u8],
+    answers: &mut [u8],
+) -> Engine
+    requires { ⌜ Intact (whole e (now work) (now store)) × (length (now events) ≤ 16384) × (length (now events) ≤ 2 * length (now answers)) ⌝ }
+    ensures { λ r. ⌜ Portion (whole e (now (work .entry)) (now (store .entry))) (now (events .entry)) (now (answers .entry)) (whole r (now (work .exit)) (now (store .exit))) (now (answers .exit)) ⌝ }
+{
+    let mut up = e.up;
+    let mut parent = e.parent;
+    let mut depth = e.depth;
+    let mut line = e.line;
+    let mut held = e.held;
+    let mut retained = e.retained;
+    let mut writers = e.writers;
+    let n = events.len() / 4;
+    for k in 0..n {
+        let w = Event::word_at(events, k);
+        let a = step(
+            &mut up,
+            &mut parent,
+            &mut depth,
+            &mut line,
+            &mut held,
+            &mut retained,
+            &mut writers,
+            work,
+            store,
+            Event::of_word(w),
+        );
+        put_answer(answers, k, a);
+    }
+    Engine {
+        up,
+        parent,
+        depth,
+        line,
+        held,
+        retained,
+        writers,
+    }
+}
+
+// The start: down, and nothing live, held, retained or written. All zeros.
+pub fn start() -> Engine
+    ensures { λ e. ⌜ ((work store : List ℕ) → length work ≡ 4096 → length store ≡ 1056 → Intact (whole e work store) × (view (whole e work store) ≡ down (pagesOf store))) ⌝ }
+{
+    Engine {
+        up: 0,
+        parent: [0; 24],
+        depth: [0; 24],
+        line: [0; 24],
+        held: [0; 16],
+        retained: [0; 16],
+        writers: [0; 16],
+    }
+}

@@ -1,0 +1,102 @@
+-- Ends: numbers are cleared, locks and writers are discarded. An abort.
+use mathlib.Core.Path.{_≡_, refl, sym, ap, ap₂, _∙_, fun-ext}
+use mathlib.Core.Bool.{Bool, true, false, not, cond, _&&_, _||_}
+use mathlib.Core.List.{List, [], _∷_}
+use mathlib.Core.Option.{Option, none, some}
+use Prim.Native.Nat.{ℕ, zero, suc, _<_}
+use lib.ListN.{length, getD}
+use Rattle.laws.specs.Bits.{bits}
+use Rattle.laws.proofs.Bits.{bits-zero}
+use Rattle.rules.specs.Geometry.{transactions, nobody}
+use Rattle.rules.specs.Store.{pagesOf}
+use Rattle.rules.specs.Event.{Event, abort}
+use Rattle.rules.specs.State.{Bearers, free, active, lineOf, mem, State}
+use Rattle.rules.specs.Versions.{dropped}
+use Rattle.rules.specs.Step.{ended}
+use Rattle.rules.specs.Editions.{edition1}
+use Rattle.rules.proofs.Bearers.{Rooted, endedIn, ended-line}
+use Rattle.rules.proofs.Locks.{rooted-of, beneath-closed}
+use Rattle.sets.specs.Sets.{sets}
+use Rattle.arrays.specs.View.{Owners, bearerAt, bearersOf, modesOf, slot, versionsOf}
+use Rattle.arrays.specs.Changes.{less, leaving, Rows, places, cleared, Cleared}
+use Rattle.arrays.proofs.Modes.{leaving-discarded}
+use Rattle.events.specs.Whole.{Arrays, arrays, view, lineIn, Formed, Intact, Stepped, Ready}
+use Rattle.events.proofs.Rules.{abort-done}
+use Rattle.events.proofs.Steps.{answer, finishes, state-eq, up-is, live-is}
+
+bearer-at : (b : Bool) (p d : ℕ) → bearerAt (cond b 0 p) (cond b 0 d) ≡ cond b free (bearerAt p d)
+unfolding bearerAt
+bearer-at true p d = refl
+bearer-at false p d = refl
+
+pub bearers-cleared : (dead : ℕ → Bool) (parent depth parent′ depth′ : List ℕ) → Cleared dead parent parent′ → Cleared dead depth depth′
+    → bearersOf parent′ depth′ ≡ endedIn (bearersOf parent depth) dead
+unfolding bearersOf places cleared
+bearers-cleared dead parent depth parent′ depth′ P D = fun-ext (λ t.
+    ap₂ (λ (f g : ℕ → ℕ). bearerAt (f t) (g t)) (P .are) (D .are) ∙ bearer-at (dead t) (getD parent t 0) (getD depth t 0))
+
+versions-cleared : (dead : ℕ → Bool) (depth depth′ writers writers′ work : List ℕ) → Cleared dead depth depth′ → sets writers′ ≡ leaving dead (sets writers)
+    → versionsOf depth′ writers′ work ≡ dropped dead (versionsOf depth writers work)
+unfolding versionsOf places cleared leaving less dropped
+versions-cleared dead depth depth′ writers writers′ work D W = fun-ext (λ j. fun-ext (λ r.
+    ap₂ (λ (f : Owners) (g : ℕ → ℕ). cond (f r j) (some (pagesOf work (slot r (g j)))) none) W (D .are) ∙ go j r (dead j)))
+  where
+    go : (j r : ℕ) (b : Bool) → cond (not b && sets writers r j) (some (pagesOf work (slot r (cond b 0 (getD depth j 0))))) none
+        ≡ cond b none (cond (sets writers r j) (some (pagesOf work (slot r (getD depth j 0)))) none)
+    go j r true = refl
+    go j r false = refl
+
+pub lines-cleared : {b : Bearers} (T : Rooted transactions nobody b) (dead : ℕ → Bool) → ((z a : ℕ) → dead z ≡ false → dead a ≡ true → mem a (lineOf b z) ≡ false)
+    → (line line′ : List ℕ) → sets line ≡ lineIn b → Cleared dead line line′ → sets line′ ≡ lineIn (endedIn b dead)
+unfolding sets places cleared lineIn mem
+lines-cleared {b} T dead closed line line′ e C = fun-ext (λ j. fun-ext (λ u.
+    ap (λ (f : ℕ → ℕ). bits (f j) u) (C .are) ∙ go j u (dead j) ∙ ap (λ (l : List ℕ). mem u l) (sym (ended-line T dead closed j))))
+  where
+    go : (j u : ℕ) (c : Bool) → bits (cond c 0 (getD line j 0)) u ≡ mem u (cond c [] (lineOf b j))
+    go j u true = bits-zero u
+    go j u false = ap (λ (f : ℕ → ℕ → Bool). f j u) e
+
+-- those that `dead` picks end, over a store
+module _ (x : Arrays) (I : Intact x) (dead : ℕ → Bool) (closed : (z a : ℕ) → dead z ≡ false → dead a ≡ true → mem a (lineOf (bearersOf (x .parent) (x .depth)) z) ≡ false)
+    (parent depth line held retained writers store : List ℕ) (P : Cleared dead (x .parent) parent) (D : Cleared dead (x .depth) depth) (L : Cleared dead (x .line) line)
+    (H : Rows (leaving dead (sets (x .held))) held) (M : Rows (leaving dead (sets (x .retained))) retained) (W : Rows (leaving dead (sets (x .writers))) writers) where
+  abbrev rest : Arrays
+  rest = arrays (x .up) parent depth line held retained writers (x .work) store
+
+  pub rest-is : view rest ≡ ended (view x) dead (pagesOf store)
+  unfolding view ended
+  rest-is = state-eq refl (bearers-cleared dead (x .parent) (x .depth) parent depth P D)
+      (ap modesOf (H .are) ∙ leaving-discarded dead (sets (x .held))) (ap modesOf (M .are) ∙ leaving-discarded dead (sets (x .retained)))
+      (versions-cleared dead (x .depth) depth (x .writers) writers (x .work) D (W .are)) refl
+
+  pub rest-form : length store ≡ 1056 → Formed rest
+  unfolding view
+  rest-form size = let F = I .form in record {
+    lines = lines-cleared (rooted-of (I .sound)) dead closed (x .line) line (F .lines) L ∙ ap lineIn (sym (bearers-cleared dead (x .parent) (x .depth) parent depth P D));
+    parents = P .long;
+    depths = D .long;
+    long = L .long;
+    helds = H .long;
+    retaineds = M .long;
+    writerss = W .long;
+    works = F .works;
+    stores = size;
+  }
+
+-- an abort: the transaction and all beneath it
+pub abort-steps : (x : Arrays) → Intact x → (t gone : ℕ) → Ready x t → bits gone ≡ (λ u. sets (x .line) u t)
+    → (parent depth line held retained writers : List ℕ) → Cleared (bits gone) (x .parent) parent → Cleared (bits gone) (x .depth) depth → Cleared (bits gone) (x .line) line
+    → Rows (leaving (bits gone) (sets (x .held))) held → Rows (leaving (bits gone) (sets (x .retained))) retained → Rows (leaving (bits gone) (sets (x .writers))) writers
+    → Stepped x (some (abort t)) (answer 0 0) (arrays (x .up) parent depth line held retained writers (x .work) (x .store))
+unfolding view lineIn
+abort-steps x I t gone R e parent depth line held retained writers P D L H M W =
+    finishes x _ (some (abort t)) (ended (view x) (λ j. mem t (lineOf (view x .bearer) j)) (view x .store)) 0
+    (abort-done edition1 (view x) t (up-is x (R .up)) (live-is x t (R .live)))
+    (rest-is x I (bits gone) closed parent depth line held retained writers (x .store) P D L H M W ∙ ap (λ (f : ℕ → Bool). ended (view x) f (pagesOf (x .store))) same-set)
+    (rest-form x I (bits gone) closed parent depth line held retained writers (x .store) P D L H M W (I .form .stores))
+  where
+    same-set : bits gone ≡ (λ j. mem t (lineOf (bearersOf (x .parent) (x .depth)) j))
+    same-set = e ∙ ap {B = ℕ → Bool} (λ (f : ℕ → ℕ → Bool) u. f u t) (I .form .lines)
+
+    closed : (z a : ℕ) → bits gone z ≡ false → bits gone a ≡ true → mem a (lineOf (bearersOf (x .parent) (x .depth)) z) ≡ false
+    closed z a n k = beneath-closed (I .sound) t z a (sym (ap (λ (f : ℕ → Bool). f z) same-set) ∙ n) (sym (ap (λ (f : ℕ → Bool). f a) same-set) ∙ k)

@@ -1,0 +1,6 @@
+pub mod Rules
+pub mod Steps
+pub mod Ends
+pub mod Falls
+pub mod Begins
+pub mod Commits

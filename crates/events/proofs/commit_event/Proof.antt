@@ -1,0 +1,60 @@
+use mathlib.Core.Path.{_≡_, refl, sym, ap, ap₂, subst, subst⁻¹, _∙_, fun-ext}
+use mathlib.Core.Bool.{Bool, true, false, not, cond, _&&_, _||_}
+use mathlib.Core.List.{List}
+use Prim.Native.Nat.{ℕ, suc, _+_, _*_, _-_, _/_, _%_, _<_, _≤_}
+use native.Mathlib.Omega.{arith}
+use lib.ListN.{length, getD, set}
+use Rattle.events.proofs.Commits.{child-test, commit-refuses, top-steps, top-cut, child-steps}
+use borrow.Author.Needs.{needs}
+use Rattle.events.proofs.commit_event.Statement.{statement}
+use Rattle.events.proofs.commit_event.Tie as tie
+use Rattle.events.proofs.commit_event.Reads as reads
+use Rattle.events.proofs.commit_event.Lts as lts
+use Rattle.events.proofs.commit_child.Reads as commit-child-reads
+use Rattle.events.proofs.commit_top.Reads as commit-top-reads
+use Rattle.transactions.proofs.has_child.Reads as has-child-reads
+
+has-child-requires : tie.Need-has-child-requires
+has-child-requires c κs = search needs
+
+returns : tie.Need-returns
+returns c = λ I R. commit-refuses _ I (c .before .before .before .before .before .before .args .t) (c .before .before .before .before .before .before .args .k) R (sym (child-test _ _ _ (c .before .has-child .ensures)) ∙ c .if1 .taken)
+
+element-copy-out-d : tie.Need-element-copy-out-d
+element-copy-out-d c = search needs
+
+commit-top-requires : tie.Need-commit-top-requires
+commit-top-requires c κs = search needs
+
+same-length : tie.Need-same-length
+same-length c = search needs
+
+same-length-2 : tie.Need-same-length-2
+same-length-2 c = search needs
+
+returns-2 : tie.Need-returns-2
+returns-2 c = λ I R. c .before .before .commit-top .ensures I R (sym (child-test _ _ _ (c .before .before .before .before .before .before .before .before .before .before .before .before .before .before .before .has-child .ensures)) ∙ c .before .before .before .before .before .before .before .before .before .before .before .before .before .before .if1 .left) (c .before .before .before .before .before .before .before .before .before .before .before .before .if2 .taken)
+
+commit-child-requires : tie.Need-commit-child-requires
+commit-child-requires c κs = (search needs, search needs, search needs, search needs, search needs, search needs, search needs, search needs, omega arith, refl, search needs)
+
+same-length-3 : tie.Need-same-length-3
+same-length-3 c = search needs
+
+returns-3 : tie.Need-returns-3
+returns-3 c = λ I R. c .before .before .commit-child .ensures _ _ _ I R (sym (child-test _ _ _ (c .before .before .before .before .before .before .before .before .before .before .before .before .before .has-child .ensures)) ∙ c .before .before .before .before .before .before .before .before .before .before .before .before .if1 .left)
+
+pub commit-event-spec : {M : Type 1} → statement M
+commit-event-spec =
+    tie.close
+    (tie.spec
+    has-child-requires
+    returns
+    element-copy-out-d
+    commit-top-requires
+    same-length
+    same-length-2
+    returns-2
+    commit-child-requires
+    same-length-3
+    returns-3)

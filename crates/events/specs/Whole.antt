@@ -1,0 +1,81 @@
+-- The engine's arrays as one, the state that they stand for, what holds of them between two events, and what one event does.
+use mathlib.Core.Path.{_≡_}
+use mathlib.Core.Bool.{Bool}
+use mathlib.Core.List.{List}
+use mathlib.Core.Option.{Option}
+use Prim.Native.Nat.{ℕ, _<_}
+use lib.ListN.{getD, length}
+use Rattle.laws.specs.Tests.{same}
+use Rattle.rules.specs.Store.{pagesOf}
+use Rattle.rules.specs.Event.{Event}
+use Rattle.rules.specs.State.{Bearers, State, lineOf, mem}
+use Rattle.rules.specs.Step as rules
+use Rattle.rules.specs.Step.{Outcome, StateOf, numberOf, valueOf, step}
+use Rattle.rules.specs.Sound.{Sound}
+use Rattle.rules.specs.Editions.{edition1}
+use Rattle.sets.specs.Sets.{sets}
+use Rattle.arrays.specs.View.{bearersOf, modesOf, versionsOf}
+use Rattle.events.specs.declared.Answer.{Answer}
+
+-- up is 1, else the engine is down
+pub record Arrays : Type 0 where
+  pub up : ℕ
+  pub parent : List ℕ
+  pub depth : List ℕ
+  pub line : List ℕ
+  pub held : List ℕ
+  pub retained : List ℕ
+  pub writers : List ℕ
+  pub work : List ℕ
+  pub store : List ℕ
+
+abbrev pub arrays : ℕ → List ℕ → List ℕ → List ℕ → List ℕ → List ℕ → List ℕ → List ℕ → List ℕ → Arrays
+arrays up parent depth line held retained writers work store =
+    record { up = up; parent = parent; depth = depth; line = line; held = held; retained = retained; writers = writers; work = work; store = store }
+
+-- the state that the arrays stand for
+unfoldable pub view : Arrays → StateOf edition1
+view x = record {
+  up = same (x .up) 1;
+  bearer = bearersOf (x .parent) (x .depth);
+  held = modesOf (sets (x .held));
+  retained = modesOf (sets (x .retained));
+  version = versionsOf (x .depth) (x .writers) (x .work);
+  store = pagesOf (x .store);
+}
+
+-- the members of a transaction's line
+unfoldable pub lineIn : Bearers → ℕ → ℕ → Bool
+lineIn b t u = mem u (lineOf b t)
+
+-- the lines are those of the parents and depths; the arrays have their lengths
+pub record Formed (x : Arrays) : Type 0 where
+  pub lines : sets (x .line) ≡ lineIn (bearersOf (x .parent) (x .depth))
+  pub parents : length (x .parent) ≡ 24
+  pub depths : length (x .depth) ≡ 24
+  pub long : length (x .line) ≡ 24
+  pub helds : length (x .held) ≡ 16
+  pub retaineds : length (x .retained) ≡ 16
+  pub writerss : length (x .writers) ≡ 16
+  pub works : length (x .work) ≡ 4096
+  pub stores : length (x .store) ≡ 1056
+
+-- what holds between two events
+pub record Intact (x : Arrays) : Type 0 where
+  pub sound : Sound edition1 (view x)
+  pub form : Formed x
+
+-- the answer's number and value are those of the rules' answer
+unfoldable pub saying : rules.Answer → Answer
+saying b = record { number = numberOf b; value = valueOf b }
+
+-- the event e, or a bad one, leads from x to y, with the answer a
+pub record Stepped (x : Arrays) (e : Option Event) (a : Answer) (y : Arrays) : Type 0 where
+  pub is : view y ≡ step edition1 (view x) e .state
+  pub says : a ≡ saying (step edition1 (view x) e .answer)
+  pub form : Formed y
+
+-- it is up, and t is live
+pub record Ready (x : Arrays) (t : ℕ) : Type 0 where
+  pub up : x .up ≡ 1
+  pub live : 0 < getD (x .depth) t 0

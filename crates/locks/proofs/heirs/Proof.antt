@@ -1,0 +1,36 @@
+use mathlib.Core.Path.{_≡_, refl, sym, ap, ap₂, _∙_, fun-ext}
+use mathlib.Core.Bool.{Bool, true, false, not, cond, _&&_, _||_, or-false, and-false, and-true}
+use mathlib.Core.List.{List}
+use Prim.Native.Nat.{ℕ, suc, _+_, _*_, _-_, _/_, _%_, _<_, _≤_}
+use native.Mathlib.Omega.{arith}
+use lib.ListN.{length, getD, set}
+use borrow.Author.Needs.{needs}
+use Rattle.arrays.specs.Changes.{openTo, joined, less, leaving, heirsOf, Row, Rows, places, cleared, Cleared}
+use Rattle.arrays.proofs.Sweep.{Swept, swept-none, swept-all, Upto, upto-none, upto-more, upto-all, leaving-past, heirs-past, Clearing, clearing-none, clearing-more, clearing-all, cleared-one, lowest-more, any-more, fills-more}
+use Rattle.laws.specs.Bits.{bits}
+use Rattle.sets.specs.Sets.{sets}
+use Rattle.laws.specs.Tests.{same}
+use Rattle.sets.proofs.Sets.{sets-past}
+use Rattle.locks.proofs.heirs.Statement.{statement}
+use Rattle.locks.proofs.heirs.Tie as tie
+use Rattle.locks.proofs.heirs.Reads as reads
+use Rattle.locks.proofs.heirs.Lts as lts
+use Rattle.sets.proofs.with.Reads as with-reads
+use Rattle.sets.proofs.without.Reads as without-reads
+
+without-requires : tie.Need-without-requires
+without-requires c κs = search needs
+
+with-requires : tie.Need-with-requires
+with-requires c κs = search needs
+
+returns : tie.Need-returns
+unfolding heirsOf
+returns c = let a = c .before .before .before .args in c .with .ensures ∙ ap {B = ℕ → Bool} (λ (f : ℕ → Bool) k. f k || same k (a .p)) (c .before .before .without .ensures) ∙ fun-ext (λ k. ap (λ (b : Bool). (not (same k (a .t)) && bits (a .s) k) || b) (sym (and-true (same k (a .p))) ∙ ap (λ (b : Bool). same k (a .p) && b) (sym (c .before .if1 .taken))))
+
+returns-2 : tie.Need-returns-2
+unfolding heirsOf
+returns-2 c = let a = c .before .before .args in c .before .without .ensures ∙ fun-ext (λ k. sym (or-false _) ∙ ap (λ (b : Bool). (not (same k (a .t)) && bits (a .s) k) || b) (sym (and-false (same k (a .p))) ∙ ap (λ (b : Bool). same k (a .p) && b) (sym (c .if1 .left))))
+
+pub heirs-spec : {M : Type 1} → statement M
+heirs-spec = tie.close (tie.spec without-requires with-requires returns returns-2)

@@ -1,0 +1,61 @@
+use mathlib.Core.Path.{_≡_, refl, sym, ap, ap₂, _∙_, fun-ext}
+use mathlib.Core.Bool.{Bool, true, false, not, cond, _&&_, _||_, or-false, and-false, and-true}
+use mathlib.Core.List.{List}
+use Prim.Native.Nat.{ℕ, suc, _+_, _*_, _-_, _/_, _%_, _<_, _≤_}
+use native.Mathlib.Omega.{arith}
+use lib.ListN.{length, getD, set}
+use borrow.Author.Needs.{needs}
+use Rattle.arrays.specs.Changes.{openTo, joined, less, leaving, heirsOf, Row, Rows, places, cleared, Cleared}
+use Rattle.arrays.proofs.Sweep.{Swept, swept-none, swept-all, Upto, upto-none, upto-more, upto-all, leaving-past, heirs-past, Clearing, clearing-none, clearing-more, clearing-all, cleared-one, lowest-more, any-more, fills-more}
+use Rattle.laws.specs.Bits.{bits}
+use Rattle.sets.specs.Sets.{sets}
+use Rattle.laws.specs.Tests.{same}
+use Rattle.laws.specs.Counting.{any, lowestFrom, lowest}
+use Rattle.laws.proofs.Bits.{bits-zero}
+use borrow.Author.Tests.{eq-eqb, ne-eqb, eqb-true, eqb-false}
+use lib.Dec.{eqb}
+use Rattle.sets.proofs.Sets.{sets-past}
+use Rattle.transactions.proofs.end_one.Statement.{statement}
+use Rattle.transactions.proofs.end_one.Tie as tie
+use Rattle.transactions.proofs.end_one.Reads as reads
+use Rattle.transactions.proofs.end_one.Lts as lts
+use Rattle.sets.proofs.contains.Reads as contains-reads
+
+cast-contains : tie.Need-cast-contains
+cast-contains c = search needs
+
+contains-requires : tie.Need-contains-requires
+contains-requires c κs = search needs
+
+element-write-parent : tie.Need-element-write-parent
+element-write-parent c = search needs
+
+element-write-depth : tie.Need-element-write-depth
+element-write-depth c = search needs
+
+mul-line : tie.Need-mul-line
+mul-line c = search needs
+
+element-write-line : tie.Need-element-write-line
+element-write-line c = search needs
+
+returns : tie.Need-returns
+returns c = let e = sym (sym (c .before .contains .ensures) ∙ c .if1 .taken) in let j : c .before .before .args .j % 256 ≡ c .before .before .args .j = omega arith in let f : true ≡ bits (c .before .before .args .gone) (c .before .before .args .j) = e ∙ ap (bits (c .before .before .args .gone)) j in
+    (ap (λ (b : Bool). cond b (set (c .before .before .args .parent .now) (c .before .before .args .j) 0) (c .before .before .args .parent .now)) f, ap (λ (b : Bool). cond b (set (c .before .before .args .depth .now) (c .before .before .args .j) 0) (c .before .before .args .depth .now)) f, ap (λ (b : Bool). cond b (set (c .before .before .args .line .now) (c .before .before .args .j) 0) (c .before .before .args .line .now)) f)
+
+returns-2 : tie.Need-returns-2
+returns-2 c = let e = sym (sym (c .before .contains .ensures) ∙ c .if1 .left) in let j : c .before .before .args .j % 256 ≡ c .before .before .args .j = omega arith in let f : false ≡ bits (c .before .before .args .gone) (c .before .before .args .j) = e ∙ ap (bits (c .before .before .args .gone)) j in
+    (ap (λ (b : Bool). cond b (set (c .before .before .args .parent .now) (c .before .before .args .j) 0) (c .before .before .args .parent .now)) f, ap (λ (b : Bool). cond b (set (c .before .before .args .depth .now) (c .before .before .args .j) 0) (c .before .before .args .depth .now)) f, ap (λ (b : Bool). cond b (set (c .before .before .args .line .now) (c .before .before .args .j) 0) (c .before .before .args .line .now)) f)
+
+pub end-one-spec : {M : Type 1} → statement M
+end-one-spec =
+    tie.close
+    (tie.spec
+    cast-contains
+    contains-requires
+    element-write-parent
+    element-write-depth
+    mul-line
+    element-write-line
+    returns
+    returns-2)

@@ -1,0 +1,121 @@
+// Transaction numbers: which are free, who stands under whom, and the arrays of parents, depths and lines at a begin and an end.
+ghost use mathlib.Core.Path.{_≡_};
+ghost use mathlib.Core.Bool.{Bool, true, false, not, cond, _&&_, _||_};
+ghost use Prim.Native.Nat.{ℕ, _+_, _<_, _≤_};
+ghost use lib.ListN.{length, getD, set};
+ghost use Rattle.laws.specs.Tests.{same};
+ghost use Rattle.laws.specs.Counting.{any, lowest};
+ghost use Rattle.laws.specs.Bits.{bits};
+ghost use Rattle.rules.specs.Geometry.{transactions};
+ghost use Rattle.sets.specs.Sets.{sets};
+ghost use Rattle.arrays.specs.Changes.{Row, Cleared};
+
+// j where the place is free, else what was found above.
+fn lower(d: u8, j: u8, f: u8) -> u8
+    ensures { λ r. ⌜ r ≡ cond (same d 0) j f ⌝ }
+{
+    if d == 0 {
+        return j;
+    }
+    f
+}
+
+// The lowest free number, or 24.
+pub fn first_free(depth: &[u8; 24]) -> u8
+    ensures { λ r. ⌜ r ≡ lowest transactions (λ u. same (getD (now (depth .entry)) u 0) 0) ⌝ }
+{
+    let mut f = 24u8;
+    for n in 0..24usize {
+        let j = 23 - n;
+        f = lower(depth[j], (j % 256) as u8, f);
+    }
+    f
+}
+
+// t has a live child.
+pub fn has_child(parent: &[u8; 24], depth: &[u8; 24], t: u8) -> bool
+    ensures { λ r. ⌜ r ≡ any transactions (λ u. not (same (getD (now (depth .entry)) u 0) 0) && same (getD (now (parent .entry)) u 0) t) ⌝ }
+{
+    let mut found = false;
+    for j in 0..24 {
+        let a = depth[j] != 0;
+        let b = parent[j] == t;
+        found = found | (a & b);
+    }
+    found
+}
+
+// The members of s, and j if b.
+fn with_if(s: u32, b: bool, j: u8) -> u32
+    requires { ⌜ j < 24 ⌝ }
+    ensures { λ r. ⌜ bits r ≡ (λ k. bits s k || (same k j && b)) ⌝ }
+{
+    if b {
+        return sets::with(s, j);
+    }
+    s
+}
+
+// t and its live descendants.
+pub fn descendants(line: &[u32; 24], t: u8) -> u32
+    requires { ⌜ (t < 24) × (length (now line) ≡ 24) ⌝ }
+    ensures { λ r. ⌜ bits r ≡ (λ u. sets (now (line .entry)) u t) ⌝ }
+{
+    let mut m = 0u32;
+    for j in 0..24 {
+        m = with_if(m, sets::contains(line[j], t), (j % 256) as u8);
+    }
+    m
+}
+
+// The number f is t's: under p at depth d, with the line above it.
+pub fn place(
+    parent: &mut [u8; 24],
+    depth: &mut [u8; 24],
+    line: &mut [u32; 24],
+    f: u8,
+    p: u8,
+    d: u8,
+    above: u32,
+)
+    requires { ⌜ (f < 24) × (d ≤ 8) ⌝ }
+    ensures { λ _. ⌜ (now (parent .exit) ≡ set (now (parent .entry)) f p) × (now (depth .exit) ≡ set (now (depth .entry)) f d) × Row f (λ k. bits above k || same k f) (now (line .entry)) (now (line .exit)) ⌝ }
+{
+    let i = f as usize;
+    parent[i] = p;
+    depth[i] = d;
+    line[i] = sets::with(above, f);
+}
+
+// The number t is free again.
+pub fn retire(parent: &mut [u8; 24], depth: &mut [u8; 24], line: &mut [u32; 24], t: u8)
+    requires { ⌜ (t < 24) × (length (now parent) ≡ 24) × (length (now depth) ≡ 24) × (length (now line) ≡ 24) ⌝ }
+    ensures { λ _. ⌜ Cleared (λ k. same k t) (now (parent .entry)) (now (parent .exit)) × Cleared (λ k. same k t) (now (depth .entry)) (now (depth .exit)) × Cleared (λ k. same k t) (now (line .entry)) (now (line .exit)) ⌝ }
+{
+    let i = t as usize;
+    parent[i] = 0;
+    depth[i] = 0;
+    line[i] = 0;
+}
+
+// The number j is free again, if gone has it.
+fn end_one(parent: &mut [u8; 24], depth: &mut [u8; 24], line: &mut [u32; 24], gone: u32, j: usize)
+    requires { ⌜ (j < 24) × (length (now parent) ≡ 24) × (length (now depth) ≡ 24) × (length (now line) ≡ 24) ⌝ }
+    ensures { λ _. ⌜ (now (parent .exit) ≡ cond (bits gone j) (set (now (parent .entry)) j 0) (now (parent .entry))) × (now (depth .exit) ≡ cond (bits gone j) (set (now (depth .entry)) j 0) (now (depth .entry))) × (now (line .exit) ≡ cond (bits gone j) (set (now (line .entry)) j 0) (now (line .entry))) ⌝ }
+{
+    if sets::contains(gone, (j % 256) as u8) {
+        parent[j] = 0;
+        depth[j] = 0;
+        line[j] = 0;
+    }
+}
+
+// The numbers of the transactions in gone are free again.
+pub fn end(parent: &mut [u8; 24], depth: &mut [u8; 24], line: &mut [u32; 24], gone: u32)
+    requires { ⌜ (length (now parent) ≡ 24) × (length (now depth) ≡ 24) × (length (now line) ≡ 24) ⌝ }
+    ensures { λ _. ⌜ Cleared (bits gone) (now (parent .entry)) (now (parent .exit)) × Cleared (bits gone) (now (depth .entry)) (now (depth .exit)) × Cleared (bits gone) (now (line .entry)) (now (line .exit)) ⌝ }
+{
+    for j in 0..24 {
+        end_one(parent, depth, line, gone, j);
+    }
+}

@@ -1,0 +1,155 @@
+/* Nekahuiro: a record store with nested transactions and page-by-page commit, proved in Rattle.
+ *
+ * Link target/staticlib/libnekahuiro.a, which `rt staticlib nekahuiro` makes. The library is for
+ * x86-64. It allocates nothing, keeps nothing between calls, and calls at most memcpy, memmove, memset
+ * and memcmp of the C library.
+ *
+ * What a caller owes to every function here:
+ *   - Each pointer points to as many bytes as the size after it says. No pointer is null, not even
+ *     where the size is 0.
+ *   - No two buffers of one call overlap, and nobody else touches them while the call runs. Calls on
+ *     different buffers may run at the same time.
+ *   - Byte buffers need no alignment; `age` is aligned as an int64_t is.
+ *   - At least NEKAHUIRO_STACK_BYTES of stack are free.
+ * Buffers stay the caller's, and their contents may be anything. What each call answers and leaves in
+ * every buffer is proved for all contents and all sizes: see docs/PROMISES.md.
+ */
+#ifndef NEKAHUIRO_H
+#define NEKAHUIRO_H
+
+#include <stddef.h>
+#include <stdint.h>
+
+#ifdef __cplusplus
+extern "C" {
+#endif
+
+/* Sizes and limits. */
+
+/* A page: what one write to stable storage writes, all or nothing. */
+#define NEKAHUIRO_PAGE_BYTES 32
+/* Records in a store, numbered from 0. A record is one page long. */
+#define NEKAHUIRO_RECORDS 16
+/* A store: 33 pages. */
+#define NEKAHUIRO_STORE_BYTES 1056
+/* The working buffer. */
+#define NEKAHUIRO_WORK_BYTES 4096
+/* Transactions live at a time, numbered from 0. */
+#define NEKAHUIRO_TRANSACTIONS 24
+/* The deepest nesting; a top transaction has depth 1. */
+#define NEKAHUIRO_DEPTH_LIMIT 8
+/* An event word. */
+#define NEKAHUIRO_EVENT_BYTES 4
+/* Events in the longest list. */
+#define NEKAHUIRO_EVENTS 4096
+/* An answer. */
+#define NEKAHUIRO_ANSWER_BYTES 2
+/* More stack than any call uses. */
+#define NEKAHUIRO_STACK_BYTES 16384
+
+/* The store, page by page
+ *
+ *   page 0        the commit page
+ *   page 1 + r    the intention page of record r
+ *   page 17 + r   the home page of record r
+ *
+ * The commit page, bits most significant first: edition 4 bits, always 1; state 4 bits, 0 empty or
+ * 5 committed; map 16 bits, record 0 first; count 5 bits, the ones in the map; 3 zero bits; 28 zero
+ * bytes. Empty has map and count 0 (10 00 00 00 ..), committed has a map that isn't 0 (records 0 and
+ * 3: 15 90 00 10 ..). Any other page 0 is damaged.
+ *
+ * A record's settled value is its intention page where a committed map names it, else its home page.
+ * A store can be put away after any call and handed in again at any time.
+ */
+
+/* The event word, most significant bit first
+ *
+ *   kind 4 bits, transaction 5, record 4, offset 5, count 6, value 8
+ *
+ *   kind  event           fields used; all others must be 0
+ *    1    begin           transaction: the parent, 31 for none
+ *    2    lock            transaction, record
+ *    3    write one byte  transaction, record, offset, value
+ *    4    read one byte   transaction, record, offset
+ *    5    commit          transaction, count
+ *    6    abort           transaction
+ *    7    crash           none
+ *    8    recover         count
+ *
+ * The count says when the power goes: a commit or recover makes that many page writes and is then cut
+ * by a crash. A count of at least the writes due, such as 63, means no cut. A top transaction that
+ * changed n records makes 2n + 2 page writes, or none if n is 0, and survives a cut after n + 1.
+ */
+#define NEKAHUIRO_BEGIN 1
+#define NEKAHUIRO_LOCK 2
+#define NEKAHUIRO_WRITE 3
+#define NEKAHUIRO_READ 4
+#define NEKAHUIRO_COMMIT 5
+#define NEKAHUIRO_ABORT 6
+#define NEKAHUIRO_CRASH 7
+#define NEKAHUIRO_RECOVER 8
+#define NEKAHUIRO_NO_PARENT 31
+#define NEKAHUIRO_NO_CUT 63
+
+/* The answer to an event: a number, then a value. The value is the new transaction's number for
+ * begin, the byte for read, the page writes made for commit and recover (also when cut), else 0.
+ * A refused event (1 to 10) changes nothing but its answer. The first reason that holds is given.
+ */
+#define NEKAHUIRO_DONE 0           /* done */
+#define NEKAHUIRO_BAD_EVENT 1      /* kind 0 or 9 to 15, or an unused field isn't 0 */
+#define NEKAHUIRO_DOWN 2           /* down, and the event is neither recover nor crash */
+#define NEKAHUIRO_UP 3             /* recover while up */
+#define NEKAHUIRO_DAMAGED 4        /* recover or age, and page 0 is damaged */
+#define NEKAHUIRO_NOT_LIVE 5       /* the named transaction isn't live */
+#define NEKAHUIRO_TOO_DEEP 6       /* begin under a parent at the depth limit */
+#define NEKAHUIRO_TOO_MANY 7       /* begin with every transaction number taken */
+#define NEKAHUIRO_NOT_GRANTABLE 8  /* another holds the lock, or one that is no ancestor retains it */
+#define NEKAHUIRO_NOT_HELD 9       /* read or write without holding the lock */
+#define NEKAHUIRO_LIVE_CHILD 10    /* commit with a live child */
+#define NEKAHUIRO_CUT 11           /* no refusal: cut by a crash during commit or recover */
+
+/* Refusals of a whole call: no buffer is touched. */
+#define NEKAHUIRO_BAD_LIST 20      /* events_size isn't a multiple of 4, or above 16384 */
+#define NEKAHUIRO_SHORT_ANSWERS 21 /* answers_size is below two bytes an event */
+#define NEKAHUIRO_BAD_STORE 22     /* store_size isn't NEKAHUIRO_STORE_BYTES */
+#define NEKAHUIRO_BAD_RECORD 23    /* the record is above 15 */
+#define NEKAHUIRO_BAD_WORK 24      /* work_size isn't NEKAHUIRO_WORK_BYTES */
+
+/* Plays the events in order on the store and writes one answer each.
+ *
+ * A run starts down: only a recover that finishes brings it up. Transactions still live at the end
+ * of the list are lost, as in a crash.
+ *
+ *   store    read and written
+ *   events   read only; an empty list is fine
+ *   work     written; what it held before has no effect, what it holds after has no meaning
+ *   answers  two bytes an event are written; bytes past the last event stay
+ *
+ * Answers 0 if the events were played, whatever their own answers are. Else, tried in this order and
+ * with no buffer touched: 22, 24, 20, 21.
+ */
+uint8_t nekahuiro_run(uint8_t *store, size_t store_size,
+                      const uint8_t *events, size_t events_size,
+                      uint8_t *work, size_t work_size,
+                      uint8_t *answers, size_t answers_size);
+
+/* Lays down a fresh store: an empty commit page and zeros elsewhere.
+ * Answers 0, or 22 with nothing written. */
+uint8_t nekahuiro_fresh(uint8_t *store, size_t store_size);
+
+/* How old a record is. Clock and limit are in minutes; the stamp is the first four bytes of the
+ * record's settled value, most significant first. The age is clock minus stamp. */
+#define NEKAHUIRO_LIVE 0  /* from 0 to the limit */
+#define NEKAHUIRO_AHEAD 1 /* below 0 */
+#define NEKAHUIRO_STALE 2 /* above the limit */
+
+/* Answers 0 live, 1 ahead or 2 stale, and writes the age, from -4294967295 to 4294967295.
+ * Else, tried in this order and with nothing written: 22, 23, 4. */
+uint8_t nekahuiro_age(const uint8_t *store, size_t store_size, uint8_t record,
+                      uint32_t clock, uint32_t limit, int64_t *age);
+
+#ifdef __cplusplus
+}
+#endif
+
+#endif

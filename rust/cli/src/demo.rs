@@ -1,0 +1,94 @@
+//! `demo`: the worked list, told step by step.
+
+use crate::failure::{Failure, Outcome};
+use crate::follow::Follower;
+use crate::{say, show, trace};
+use nekahuiro::limits::EVENT_BYTES;
+use nekahuiro::{Answer, Event, Record, Store};
+use nekahuiro_history::{tell, History};
+use nekahuiro_lists::worked;
+use std::fmt::Write;
+
+/// What each event of the worked list shows.
+const STEPS: [&str; 16] = [
+    "A run starts down. Recover finds an empty commit page and has nothing to copy.",
+    "A top transaction begins and gets the lowest free number, 0.",
+    "A child begins under it.",
+    "The child asks for record 3. Nobody holds or retains its lock.",
+    "The child's first write makes its own version of record 3.",
+    "The child commits: its parent retains the lock and takes the version. No page is written.",
+    "Number 1 is free again, so a second child gets it.",
+    "The lock is retained by the asker's ancestor only, so it is granted.",
+    "It writes 11 over the A5 that it would have read.",
+    "The second child aborts: its version goes, the parent's A5 stays.",
+    "The parent commits one record: 4 page writes are due, the power goes after 2.",
+    "Down: a read is refused.",
+    "Recover finds the commit page and copies record 3 home: 2 page writes.",
+    "A new top transaction begins.",
+    "All locks went with the crash, so it gets record 3.",
+    "It reads what survived.",
+];
+
+/// Plays the worked list on a fresh store and tells it; fails if an answer isn't the one due.
+pub fn command(arguments: &[String]) -> Outcome {
+    if !arguments.is_empty() {
+        return Err(Failure::usage("demo takes nothing more", "write `./nekahuiro demo`"));
+    }
+    let words = worked::events();
+    let mut store = Store::fresh();
+    let answers = store.play_words(&words).map_err(|refusal| wrong(&refusal.to_string()))?;
+    let bytes: Vec<u8> = answers.iter().flat_map(|answer| answer.bytes()).collect();
+    let history = tell(&words, &bytes).map_err(|absurd| wrong(absurd.what))?;
+    say(&text(&words, &answers, &history, &store)?)?;
+    match answers.iter().zip(worked::answers().chunks_exact(2)).position(|(found, due)| found.bytes() != due) {
+        Some(at) => Err(wrong(&format!("event {} is answered otherwise than it should be", at + 1))),
+        None => Ok(()),
+    }
+}
+
+fn wrong(what: &str) -> Failure {
+    Failure::new(&format!("the worked list failed: {what}"), "make the library again with `rt staticlib nekahuiro`")
+}
+
+fn text(words: &[u8], answers: &[Answer], history: &History, end: &Store) -> Outcome<String> {
+    let mut text = String::from("Sixteen events on a fresh store, played by the proved engine.\n\n");
+    let mut follower = Follower::default();
+    for (at, (word, answer)) in words.chunks_exact(EVENT_BYTES).zip(answers).enumerate() {
+        let word = [word[0], word[1], word[2], word[3]];
+        let event = Event::of(word);
+        let bits = u32::from_be_bytes(word);
+        let words_of_event = nekahuiro::describe(word);
+        let what = trace::what_happened(event, word, *answer);
+        let _ = writeln!(
+            text,
+            "{:2}  {words_of_event:16} {bits:08X} -> {:02X}{:02X}  {what}",
+            at + 1,
+            answer.number,
+            answer.value
+        );
+        let _ = writeln!(text, "      {}", STEPS[at]);
+        if let Some(event) = event {
+            follower.event(event, *answer);
+        }
+        for line in trace::endings(at, history) {
+            let _ = writeln!(text, "      {line}");
+        }
+        let _ = writeln!(text, "      {}", follower.locks_in_words());
+        if answer.is_cut() {
+            let _ = writeln!(text, "      {}", show::commit_page(&store_after(&words[..(at + 1) * EVENT_BYTES])?));
+        }
+        text.push('\n');
+    }
+    let _ = writeln!(text, "At the end {}", show::commit_page(end));
+    if let Some(record) = Record::new(3) {
+        let _ = writeln!(text, "record 3 is {}", show::hex(&end.settled(record)));
+    }
+    Ok(text)
+}
+
+/// The store after the first events of the list.
+fn store_after(words: &[u8]) -> Outcome<Store> {
+    let mut store = Store::fresh();
+    store.play_words(words).map_err(|refusal| wrong(&refusal.to_string()))?;
+    Ok(store)
+}

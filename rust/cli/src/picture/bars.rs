@@ -1,0 +1,83 @@
+//! Transactions as nested bars, each with its own events.
+
+use super::layout::{Bar, Layout, Scale, ROW};
+use super::svg::Svg;
+use super::Told;
+use nekahuiro::Event;
+use nekahuiro_history::End;
+
+/// Draws all bars, parents first.
+pub fn draw(svg: &mut Svg, told: &Told, scale: &Scale, layout: &Layout, top: f64) {
+    let label = if layout.bars.is_empty() { "no transactions" } else { "transactions" };
+    svg.text(16.0, top + 16.0, "label", label);
+    let mut rows = vec![0.0; told.history.transactions.len()];
+    for bar in &layout.bars {
+        rows[bar.transaction] = top + bar.top;
+        draw_box(svg, told, scale, bar, top + bar.top);
+    }
+    for (at, owner) in told.history.owner.iter().enumerate() {
+        if let Some(owner) = owner {
+            draw_event(svg, told, scale, at, rows[*owner] + ROW / 2.0);
+        }
+    }
+    for bar in &layout.bars {
+        draw_badge(svg, told, scale, bar, rows[bar.transaction] + ROW / 2.0);
+    }
+}
+
+fn draw_box(svg: &mut Svg, told: &Told, scale: &Scale, bar: &Bar, y: f64) {
+    let transaction = &told.history.transactions[bar.transaction];
+    let fate = if transaction.survives { "survives" } else { "lost" };
+    let open = if transaction.end == End::Never { " open" } else { "" };
+    let x = scale.left(bar.first) + 1.0;
+    let width = scale.left(bar.last) + scale.step - 1.0 - x;
+    let ending = match transaction.end {
+        End::Never => "still live at the end".to_string(),
+        End::Committed { at, cut: false, .. } => format!("committed at event {}", at + 1),
+        End::Committed { at, .. } => format!("its commit was cut at event {}", at + 1),
+        End::Aborted(at) => format!("aborted at event {}", at + 1),
+        End::Crashed(at) => format!("crashed at event {}", at + 1),
+    };
+    let tip = format!("transaction {}, begun at event {}, {ending}: {fate}", transaction.number, bar.first + 1);
+    svg.rect(x, y, width.max(2.0), bar.height, &format!("{fate}{open}"), &tip);
+}
+
+/// The transaction's number, where it begins.
+fn draw_badge(svg: &mut Svg, told: &Told, scale: &Scale, bar: &Bar, y: f64) {
+    let transaction = &told.history.transactions[bar.transaction];
+    if !scale.has_room_for_text() {
+        svg.text(scale.left(bar.first) + 3.0, y - 4.5, "small", &transaction.number.to_string());
+        return;
+    }
+    let class = if transaction.survives { "badge-survives" } else { "badge-lost" };
+    svg.circle(scale.middle(bar.first), y, 8.5, class);
+    svg.text(scale.middle(bar.first), y + 3.5, "badge", &transaction.number.to_string());
+}
+
+fn draw_event(svg: &mut Svg, told: &Told, scale: &Scale, at: usize, y: f64) {
+    let accepted = told.answers[at].is_accepted();
+    let Some((class, letters)) = told.events[at].and_then(letters) else { return };
+    if matches!(told.events[at], Some(Event::Begin { .. })) && accepted {
+        return;
+    }
+    let x = scale.middle(at);
+    if !scale.has_room_for_text() {
+        svg.rect(scale.left(at), y - 2.0, scale.step - 1.0, 9.0, if accepted { "tick" } else { "tick-no" }, "");
+    } else if accepted {
+        svg.text(x, y + 4.0, class, &letters);
+    } else {
+        svg.text(x, y + 4.0, "event no", &letters);
+    }
+}
+
+fn letters(event: Event) -> Option<(&'static str, String)> {
+    Some(match event {
+        Event::Begin { .. } => ("event", "B".to_string()),
+        Event::Lock { record, .. } => ("event", format!("L{record}")),
+        Event::Write { record, .. } => ("event", format!("W{record}")),
+        Event::Read { record, .. } => ("event", format!("R{record}")),
+        Event::Commit { .. } => ("end", "\u{2713}".to_string()),
+        Event::Abort { .. } => ("end", "\u{2717}".to_string()),
+        Event::Crash | Event::Recover { .. } => return None,
+    })
+}

@@ -1,0 +1,150 @@
+//! Where everything goes: columns for events, nested boxes for transactions.
+
+use nekahuiro_history::{End, History};
+
+const LEFT: f64 = 94.0;
+const RIGHT: f64 = 16.0;
+const WIDEST: f64 = 34.0;
+const NARROWEST: f64 = 4.0;
+const WANTED: f64 = 1400.0;
+
+/// Columns: one for each event.
+pub struct Scale {
+    /// The width of a column.
+    pub step: f64,
+    columns: usize,
+}
+
+impl Scale {
+    /// The scale of a list of this many events.
+    pub fn of(columns: usize) -> Scale {
+        Scale { step: (WANTED / columns.max(1) as f64).clamp(NARROWEST, WIDEST), columns }
+    }
+
+    /// The left end of a column.
+    pub fn left(&self, at: usize) -> f64 {
+        LEFT + at as f64 * self.step
+    }
+
+    /// The middle of a column.
+    pub fn middle(&self, at: usize) -> f64 {
+        self.left(at) + self.step / 2.0
+    }
+
+    /// The right end of all.
+    pub fn right(&self) -> f64 {
+        self.left(self.columns) + RIGHT
+    }
+
+    /// Whether a column has room for a word such as L15.
+    pub fn has_room_for_text(&self) -> bool {
+        self.step >= 20.0
+    }
+
+    /// Every which event gets its number on the axis.
+    pub fn number_every(&self) -> usize {
+        [1, 5, 10, 50, 100].into_iter().find(|every| *every as f64 * self.step >= 20.0).unwrap_or(100)
+    }
+}
+
+/// A row for a transaction's own events.
+pub const ROW: f64 = 24.0;
+/// Between a box and what is in it.
+pub const GAP: f64 = 4.0;
+
+/// A transaction's box. Its children's boxes lie in it, below its own row.
+pub struct Bar {
+    /// Its place in the history.
+    pub transaction: usize,
+    /// The first event.
+    pub first: usize,
+    /// The last event.
+    pub last: usize,
+    /// The top, from the top of all boxes.
+    pub top: f64,
+    /// The height, children included.
+    pub height: f64,
+}
+
+/// All boxes.
+#[derive(Default)]
+pub struct Layout {
+    /// Parents before their children.
+    pub bars: Vec<Bar>,
+    /// The height of all.
+    pub height: f64,
+}
+
+impl Layout {
+    /// Places every transaction of a history over a list of this many events.
+    pub fn of(history: &History, events: usize) -> Layout {
+        let count = history.transactions.len();
+        let mut builder = Builder { history, events, children: vec![Vec::new(); count], heights: vec![ROW; count] };
+        let mut tops = Vec::new();
+        for (place, told) in history.transactions.iter().enumerate() {
+            told.parent.map_or(&mut tops, |parent| &mut builder.children[parent]).push(place);
+        }
+        // Children come after their parents, so from the last to the first all heights are known.
+        for place in (0..count).rev() {
+            let inner: f64 = builder.shelves(&builder.children[place]).iter().map(|shelf| shelf.height + GAP).sum();
+            builder.heights[place] = if inner > 0.0 { ROW + GAP + inner } else { ROW };
+        }
+        let mut layout = Layout::default();
+        layout.height = builder.place(&tops, 0.0, &mut layout.bars);
+        layout
+    }
+}
+
+/// Siblings that don't overlap in time share a shelf.
+struct Shelf {
+    last: usize,
+    height: f64,
+    members: Vec<usize>,
+}
+
+struct Builder<'h> {
+    history: &'h History,
+    events: usize,
+    children: Vec<Vec<usize>>,
+    heights: Vec<f64>,
+}
+
+impl Builder<'_> {
+    fn shelves(&self, siblings: &[usize]) -> Vec<Shelf> {
+        let mut shelves: Vec<Shelf> = Vec::new();
+        for place in siblings {
+            let (first, last, height) =
+                (self.history.transactions[*place].begun, self.last(*place), self.heights[*place]);
+            match shelves.iter_mut().find(|shelf| shelf.last < first) {
+                Some(shelf) => {
+                    shelf.last = last;
+                    shelf.height = shelf.height.max(height);
+                    shelf.members.push(*place);
+                }
+                None => shelves.push(Shelf { last, height, members: vec![*place] }),
+            }
+        }
+        shelves
+    }
+
+    /// Places siblings and all below them, parents first; gives the height that they take.
+    fn place(&self, siblings: &[usize], top: f64, bars: &mut Vec<Bar>) -> f64 {
+        let mut y = top;
+        for shelf in self.shelves(siblings) {
+            for place in shelf.members {
+                let (first, last) = (self.history.transactions[place].begun, self.last(place));
+                bars.push(Bar { transaction: place, first, last, top: y, height: self.heights[place] });
+                self.place(&self.children[place], y + ROW + GAP, bars);
+            }
+            y += shelf.height + GAP;
+        }
+        y - top
+    }
+
+    fn last(&self, transaction: usize) -> usize {
+        match self.history.transactions[transaction].end {
+            End::Never => self.events.saturating_sub(1),
+            End::Committed { at, .. } | End::Aborted(at) | End::Crashed(at) => at,
+        }
+    }
+}

@@ -1,0 +1,76 @@
+//! The few elements of a drawing.
+
+use std::fmt::Write;
+
+/// A drawing under way.
+pub struct Svg {
+    text: String,
+}
+
+const STYLE: &str = "
+text { font-family: sans-serif; font-size: 11px; fill: #222 }
+.title { font-size: 14px; font-weight: bold }
+.label { fill: #555 } .legend { fill: #333 }
+.number { fill: #777; font-size: 9px; text-anchor: middle }
+.refusal { fill: #b3261e; font-weight: bold; font-size: 10px; text-anchor: middle }
+.refused-tick { fill: #b3261e }
+.survives { fill: #d5efe2; stroke: #1b7f5c; stroke-width: 1.5 }
+.lost { fill: #fae3dc; stroke: #b8482f; stroke-width: 1.5 }
+.open { stroke-dasharray: 4 3 }
+.badge-survives { fill: #1b7f5c } .badge-lost { fill: #b8482f }
+.badge { fill: #fff; font-weight: bold; font-size: 10px; text-anchor: middle }
+.small { font-size: 8px; font-weight: bold }
+.event { font-size: 10px; text-anchor: middle }
+.no { fill: #b3261e; text-decoration: line-through }
+.end { font-size: 14px; font-weight: bold; text-anchor: middle }
+.up { fill: #7cc6a4 } .down { fill: #cfcfcf }
+.held { fill: #2f5fa8 } .held-by { fill: #fff; font-size: 10px; font-weight: bold; text-anchor: middle }
+.retained { fill: #c3d5f2 } .retained-by { fill: #23406e; font-size: 9px; text-anchor: middle }
+.grid { stroke: #eee }
+.crash { stroke: #b3261e; stroke-width: 2; stroke-dasharray: 6 3 }
+.crash-label { fill: #b3261e; font-weight: bold; font-size: 10px; text-anchor: middle }
+.tick { fill: #222 } .tick-no { fill: #b3261e }
+";
+
+impl Svg {
+    /// An empty drawing.
+    pub fn new(width: f64, height: f64) -> Svg {
+        let mut text = String::new();
+        let size = format!("width=\"{width:.0}\" height=\"{height:.0}\" viewBox=\"0 0 {width:.0} {height:.0}\"");
+        let _ = writeln!(text, "<svg xmlns=\"http://www.w3.org/2000/svg\" {size}>\n<style>{STYLE}</style>");
+        let _ = writeln!(text, "<rect width=\"{width:.0}\" height=\"{height:.0}\" fill=\"#fff\"/>");
+        Svg { text }
+    }
+
+    /// A rectangle; the tip is shown where a pointer rests on it.
+    pub fn rect(&mut self, x: f64, y: f64, width: f64, height: f64, class: &str, tip: &str) {
+        let round = if height > 14.0 { " rx=\"4\"" } else { "" };
+        let place = format!("x=\"{x:.1}\" y=\"{y:.1}\" width=\"{width:.1}\" height=\"{height:.1}\"");
+        let _ = match tip {
+            "" => writeln!(self.text, "<rect {place}{round} class=\"{class}\"/>"),
+            _ => writeln!(self.text, "<rect {place}{round} class=\"{class}\"><title>{tip}</title></rect>"),
+        };
+    }
+
+    /// Text, all of it our own: nothing in it needs escaping.
+    pub fn text(&mut self, x: f64, y: f64, class: &str, text: &str) {
+        let _ = writeln!(self.text, "<text x=\"{x:.1}\" y=\"{y:.1}\" class=\"{class}\">{text}</text>");
+    }
+
+    /// A line.
+    pub fn line(&mut self, x1: f64, y1: f64, x2: f64, y2: f64, class: &str) {
+        let ends = format!("x1=\"{x1:.1}\" y1=\"{y1:.1}\" x2=\"{x2:.1}\" y2=\"{y2:.1}\"");
+        let _ = writeln!(self.text, "<line {ends} class=\"{class}\"/>");
+    }
+
+    /// A filled circle.
+    pub fn circle(&mut self, x: f64, y: f64, radius: f64, class: &str) {
+        let _ = writeln!(self.text, "<circle cx=\"{x:.1}\" cy=\"{y:.1}\" r=\"{radius:.1}\" class=\"{class}\"/>");
+    }
+
+    /// The whole file.
+    pub fn finish(mut self) -> String {
+        self.text.push_str("</svg>\n");
+        self.text
+    }
+}

@@ -1,0 +1,88 @@
+//! `--trace`: each event and answer in words, with who holds, who retains and what crashed.
+
+use crate::follow::Follower;
+use nekahuiro::limits::EVENT_BYTES;
+use nekahuiro::{describe, page_writes, why_bad, Answer, Event};
+use nekahuiro_history::{End, History};
+use std::fmt::Write;
+
+/// Tells a run, a line or two for each event.
+pub fn tell(words: &[u8], answers: &[Answer], history: &History) -> String {
+    let mut text = String::from("event  word      answer  what happened\n");
+    let mut follower = Follower::default();
+    let mut locks = follower.locks_in_words();
+    for (at, (word, answer)) in words.chunks_exact(EVENT_BYTES).zip(answers).enumerate() {
+        let word = [word[0], word[1], word[2], word[3]];
+        let event = Event::of(word);
+        let bits = u32::from_be_bytes(word);
+        let what = what_happened(event, word, *answer);
+        let _ = writeln!(
+            text,
+            "{:5}  {bits:08X}  {:02X}{:02X}    {}: {what}",
+            at + 1,
+            answer.number,
+            answer.value,
+            describe(word)
+        );
+        if let Some(event) = event {
+            follower.event(event, *answer);
+        }
+        for line in endings(at, history) {
+            let _ = writeln!(text, "{:27}{line}", "");
+        }
+        let after = follower.locks_in_words();
+        if after != locks {
+            let _ = writeln!(text, "{:27}{after}", "");
+            locks = after;
+        }
+    }
+    text
+}
+
+/// The answer in words that fit the event.
+pub fn what_happened(event: Option<Event>, word: [u8; EVENT_BYTES], answer: Answer) -> String {
+    if let Some(why) = why_bad(word).filter(|_| answer.number == 1) {
+        return format!("refused 1: {why}");
+    }
+    if answer.number != 0 {
+        return answer.to_string();
+    }
+    match event {
+        Some(Event::Begin { .. }) => format!("transaction {} begins", answer.value),
+        Some(Event::Read { .. }) => format!("the byte is {:02X}", answer.value),
+        Some(Event::Commit { .. }) => format!("done, {}", page_writes(answer.value)),
+        Some(Event::Recover { .. }) => format!("the store is up, {}", page_writes(answer.value)),
+        Some(Event::Crash) => "the store is down".to_string(),
+        _ => "done".to_string(),
+    }
+}
+
+/// Who ended at this event, other than by a whole commit of its own.
+pub fn endings(at: usize, history: &History) -> Vec<String> {
+    let mut lines = Vec::new();
+    let of = |wanted: fn(End, usize) -> bool| -> Vec<String> {
+        let ended = history.transactions.iter().filter(|told| wanted(told.end, at));
+        ended.map(|told| told.number.to_string()).collect()
+    };
+    let committer = history
+        .transactions
+        .iter()
+        .find(|told| matches!(told.end, End::Committed { at: there, cut: true, .. } if there == at));
+    if let Some(told) = committer {
+        let fate = if told.survives {
+            "survives: the commit page was written"
+        } else {
+            "is lost: the commit page was not written"
+        };
+        lines.push(format!("the store is down; transaction {} {fate}", told.number));
+    }
+    let crashed = of(|end, at| end == End::Crashed(at));
+    if !crashed.is_empty() {
+        lines.push(format!("crashed and lost: {}", crashed.join(", ")));
+    }
+    let aborted = of(|end, at| end == End::Aborted(at));
+    if !aborted.is_empty() {
+        lines.push(format!("aborted: {}", aborted.join(", ")));
+    }
+    lines
+}

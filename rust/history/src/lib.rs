@@ -1,0 +1,109 @@
+//! Demand 3, checked on runs that were played.
+//!
+//! All that is known here of a run is its start store, its list, its answers and its end store.
+//! Nothing is known of locks, versions or page writes.
+//!
+//! * First half: the settled records at the end are those at the start with the surviving writes
+//!   laid over them in list order ([`first_half`]).
+//! * Second half: a second run from the same store, whose list differs only in the values of
+//!   accepted writes of lost transactions ([`second_list`]), gives the same answers but for the
+//!   values of lost transactions' reads, and the same settled records ([`second_half`]).
+
+mod settled;
+mod telling;
+mod word;
+
+pub use settled::{settled, Records};
+pub use telling::{tell, Absurd, End, History, Transaction, Write};
+use word::{Kind, Word};
+
+/// What demand 3 forbids.
+#[derive(Clone, Debug, PartialEq, Eq)]
+pub enum Breach {
+    /// The answers tell no history at all.
+    Absurd(Absurd),
+    /// First half: a settled record isn't the start's with the surviving writes over it.
+    Settled {
+        /// The record.
+        record: usize,
+        /// The first byte that is wrong.
+        offset: usize,
+        /// What it should be.
+        due: u8,
+        /// What it is.
+        found: u8,
+    },
+    /// Second half: an event is answered otherwise in the second run.
+    Answer {
+        /// The event's place in the list.
+        at: usize,
+        /// The answer in the first run.
+        first: [u8; 2],
+        /// The answer in the second.
+        second: [u8; 2],
+    },
+    /// Second half: a settled record differs after the second run.
+    SecondSettled {
+        /// The record.
+        record: usize,
+    },
+}
+
+/// A run that was played: four bytes an event, two bytes an answer.
+#[derive(Clone, Copy)]
+pub struct Run<'r> {
+    /// The store before.
+    pub before: &'r [u8],
+    /// The list.
+    pub events: &'r [u8],
+    /// The answers.
+    pub answers: &'r [u8],
+    /// The store after.
+    pub after: &'r [u8],
+}
+
+/// Checks the first half and hands out the history.
+pub fn first_half(run: Run) -> Result<History, Breach> {
+    let history = tell(run.events, run.answers).map_err(Breach::Absurd)?;
+    let mut due = settled(run.before);
+    for write in history.surviving_writes() {
+        due[usize::from(write.record)][usize::from(write.offset)] = write.value;
+    }
+    let found = settled(run.after);
+    for (record, (due, found)) in due.iter().zip(&found).enumerate() {
+        if let Some(offset) = (0..due.len()).find(|offset| due[*offset] != found[*offset]) {
+            return Err(Breach::Settled { record, offset, due: due[offset], found: found[offset] });
+        }
+    }
+    Ok(history)
+}
+
+/// The list of a second run: the values of lost transactions' accepted writes go through `change`.
+/// None if there is no such write.
+pub fn second_list(history: &History, events: &[u8], mut change: impl FnMut(u8) -> u8) -> Option<Vec<u8>> {
+    let lost = |write: &&Write| !history.transactions[write.transaction].survives;
+    let mut list = None;
+    for write in history.writes.iter().filter(lost) {
+        list.get_or_insert_with(|| events.to_vec())[4 * write.at + 3] = change(write.value);
+    }
+    list
+}
+
+/// Checks the second half: `second` has the same start store and a list by [`second_list`].
+pub fn second_half(history: &History, first: Run, second: Run) -> Result<(), Breach> {
+    let answers = first.answers.chunks_exact(2).zip(second.answers.chunks_exact(2));
+    for (at, ((one, two), word)) in answers.zip(first.events.chunks_exact(4)).enumerate() {
+        let (one, two) = ([one[0], one[1]], [two[0], two[1]]);
+        let lost = history.owner[at].is_some_and(|owner| !history.transactions[owner].survives);
+        let accepted = one[0] == 0 || one[0] == 11;
+        let free_value = lost && accepted && Word::of(word).kind == Kind::Read;
+        if one[0] != two[0] || (one[1] != two[1] && !free_value) {
+            return Err(Breach::Answer { at, first: one, second: two });
+        }
+    }
+    let (one, two) = (settled(first.after), settled(second.after));
+    match (0..one.len()).find(|record| one[*record] != two[*record]) {
+        Some(record) => Err(Breach::SecondSettled { record }),
+        None => Ok(()),
+    }
+}

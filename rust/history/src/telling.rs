@@ -1,0 +1,199 @@
+//! Transactions and writes, told from the events and their answers alone, in list order.
+
+use crate::word::{Kind, Word};
+
+/// How a transaction ended.
+#[derive(Clone, Copy, Debug, PartialEq, Eq)]
+pub enum End {
+    /// It is still live after the last event.
+    Never,
+    /// Its own commit was accepted, at this event, with this answer.
+    Committed {
+        /// The event's place in the list.
+        at: usize,
+        /// Whether the answer was 11.
+        cut: bool,
+        /// The answer's value.
+        value: u8,
+    },
+    /// Its own abort or an ancestor's was accepted at this event.
+    Aborted(usize),
+    /// A crash or an answer 11 to another's event ended it at this event.
+    Crashed(usize),
+}
+
+/// A transaction is one accepted begin, not a number.
+#[derive(Clone, Debug)]
+pub struct Transaction {
+    /// The number it bears until it ends.
+    pub number: u8,
+    /// Its parent's place among the transactions; none for a top transaction.
+    pub parent: Option<usize>,
+    /// The place of its begin in the list.
+    pub begun: usize,
+    /// How it ended.
+    pub end: End,
+    /// Whether it survives; every other transaction is lost.
+    pub survives: bool,
+}
+
+/// An accepted write.
+#[derive(Clone, Copy, Debug)]
+pub struct Write {
+    /// Its place in the list.
+    pub at: usize,
+    /// The writer's place among the transactions.
+    pub transaction: usize,
+    /// The record written.
+    pub record: u8,
+    /// The byte's place in the record.
+    pub offset: u8,
+    /// The byte.
+    pub value: u8,
+}
+
+/// What the events and answers of a run tell.
+#[derive(Clone, Debug, Default)]
+pub struct History {
+    /// In the order of their begins.
+    pub transactions: Vec<Transaction>,
+    /// In list order.
+    pub writes: Vec<Write>,
+    /// For each event the transaction that it belongs to.
+    pub owner: Vec<Option<usize>>,
+}
+
+/// An answer that no right run gives, at this event.
+#[derive(Clone, Debug, PartialEq, Eq)]
+pub struct Absurd {
+    /// The event's place in the list.
+    pub at: usize,
+    /// What is wrong with its answer.
+    pub what: &'static str,
+}
+
+/// Tells the history of a run; the list has four bytes an event, the answers two.
+pub fn tell(events: &[u8], answers: &[u8]) -> Result<History, Absurd> {
+    let mut teller = Teller { history: History::default(), bearers: [None; 32] };
+    for (at, (word, answer)) in events.chunks_exact(4).zip(answers.chunks_exact(2)).enumerate() {
+        teller.event(at, Word::of(word), answer[0], answer[1])?;
+    }
+    let mut history = teller.history;
+    history.judge();
+    Ok(history)
+}
+
+struct Teller {
+    history: History,
+    /// Who bears each number now.
+    bearers: [Option<usize>; 32],
+}
+
+impl Teller {
+    fn event(&mut self, at: usize, word: Word, number: u8, value: u8) -> Result<(), Absurd> {
+        let cut = number == 11;
+        let accepted = number == 0 || cut;
+        let bearer = if word.names_transaction() { self.bearers[usize::from(word.transaction)] } else { None };
+        let begins = accepted && word.kind == Kind::Begin;
+        let owner = if begins { Some(self.begin(at, word, value)?) } else { bearer };
+        self.history.owner.push(owner);
+        if accepted && !begins {
+            if word.names_transaction() && owner.is_none() {
+                return Err(Absurd { at, what: "accepted, but nobody bears the number that it names" });
+            }
+            self.accepted(at, word, owner, cut, value);
+        }
+        if cut {
+            self.end_all(End::Crashed(at));
+        }
+        Ok(())
+    }
+
+    fn begin(&mut self, at: usize, word: Word, number: u8) -> Result<usize, Absurd> {
+        let absurd = |what| Err(Absurd { at, what });
+        let parent = self.bearers[usize::from(word.transaction)];
+        if word.transaction != 31 && parent.is_none() {
+            return absurd("begins under a number that nobody bears");
+        }
+        let place = self.history.transactions.len();
+        match self.bearers.get_mut(usize::from(number)) {
+            Some(bearer) if bearer.is_none() => *bearer = Some(place),
+            _ => return absurd("gives a number that is taken or that there isn't"),
+        }
+        self.history.transactions.push(Transaction { number, parent, begun: at, end: End::Never, survives: false });
+        Ok(place)
+    }
+
+    fn accepted(&mut self, at: usize, word: Word, owner: Option<usize>, cut: bool, value: u8) {
+        match (word.kind, owner) {
+            (Kind::Write, Some(transaction)) => {
+                let Word { record, offset, value, .. } = word;
+                self.history.writes.push(Write { at, transaction, record, offset, value });
+            }
+            (Kind::Commit, Some(transaction)) => self.end(transaction, End::Committed { at, cut, value }),
+            (Kind::Abort, Some(aborted)) => {
+                for transaction in 0..self.history.transactions.len() {
+                    if self.history.line(transaction).any(|up| up == aborted) {
+                        self.end(transaction, End::Aborted(at));
+                    }
+                }
+            }
+            (Kind::Crash, _) => self.end_all(End::Crashed(at)),
+            _ => {}
+        }
+    }
+
+    fn end(&mut self, transaction: usize, end: End) {
+        let told = &mut self.history.transactions[transaction];
+        if told.end == End::Never {
+            told.end = end;
+            self.bearers[usize::from(told.number)] = None;
+        }
+    }
+
+    fn end_all(&mut self, end: End) {
+        for transaction in 0..self.history.transactions.len() {
+            self.end(transaction, end);
+        }
+    }
+}
+
+impl History {
+    /// A transaction and its ancestors, nearest first.
+    pub fn line(&self, transaction: usize) -> impl Iterator<Item = usize> + '_ {
+        std::iter::successors(Some(transaction), |place| self.transactions[*place].parent)
+    }
+
+    /// The writes of surviving transactions.
+    pub fn surviving_writes(&self) -> impl Iterator<Item = &Write> {
+        self.writes.iter().filter(|write| self.transactions[write.transaction].survives)
+    }
+
+    fn committed(&self, transaction: usize) -> bool {
+        matches!(self.transactions[transaction].end, End::Committed { .. })
+    }
+
+    /// The records with an accepted write by a transaction itself or by a descendant that
+    /// committed, as did every transaction between.
+    fn changed_records(&self, top: usize) -> u8 {
+        let reaches = |write: &&Write| {
+            let mut below = self.line(write.transaction).take_while(|up| *up != top);
+            self.line(write.transaction).any(|up| up == top) && below.all(|up| self.committed(up))
+        };
+        let map = self.writes.iter().filter(reaches).fold(0u64, |map, write| map | 1 << write.record);
+        map.count_ones() as u8
+    }
+
+    /// Finds who survives. A parent begins before its children, so parents are judged first.
+    fn judge(&mut self) {
+        for place in 0..self.transactions.len() {
+            let survives = match (self.transactions[place].end, self.transactions[place].parent) {
+                (End::Committed { .. }, Some(parent)) => self.transactions[parent].survives,
+                (End::Committed { cut: false, .. }, None) => true,
+                (End::Committed { cut: true, value, .. }, None) => value > self.changed_records(place),
+                _ => false,
+            };
+            self.transactions[place].survives = survives;
+        }
+    }
+}

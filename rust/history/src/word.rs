@@ -1,0 +1,65 @@
+//! An event word's fields, as far as the history needs them.
+
+/// The kinds that matter for the history.
+#[derive(Clone, Copy, Debug, PartialEq, Eq)]
+pub enum Kind {
+    /// 1.
+    Begin,
+    /// 3.
+    Write,
+    /// 4.
+    Read,
+    /// 5.
+    Commit,
+    /// 6.
+    Abort,
+    /// 7.
+    Crash,
+    /// 2: names a transaction, and nothing more is told of it.
+    Lock,
+    /// All else names no transaction.
+    Other,
+}
+
+/// The fields of a word.
+#[derive(Clone, Copy, Debug)]
+pub struct Word {
+    /// Its kind.
+    pub kind: Kind,
+    /// The transaction field.
+    pub transaction: u8,
+    /// The record field.
+    pub record: u8,
+    /// The offset field.
+    pub offset: u8,
+    /// The value field.
+    pub value: u8,
+}
+
+impl Word {
+    /// Takes four bytes apart.
+    pub fn of(bytes: &[u8]) -> Word {
+        let kind = match bytes[0] >> 4 {
+            1 => Kind::Begin,
+            2 => Kind::Lock,
+            3 => Kind::Write,
+            4 => Kind::Read,
+            5 => Kind::Commit,
+            6 => Kind::Abort,
+            7 => Kind::Crash,
+            _ => Kind::Other,
+        };
+        Word {
+            kind,
+            transaction: (bytes[0] & 15) << 1 | bytes[1] >> 7,
+            record: bytes[1] >> 3 & 15,
+            offset: (bytes[1] & 7) << 2 | bytes[2] >> 6,
+            value: bytes[3],
+        }
+    }
+
+    /// A crash and a recover name no transaction, though they have the field.
+    pub fn names_transaction(&self) -> bool {
+        !matches!(self.kind, Kind::Crash | Kind::Other)
+    }
+}

@@ -1,0 +1,224 @@
+//! Random lists that are mostly accepted: deep nesting, contention, reuse of numbers, cuts at every
+//! count, crashes in recovery, bad events.
+
+use crate::sketch::Sketch;
+use crate::Rng;
+use nekahuiro::limits::{COUNT_LIMIT, EVENT_BYTES, PAGE_BYTES, RECORDS, TRANSACTIONS, TRANSACTION_NAMES};
+use nekahuiro::{Event, Fields, Transaction};
+
+/// What a list is like, in percent where nothing else is said.
+#[derive(Clone, Debug)]
+pub struct Taste {
+    /// Events.
+    pub length: usize,
+    /// Records in use; few make contention.
+    pub records: usize,
+    /// Offsets in use.
+    pub offsets: usize,
+    /// Begins that have a parent.
+    pub nested: usize,
+    /// Live transactions before it is time to commit.
+    pub crowd: usize,
+    /// Nested begins under the deepest transaction: deep rather than wide.
+    pub deep: usize,
+    /// Commits and recoveries with a small count.
+    pub cuts: usize,
+    /// Plain crashes.
+    pub crashes: usize,
+    /// Events with a number at random.
+    pub strays: usize,
+    /// Bad events.
+    pub bad: usize,
+    /// Events until the mood may change.
+    pub patience: usize,
+}
+
+/// How often each of begin, lock, write, read, commit, abort comes: nesting, working, finishing,
+/// failing, and a bit of all.
+const MOODS: [[usize; 6]; 5] =
+    [[8, 4, 3, 1, 1, 0], [2, 5, 7, 4, 1, 0], [0, 1, 2, 1, 9, 0], [1, 2, 3, 2, 2, 4], [3, 5, 6, 3, 4, 1]];
+
+impl Taste {
+    /// A random taste.
+    pub fn any(rng: &mut Rng) -> Taste {
+        let length = match rng.below(10) {
+            0..=5 => 8 + rng.below(40),
+            6..=8 => 30 + rng.below(90),
+            _ => 100 + rng.below(200),
+        };
+        Taste {
+            length,
+            records: rng.one_of([1, 2, 3, 5, RECORDS]),
+            offsets: rng.one_of([1, 2, PAGE_BYTES]),
+            nested: rng.one_of([20, 60, 90, 98]),
+            crowd: rng.one_of([1, 2, 3, 5, 9, TRANSACTIONS]),
+            deep: rng.one_of([10, 60, 95]),
+            cuts: rng.one_of([0, 10, 40, 80]),
+            crashes: rng.one_of([0, 1, 4]),
+            strays: rng.one_of([0, 3, 15]),
+            bad: rng.one_of([0, 1, 5]),
+            patience: 2 + rng.below(20),
+        }
+    }
+}
+
+/// A random list for a store whose page 0 names this many records.
+pub fn list(rng: &mut Rng, taste: &Taste, committed: u32) -> Vec<u8> {
+    let mut maker = Maker { sketch: Sketch::new(committed), rng, taste, mood: MOODS[0] };
+    let mut words = Vec::with_capacity(taste.length * EVENT_BYTES);
+    for _ in 0..taste.length {
+        words.extend(maker.word());
+    }
+    words
+}
+
+struct Maker<'m> {
+    sketch: Sketch,
+    rng: &'m mut Rng,
+    taste: &'m Taste,
+    mood: [usize; 6],
+}
+
+impl Maker<'_> {
+    fn word(&mut self) -> [u8; EVENT_BYTES] {
+        if self.rng.percent(self.taste.bad) {
+            return self.bad();
+        }
+        let mut fields = self.sensible();
+        if self.rng.percent(self.taste.strays) {
+            fields = self.astray(fields);
+        }
+        self.follow(fields);
+        fields.word()
+    }
+
+    /// The same with a number that is likely to be refused.
+    fn astray(&mut self, fields: Fields) -> Fields {
+        let live = self.sketch.live();
+        match self.rng.below(8) {
+            0..=1 if fields.kind <= 6 => Fields { transaction: self.rng.below(TRANSACTION_NAMES) as u8, ..fields },
+            2..=4 if fields.kind <= 6 => Fields { transaction: self.rng.pick(&live).copied().unwrap_or(0), ..fields },
+            5..=6 if (2..=4).contains(&fields.kind) => Fields { record: self.rng.below(RECORDS) as u8, ..fields },
+            7 => Fields { kind: 8, count: self.count(4), ..Fields::default() },
+            _ => fields,
+        }
+    }
+
+    /// A word with a kind that there isn't or a bit too many; rarely it is good by chance.
+    fn bad(&mut self) -> [u8; EVENT_BYTES] {
+        let mut word = match self.rng.below(3) {
+            0 => (self.rng.bits() as u32).to_be_bytes(),
+            _ => self.sensible().word(),
+        };
+        word[self.rng.below(EVENT_BYTES)] ^= 1 << self.rng.below(8);
+        if Event::of(word).is_some() {
+            self.follow(Fields::of(word));
+        }
+        word
+    }
+
+    fn sensible(&mut self) -> Fields {
+        if !self.sketch.up && !self.rng.percent(8) {
+            return Fields { kind: 8, count: self.count(self.sketch.committed + 1), ..Fields::default() };
+        }
+        if self.rng.percent(self.taste.crashes) {
+            return Fields { kind: 7, ..Fields::default() };
+        }
+        if self.rng.below(self.taste.patience) == 0 {
+            self.mood = MOODS[self.rng.below(MOODS.len())];
+        }
+        let mut draw = self.rng.below(self.mood.iter().sum());
+        let mut kind = 1;
+        for (next, weight) in (1..).zip(self.mood) {
+            kind = next;
+            if draw < weight {
+                break;
+            }
+            draw -= weight;
+        }
+        self.of_kind(kind)
+    }
+
+    fn of_kind(&mut self, kind: u8) -> Fields {
+        let fields = Fields { kind, ..Fields::default() };
+        let live = self.sketch.live();
+        if kind == 1 && live.len() >= self.taste.crowd && self.taste.crowd < TRANSACTIONS {
+            let other = if self.rng.percent(30) { 5 } else { 3 };
+            return self.of_kind(other);
+        }
+        if live.is_empty() {
+            self.mood = MOODS[self.rng.below(2)];
+        }
+        if kind == 1 || live.is_empty() {
+            return Fields { kind: 1, transaction: self.parent(), ..fields };
+        }
+        let anyone = self.rng.pick(&live).copied().unwrap_or(0);
+        match kind {
+            2 => {
+                let (transaction, record) = self.wanted(anyone);
+                Fields { transaction, record, ..fields }
+            }
+            3 | 4 => {
+                // Now and then by one that could hold the lock but doesn't.
+                let able = if self.rng.percent(4) { self.sketch.retained() } else { self.sketch.held() };
+                let Some((transaction, record)) = self.rng.pick(&able).copied() else {
+                    return self.of_kind(2);
+                };
+                let value = if kind == 3 { self.rng.byte() } else { 0 };
+                Fields { transaction, record, offset: self.rng.below(self.taste.offsets) as u8, value, ..fields }
+            }
+            5 => {
+                let transaction = self.rng.pick(&self.sketch.leaves()).copied().unwrap_or(anyone);
+                Fields { transaction, count: self.count(self.sketch.due(transaction)), ..fields }
+            }
+            _ => {
+                let transaction = self.rng.pick(&self.sketch.leaves()).copied().unwrap_or(anyone);
+                Fields { kind: 6, transaction: if self.rng.percent(70) { transaction } else { anyone }, ..fields }
+            }
+        }
+    }
+
+    /// Who asks for which lock: half the time for one that its own line retains.
+    fn wanted(&mut self, anyone: u8) -> (u8, u8) {
+        let retained = if self.rng.percent(50) { self.sketch.retained() } else { Vec::new() };
+        let stranger = (anyone, self.rng.below(self.taste.records) as u8);
+        self.rng.pick(&retained).copied().unwrap_or(stranger)
+    }
+
+    fn parent(&mut self) -> u8 {
+        if !self.rng.percent(self.taste.nested) {
+            return Transaction::NONE.number();
+        }
+        // The deepest of all may be too deep.
+        let shallow = self.sketch.parents();
+        let parents = if self.rng.percent(10) { self.sketch.live() } else { shallow };
+        let deepest = parents.iter().max_by_key(|t| self.sketch.depth(**t)).copied();
+        let parent = if self.rng.percent(self.taste.deep) { deepest } else { self.rng.pick(&parents).copied() };
+        parent.unwrap_or(Transaction::NONE.number())
+    }
+
+    /// Mostly large; else every count from 0 to one above the writes due.
+    fn count(&mut self, due: u32) -> u8 {
+        if self.rng.percent(self.taste.cuts) {
+            self.rng.below(due as usize + 2) as u8
+        } else {
+            COUNT_LIMIT
+        }
+    }
+
+    fn follow(&mut self, fields: Fields) {
+        let Fields { kind, transaction, record, count, .. } = fields;
+        let count = u32::from(count);
+        match kind {
+            8 => self.sketch.recover(count),
+            7 => self.sketch.crash(),
+            _ if !self.sketch.up => {}
+            1 => self.sketch.begin((transaction != Transaction::NONE.number()).then_some(transaction)),
+            2 => self.sketch.lock(transaction, record),
+            3 => self.sketch.write(transaction, record),
+            5 => self.sketch.commit(transaction, count),
+            6 => self.sketch.abort(transaction),
+            _ => {}
+        }
+    }
+}

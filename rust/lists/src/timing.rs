@@ -1,0 +1,94 @@
+//! The three lists of the benchmark: deep nesting, flat transactions, and a mixture with refusals.
+
+use crate::Rng;
+use nekahuiro::limits::{COUNT_LIMIT, DEPTH_LIMIT, EVENTS, RECORDS, TRANSACTIONS};
+use nekahuiro::{Fields, Transaction};
+
+/// The name and the words of each list, all of the greatest length.
+pub fn all() -> [(&'static str, Vec<u8>); 3] {
+    [("deep", deep()), ("flat", flat()), ("mixed", mixed())]
+}
+
+const NO_PARENT: u8 = Transaction::NONE.number();
+
+fn begin(parent: u8) -> Fields {
+    Fields { kind: 1, transaction: parent, ..Fields::default() }
+}
+
+fn recover() -> Fields {
+    Fields { kind: 8, count: COUNT_LIMIT, ..Fields::default() }
+}
+
+fn end(transaction: u8, rng: &mut Rng) -> Fields {
+    if rng.below(4) == 0 {
+        Fields { kind: 6, transaction, ..Fields::default() }
+    } else {
+        Fields { kind: 5, transaction, count: COUNT_LIMIT, ..Fields::default() }
+    }
+}
+
+/// Three times lock, write, read on one of two records.
+fn work(transaction: u8, rng: &mut Rng, list: &mut Vec<Fields>) {
+    for _ in 0..3 {
+        let record = (usize::from(transaction) * 2 % RECORDS + rng.below(2)) as u8;
+        let named = Fields { transaction, record, ..Fields::default() };
+        list.push(Fields { kind: 2, ..named });
+        list.push(Fields { kind: 3, offset: rng.below(32) as u8, value: rng.byte(), ..named });
+        list.push(Fields { kind: 4, offset: rng.below(32) as u8, ..named });
+    }
+}
+
+fn words(mut list: Vec<Fields>) -> Vec<u8> {
+    list.truncate(EVENTS);
+    list.iter().flat_map(Fields::word).collect()
+}
+
+/// Nest to the depth limit, working at each depth, then commit or abort back up.
+pub fn deep() -> Vec<u8> {
+    let (mut rng, mut list) = (Rng::new(1), vec![recover()]);
+    while list.len() < EVENTS {
+        for depth in 0..DEPTH_LIMIT as u8 {
+            list.push(begin(if depth == 0 { NO_PARENT } else { depth - 1 }));
+            work(depth, &mut rng, &mut list);
+        }
+        for depth in (0..DEPTH_LIMIT as u8).rev() {
+            list.push(end(depth, &mut rng));
+        }
+    }
+    words(list)
+}
+
+/// Eight top transactions side by side, then each commits or aborts.
+pub fn flat() -> Vec<u8> {
+    let (mut rng, mut list) = (Rng::new(2), vec![recover()]);
+    while list.len() < EVENTS {
+        for transaction in 0..8 {
+            list.push(begin(NO_PARENT));
+            work(transaction, &mut rng, &mut list);
+        }
+        for transaction in 0..8 {
+            list.push(end(transaction, &mut rng));
+        }
+    }
+    words(list)
+}
+
+/// Random events with random numbers: many are refused.
+pub fn mixed() -> Vec<u8> {
+    let (mut rng, mut list) = (Rng::new(3), vec![recover()]);
+    while list.len() < EVENTS {
+        let transaction = rng.below(TRANSACTIONS) as u8;
+        let (record, offset) = (rng.below(RECORDS) as u8, rng.below(32) as u8);
+        let named = Fields { transaction, record, ..Fields::default() };
+        list.push(match rng.below(16) {
+            0..=2 if rng.below(3) == 0 => begin(NO_PARENT),
+            0..=2 => begin(transaction),
+            3..=7 => Fields { kind: 2, ..named },
+            8..=10 => Fields { kind: 3, offset, value: rng.byte(), ..named },
+            11..=13 => Fields { kind: 4, offset, ..named },
+            14 => Fields { kind: 5, transaction, count: COUNT_LIMIT, ..Fields::default() },
+            _ => Fields { kind: 6, transaction, ..Fields::default() },
+        });
+    }
+    words(list)
+}

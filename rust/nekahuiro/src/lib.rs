@@ -1,0 +1,49 @@
+//! A record store with nested transactions and page-by-page commit, proved down to the code.
+//!
+//! This crate is safe Rust over the proved library's C interface. It adds types, allocates nothing
+//! where buffers are lent, and panics on no input. What the library promises is said in
+//! `docs/PROMISES.md`; this crate itself is ordinary code, tested and not proved.
+//!
+//! A store holds sixteen records of 32 bytes. A [`Store`] plays a list of [`Event`]s and gives one
+//! [`Answer`] each. Commits and recoveries carry a count: the power goes after that many page
+//! writes, and 63 is always enough for no cut.
+//!
+//! ```
+//! use nekahuiro::{Event, Record, Store};
+//!
+//! let list = "recover 63, begin none, begin 0, lock 1 3, write 1 3 2 A5, commit 1 63, commit 0 63";
+//! let events: Vec<Event> = list.split(',').map(str::parse).collect::<Result<_, _>>()?;
+//!
+//! let mut store = Store::fresh();
+//! let answers = store.play(&events)?;
+//! assert!(answers.iter().all(|answer| answer.is_accepted()));
+//! assert_eq!(answers[6].value, 4); // an intention page, the commit page, a home page, the empty page
+//!
+//! let record = Record::new(3).ok_or("no such record")?;
+//! assert_eq!(store.settled(record)[2], 0xA5);
+//! # Ok::<(), Box<dyn std::error::Error>>(())
+//! ```
+
+mod age;
+mod answer;
+mod commit_page;
+mod event;
+pub mod limits;
+mod numbers;
+#[allow(unsafe_code)] // the only module that calls the linked library
+pub mod raw;
+mod store;
+mod words;
+
+pub use age::{Age, Clock, Limit, Verdict};
+pub use answer::{page_writes, Answer, Refusal, CUT, DONE};
+pub use commit_page::{CommitPage, Map, Page};
+pub use event::{encode, Event, Fields};
+pub use numbers::{Record, Transaction};
+pub use store::{Place, Store};
+pub use words::{describe, why_bad, BadWords};
+
+/// The README's examples are tested too.
+#[cfg(doctest)]
+#[doc = include_str!("../../../README.md")]
+struct Readme;

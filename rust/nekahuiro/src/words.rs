@@ -1,0 +1,188 @@
+//! Events in words: `write 1 3 2 A5`. Values are two hex digits, all else is decimal.
+
+use crate::limits::{COUNT_LIMIT, EVENT_BYTES, PAGE_BYTES, RECORDS, TRANSACTION_NAMES};
+use crate::{Event, Fields, Record, Transaction};
+use std::fmt;
+use std::str::{FromStr, SplitWhitespace};
+
+/// Why a line tells no event, and how to mend it.
+#[derive(Clone, Debug, PartialEq, Eq)]
+pub struct BadWords {
+    /// What is wrong.
+    pub reason: String,
+    /// What to write instead.
+    pub mend: String,
+}
+
+impl fmt::Display for BadWords {
+    fn fmt(&self, f: &mut fmt::Formatter) -> fmt::Result {
+        write!(f, "{}; {}", self.reason, self.mend)
+    }
+}
+
+impl std::error::Error for BadWords {}
+
+/// How each event is written.
+const FORMS: [(&str, &str); 8] = [
+    ("begin", "begin none | begin PARENT"),
+    ("lock", "lock TRANSACTION RECORD"),
+    ("write", "write TRANSACTION RECORD OFFSET VALUE"),
+    ("read", "read TRANSACTION RECORD OFFSET"),
+    ("commit", "commit TRANSACTION COUNT"),
+    ("abort", "abort TRANSACTION"),
+    ("crash", "crash"),
+    ("recover", "recover COUNT"),
+];
+
+impl fmt::Display for Event {
+    fn fmt(&self, f: &mut fmt::Formatter) -> fmt::Result {
+        match self {
+            Event::Begin { parent } if *parent == Transaction::NONE => write!(f, "begin none"),
+            Event::Begin { parent } => write!(f, "begin {parent}"),
+            Event::Lock { transaction, record } => write!(f, "lock {transaction} {record}"),
+            Event::Write { transaction, record, offset, value } => {
+                write!(f, "write {transaction} {record} {offset} {value:02X}")
+            }
+            Event::Read { transaction, record, offset } => write!(f, "read {transaction} {record} {offset}"),
+            Event::Commit { transaction, count } => write!(f, "commit {transaction} {count}"),
+            Event::Abort { transaction } => write!(f, "abort {transaction}"),
+            Event::Crash => write!(f, "crash"),
+            Event::Recover { count } => write!(f, "recover {count}"),
+        }
+    }
+}
+
+/// A word in words: the event, or the word itself in hex if it is bad.
+pub fn describe(word: [u8; EVENT_BYTES]) -> String {
+    match Event::of(word) {
+        Some(event) => event.to_string(),
+        None => format!("{:08X}", u32::from_be_bytes(word)),
+    }
+}
+
+/// Why a word is bad, or none if it isn't.
+pub fn why_bad(word: [u8; EVENT_BYTES]) -> Option<String> {
+    if Event::of(word).is_some() {
+        return None;
+    }
+    let kind = Fields::of(word).kind;
+    Some(match FORMS.get(usize::from(kind).wrapping_sub(1)) {
+        Some((name, _)) => format!("{name} with a field that it doesn't use and that isn't 0"),
+        None => format!("there is no kind {kind}"),
+    })
+}
+
+impl FromStr for Event {
+    type Err = BadWords;
+
+    fn from_str(line: &str) -> Result<Event, BadWords> {
+        let mut words = Words { rest: line.split_whitespace(), form: "" };
+        let name = words.rest.next().unwrap_or_default();
+        let Some((name, form)) = FORMS.iter().find(|(known, _)| known.eq_ignore_ascii_case(name)) else {
+            return Err(unknown(name));
+        };
+        words.form = form;
+        let event = match *name {
+            "begin" => Event::Begin { parent: words.parent()? },
+            "lock" => Event::Lock { transaction: words.transaction()?, record: words.record()? },
+            "write" => Event::Write {
+                transaction: words.transaction()?,
+                record: words.record()?,
+                offset: words.offset()?,
+                value: words.value()?,
+            },
+            "read" => {
+                Event::Read { transaction: words.transaction()?, record: words.record()?, offset: words.offset()? }
+            }
+            "commit" => Event::Commit { transaction: words.transaction()?, count: words.count()? },
+            "abort" => Event::Abort { transaction: words.transaction()? },
+            "crash" => Event::Crash,
+            _ => Event::Recover { count: words.count()? },
+        };
+        words.end()?;
+        Ok(event)
+    }
+}
+
+fn unknown(name: &str) -> BadWords {
+    let names: Vec<&str> = FORMS.iter().map(|(name, _)| *name).collect();
+    let reason = match name {
+        "" => "no event".to_string(),
+        _ => format!("`{name}` is no event"),
+    };
+    BadWords { reason, mend: format!("begin the line with one of {}", names.join(", ")) }
+}
+
+/// The words after the event's name.
+struct Words<'l> {
+    rest: SplitWhitespace<'l>,
+    form: &'static str,
+}
+
+impl Words<'_> {
+    fn bad<T>(&self, reason: String) -> Result<T, BadWords> {
+        Err(BadWords { reason, mend: format!("write `{}`", self.form) })
+    }
+
+    fn next(&mut self, what: &str) -> Result<&str, BadWords> {
+        match self.rest.next() {
+            Some(word) => Ok(word),
+            None => self.bad(format!("the {what} is missing")),
+        }
+    }
+
+    /// A number from 0 to `limit - 1`.
+    fn below(&mut self, what: &str, limit: usize, radix: u32) -> Result<u8, BadWords> {
+        let word = self.next(what)?.to_string();
+        match u32::from_str_radix(&word, radix) {
+            Ok(number) if (number as usize) < limit && !word.starts_with('+') => Ok(number as u8),
+            _ if radix == 16 => self.bad(format!("the {what} `{word}` isn't a hex number from 00 to FF")),
+            _ => self.bad(format!("the {what} `{word}` isn't a number from 0 to {}", limit - 1)),
+        }
+    }
+
+    fn named<N>(&mut self, what: &str, limit: usize, number: fn(u8) -> Option<N>) -> Result<N, BadWords> {
+        let plain = self.below(what, limit, 10)?;
+        match number(plain) {
+            Some(number) => Ok(number),
+            None => self.bad(format!("there is no {what} {plain}")),
+        }
+    }
+
+    fn transaction(&mut self) -> Result<Transaction, BadWords> {
+        self.named("transaction", TRANSACTION_NAMES, Transaction::new)
+    }
+
+    fn parent(&mut self) -> Result<Transaction, BadWords> {
+        match self.rest.clone().next() {
+            Some(word) if word.eq_ignore_ascii_case("none") => {
+                self.rest.next();
+                Ok(Transaction::NONE)
+            }
+            _ => self.named("parent", TRANSACTION_NAMES, Transaction::new),
+        }
+    }
+
+    fn record(&mut self) -> Result<Record, BadWords> {
+        self.named("record", RECORDS, Record::new)
+    }
+
+    fn offset(&mut self) -> Result<u8, BadWords> {
+        self.below("offset", PAGE_BYTES, 10)
+    }
+
+    fn value(&mut self) -> Result<u8, BadWords> {
+        self.below("value", 256, 16)
+    }
+
+    fn count(&mut self) -> Result<u8, BadWords> {
+        self.below("count", usize::from(COUNT_LIMIT) + 1, 10)
+    }
+
+    fn end(&mut self) -> Result<(), BadWords> {
+        match self.rest.next() {
+            None => Ok(()),
+            Some(word) => self.bad(format!("`{word}` is one word too many")),
+        }
+    }
+}

@@ -1,0 +1,58 @@
+//! The event word: six fields in 32 bits, most significant first.
+
+use crate::limits::{EVENT_BYTES, NO_PARENT};
+
+/// A transaction number as an event names it: 0 to 31, of which 24 to 31 are never live.
+#[derive(Clone, Copy, Debug, PartialEq, Eq, PartialOrd, Ord)]
+pub struct Transaction(pub u8);
+
+/// A record number, 0 to 15.
+#[derive(Clone, Copy, Debug, PartialEq, Eq, PartialOrd, Ord)]
+pub struct Record(pub u8);
+
+/// An event with no stray bits.
+#[derive(Clone, Copy, Debug, PartialEq, Eq)]
+pub enum Event {
+    /// Begin a transaction, under a parent or at the top.
+    Begin(Option<Transaction>),
+    /// Ask for a lock.
+    Lock(Transaction, Record),
+    /// Write one byte: offset, then value.
+    Write(Transaction, Record, u8, u8),
+    /// Read the byte at an offset.
+    Read(Transaction, Record, u8),
+    /// Commit, with the number of page writes before the power goes.
+    Commit(Transaction, u8),
+    /// Abort with all live descendants.
+    Abort(Transaction),
+    /// The power goes.
+    Crash,
+    /// Recover, with the number of page writes before the power goes.
+    Recover(u8),
+}
+
+/// The event that a word tells, or none if the word is bad: an unknown kind or a stray bit.
+pub fn decode(word: [u8; EVENT_BYTES]) -> Option<Event> {
+    let bits = u32::from_be_bytes(word);
+    let field = |shift: u32, width: u32| ((bits >> shift) & ((1 << width) - 1)) as u8;
+    let (kind, named) = (field(28, 4), field(23, 5));
+    let (transaction, record) = (Transaction(named), Record(field(19, 4)));
+    let (offset, count, value) = (field(14, 5), field(8, 6), field(0, 8));
+    let no_record = record.0 == 0;
+    let (no_offset, no_count, no_value) = (offset == 0, count == 0, value == 0);
+    let (event, unused_are_zero) = match kind {
+        1 => {
+            let parent = (named != NO_PARENT).then_some(transaction);
+            (Event::Begin(parent), no_record && no_offset && no_count && no_value)
+        }
+        2 => (Event::Lock(transaction, record), no_offset && no_count && no_value),
+        3 => (Event::Write(transaction, record, offset, value), no_count),
+        4 => (Event::Read(transaction, record, offset), no_count && no_value),
+        5 => (Event::Commit(transaction, count), no_record && no_offset && no_value),
+        6 => (Event::Abort(transaction), no_record && no_offset && no_count && no_value),
+        7 => (Event::Crash, bits << 4 == 0),
+        8 => (Event::Recover(count), named == 0 && no_record && no_offset && no_value),
+        _ => return None,
+    };
+    unused_are_zero.then_some(event)
+}

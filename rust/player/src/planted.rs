@@ -1,0 +1,36 @@
+//! Known bugs that a test build can plant, to show that the tests find them.
+
+/// A bug to plant: the first three are slips, the last five are the shortcuts that the rules warn of.
+#[derive(Clone, Copy, Debug, PartialEq, Eq)]
+pub enum Bug {
+    /// A parent with a version of its own keeps it when its child commits one.
+    ParentKeepsItsVersion,
+    /// A lock is granted without a look at its retainers.
+    GrantBlindToRetainers,
+    /// A cut commit makes one page write too many.
+    CutOffByOne,
+    /// A child's commit frees its locks.
+    ChildCommitFreesLocks,
+    /// Home pages are written before the commit page.
+    HomeBeforeCommitPage,
+    /// The commit page is emptied before the last home page is written.
+    EmptiedTooEarly,
+    /// An aborted child's record falls back to the home page.
+    AbortRestoresHome,
+    /// A retainer may read and write without locking again.
+    RetainerNeedsNoLock,
+}
+
+impl Bug {
+    /// All of them.
+    pub const ALL: [Bug; 8] = [
+        Bug::ParentKeepsItsVersion,
+        Bug::GrantBlindToRetainers,
+        Bug::CutOffByOne,
+        Bug::ChildCommitFreesLocks,
+        Bug::HomeBeforeCommitPage,
+        Bug::EmptiedTooEarly,
+        Bug::AbortRestoresHome,
+        Bug::RetainerNeedsNoLock,
+    ];
+}

@@ -1,0 +1,263 @@
+//! One event at a time: the refusals in the order of the table, then the effect.
+
+use crate::event::{decode, Event, Record, Transaction};
+use crate::limits::EVENT_BYTES;
+use crate::locks::Locks;
+use crate::planted::Bug;
+use crate::store::{committed_page, empty_page, CommitPage, Page, Place, Store};
+use crate::tree::Tree;
+
+/// An answer: its number, then its value.
+#[derive(Clone, Copy, Debug, PartialEq, Eq)]
+pub struct Answer(pub u8, pub u8);
+
+const DONE: u8 = 0;
+const CUT: u8 = 11;
+
+/// Why an event is refused.
+#[derive(Clone, Copy)]
+enum Refusal {
+    Bad = 1,
+    Down = 2,
+    Up = 3,
+    Damaged = 4,
+    NotLive = 5,
+    TooDeep = 6,
+    Full = 7,
+    NotGrantable = 8,
+    NotHeld = 9,
+    LiveChild = 10,
+}
+
+type Outcome = Result<Answer, Refusal>;
+
+/// A run under way.
+pub struct Player<'s> {
+    store: Store<'s>,
+    up: bool,
+    tree: Tree,
+    locks: Locks,
+    #[cfg(feature = "planted")]
+    bug: Option<Bug>,
+}
+
+impl<'s> Player<'s> {
+    /// A run starts down.
+    pub fn new(store: Store<'s>) -> Self {
+        Player {
+            store,
+            up: false,
+            tree: Tree::default(),
+            locks: Locks::default(),
+            #[cfg(feature = "planted")]
+            bug: None,
+        }
+    }
+
+    /// Plants a bug.
+    #[cfg(feature = "planted")]
+    pub fn plant(&mut self, bug: Option<Bug>) {
+        self.bug = bug;
+    }
+
+    #[cfg(feature = "planted")]
+    fn planted(&self, bug: Bug) -> bool {
+        self.bug == Some(bug)
+    }
+
+    #[cfg(not(feature = "planted"))]
+    fn planted(&self, _: Bug) -> bool {
+        false
+    }
+
+    /// Plays one event word.
+    pub fn step(&mut self, word: [u8; EVENT_BYTES]) -> Answer {
+        self.outcome(word).unwrap_or_else(|refusal| Answer(refusal as u8, 0))
+    }
+
+    fn outcome(&mut self, word: [u8; EVENT_BYTES]) -> Outcome {
+        match decode(word).ok_or(Refusal::Bad)? {
+            Event::Crash => Ok(self.crash()),
+            Event::Recover(count) => self.recover(count),
+            _ if !self.up => Err(Refusal::Down),
+            Event::Begin(parent) => self.begin(parent),
+            Event::Lock(transaction, record) => self.lock(transaction, record),
+            Event::Write(transaction, record, offset, value) => self.write(transaction, record, offset, value),
+            Event::Read(transaction, record, offset) => self.read(transaction, record, offset),
+            Event::Commit(transaction, count) => self.commit(transaction, count),
+            Event::Abort(transaction) => self.abort(transaction),
+        }
+    }
+
+    fn begin(&mut self, parent: Option<Transaction>) -> Outcome {
+        if let Some(parent) = parent {
+            self.live(parent)?;
+            if self.tree.is_deepest(parent) {
+                return Err(Refusal::TooDeep);
+            }
+        }
+        let number = self.tree.begin(parent).ok_or(Refusal::Full)?;
+        Ok(Answer(DONE, number.0))
+    }
+
+    fn lock(&mut self, transaction: Transaction, record: Record) -> Outcome {
+        self.live(transaction)?;
+        if !self.grantable(transaction, record) {
+            return Err(Refusal::NotGrantable);
+        }
+        self.locks.grant(transaction, record);
+        Ok(Answer(DONE, 0))
+    }
+
+    /// No other transaction holds the lock and every retainer is the asker or its ancestor.
+    fn grantable(&self, asker: Transaction, record: Record) -> bool {
+        let lock = self.locks.get(record);
+        let on_line = |retainer: &Transaction| self.tree.line(asker).any(|t| t == *retainer);
+        lock.holder.is_none_or(|holder| holder == asker)
+            && (self.planted(Bug::GrantBlindToRetainers) || lock.retainers.iter().all(on_line))
+    }
+
+    fn write(&mut self, transaction: Transaction, record: Record, offset: u8, value: u8) -> Outcome {
+        self.live(transaction)?;
+        self.held(transaction, record)?;
+        let seen = self.tree.version(transaction, record).copied();
+        let page = seen.unwrap_or_else(|| self.store.page(Place::Home(record)));
+        if let Some(node) = self.tree.get_mut(transaction) {
+            node.versions.entry(record).or_insert(page)[offset as usize] = value;
+        }
+        Ok(Answer(DONE, 0))
+    }
+
+    fn read(&mut self, transaction: Transaction, record: Record, offset: u8) -> Outcome {
+        self.live(transaction)?;
+        self.held(transaction, record)?;
+        let byte = match self.tree.version(transaction, record) {
+            Some(version) => version[offset as usize],
+            None => self.store.home_byte(record, offset),
+        };
+        Ok(Answer(DONE, byte))
+    }
+
+    fn commit(&mut self, transaction: Transaction, count: u8) -> Outcome {
+        self.live(transaction)?;
+        if self.tree.has_child(transaction) {
+            return Err(Refusal::LiveChild);
+        }
+        let Some(ended) = self.tree.remove(transaction) else { return Err(Refusal::NotLive) };
+        let Some(parent) = ended.parent else {
+            self.locks.discard(&[transaction]);
+            return Ok(self.write_pages(&self.commit_script(ended.versions), count));
+        };
+        if self.planted(Bug::ChildCommitFreesLocks) {
+            self.locks.discard(&[transaction]);
+        }
+        self.locks.pass_up(transaction, parent);
+        let keeps = self.planted(Bug::ParentKeepsItsVersion);
+        if let Some(parent) = self.tree.get_mut(parent) {
+            if keeps {
+                let own = std::mem::take(&mut parent.versions);
+                parent.versions = ended.versions;
+                parent.versions.extend(own);
+            } else {
+                parent.versions.extend(ended.versions);
+            }
+        }
+        Ok(Answer(DONE, 0))
+    }
+
+    /// The page writes of a top commit: intentions, commit page, home pages, empty page.
+    fn commit_script(&self, versions: impl IntoIterator<Item = (Record, Page)>) -> Vec<(Place, Page)> {
+        let versions: Vec<(Record, Page)> = versions.into_iter().collect();
+        if versions.is_empty() {
+            return Vec::new();
+        }
+        let named: Vec<Record> = versions.iter().map(|(record, _)| *record).collect();
+        let mut script = Vec::with_capacity(2 * versions.len() + 2);
+        script.extend(versions.iter().map(|(record, page)| (Place::Intention(*record), *page)));
+        script.push((Place::Commit, committed_page(&named)));
+        script.extend(versions.iter().map(|(record, page)| (Place::Home(*record), *page)));
+        script.push((Place::Commit, empty_page()));
+        if self.planted(Bug::HomeBeforeCommitPage) {
+            script.swap(named.len(), named.len() + 1);
+        }
+        if self.planted(Bug::EmptiedTooEarly) {
+            script.swap(2 * named.len(), 2 * named.len() + 1);
+        }
+        script
+    }
+
+    /// Makes the writes, or only the first `count` of them and then the crash.
+    fn write_pages(&mut self, script: &[(Place, Page)], count: u8) -> Answer {
+        let due = script.len();
+        let cut = (count as usize) < due;
+        let slip = usize::from(cut && self.planted(Bug::CutOffByOne));
+        let made = due.min(count as usize + slip);
+        for (place, page) in &script[..made] {
+            self.store.write(*place, page);
+        }
+        if cut {
+            self.crash();
+        }
+        Answer(if cut { CUT } else { DONE }, due.min(count as usize) as u8)
+    }
+
+    fn abort(&mut self, transaction: Transaction) -> Outcome {
+        self.live(transaction)?;
+        if self.planted(Bug::AbortRestoresHome) {
+            self.forget_ancestors_versions(transaction);
+        }
+        let ended = self.tree.with_descendants(transaction);
+        for transaction in &ended {
+            self.tree.remove(*transaction);
+        }
+        self.locks.discard(&ended);
+        Ok(Answer(DONE, 0))
+    }
+
+    /// Only a planted bug does this.
+    fn forget_ancestors_versions(&mut self, transaction: Transaction) {
+        let Some(node) = self.tree.get(transaction) else { return };
+        let written: Vec<Record> = node.versions.keys().copied().collect();
+        let ancestors: Vec<Transaction> = self.tree.line(transaction).skip(1).collect();
+        for ancestor in ancestors {
+            if let Some(node) = self.tree.get_mut(ancestor) {
+                node.versions.retain(|record, _| !written.contains(record));
+            }
+        }
+    }
+
+    fn crash(&mut self) -> Answer {
+        self.tree.clear();
+        self.locks.clear();
+        self.up = false;
+        Answer(DONE, 0)
+    }
+
+    fn recover(&mut self, count: u8) -> Outcome {
+        if self.up {
+            return Err(Refusal::Up);
+        }
+        let script = match self.store.commit_page() {
+            CommitPage::Damaged => return Err(Refusal::Damaged),
+            CommitPage::Empty => Vec::new(),
+            CommitPage::Committed(named) => {
+                let home = |record: &Record| (Place::Home(*record), self.store.page(Place::Intention(*record)));
+                let mut script: Vec<(Place, Page)> = named.iter().map(home).collect();
+                script.push((Place::Commit, empty_page()));
+                script
+            }
+        };
+        self.up = true;
+        Ok(self.write_pages(&script, count))
+    }
+
+    fn live(&self, transaction: Transaction) -> Result<(), Refusal> {
+        self.tree.is_live(transaction).then_some(()).ok_or(Refusal::NotLive)
+    }
+
+    fn held(&self, transaction: Transaction, record: Record) -> Result<(), Refusal> {
+        let retains = || self.locks.get(record).retainers.contains(&transaction);
+        let enough = self.locks.holds(transaction, record) || (self.planted(Bug::RetainerNeedsNoLock) && retains());
+        enough.then_some(()).ok_or(Refusal::NotHeld)
+    }
+}

@@ -1,0 +1,118 @@
+//! The stable store: the commit page, then intention pages, then home pages.
+
+use crate::event::Record;
+use crate::limits::{EDITION, PAGE_BYTES, RECORDS, STORE_BYTES};
+
+/// The bytes of one page.
+pub type Page = [u8; PAGE_BYTES];
+
+const STATE_EMPTY: u8 = 0;
+const STATE_COMMITTED: u8 = 5;
+
+/// What page 0 says.
+#[derive(Clone, Debug, PartialEq, Eq)]
+pub enum CommitPage {
+    /// Nothing is under way.
+    Empty,
+    /// These records, rising, are settled in their intention pages.
+    Committed(Vec<Record>),
+    /// Neither of the two.
+    Damaged,
+}
+
+/// Which page is to be written.
+#[derive(Clone, Copy, Debug, PartialEq, Eq)]
+pub enum Place {
+    /// Page 0.
+    Commit,
+    /// Page 1 + r.
+    Intention(Record),
+    /// Page 17 + r.
+    Home(Record),
+}
+
+/// A lent store of the right length.
+pub struct Store<'s>(&'s mut [u8; STORE_BYTES]);
+
+impl<'s> Store<'s> {
+    /// The store in these bytes, or none if their number is wrong.
+    pub fn over(bytes: &'s mut [u8]) -> Option<Self> {
+        bytes.try_into().ok().map(Store)
+    }
+
+    /// A copy of a page.
+    pub fn page(&self, place: Place) -> Page {
+        page_of(self.0, place)
+    }
+
+    /// Writes a whole page.
+    pub fn write(&mut self, place: Place, page: &Page) {
+        let at = start(place);
+        self.0[at..at + PAGE_BYTES].copy_from_slice(page);
+    }
+
+    /// One byte of a record's home page.
+    pub fn home_byte(&self, record: Record, offset: u8) -> u8 {
+        self.0[start(Place::Home(record)) + offset as usize]
+    }
+
+    /// What page 0 says.
+    pub fn commit_page(&self) -> CommitPage {
+        read_commit_page(&self.page(Place::Commit))
+    }
+}
+
+fn start(place: Place) -> usize {
+    PAGE_BYTES
+        * match place {
+            Place::Commit => 0,
+            Place::Intention(record) => 1 + record.0 as usize,
+            Place::Home(record) => 1 + RECORDS + record.0 as usize,
+        }
+}
+
+fn page_of(store: &[u8; STORE_BYTES], place: Place) -> Page {
+    let mut page = [0; PAGE_BYTES];
+    page.copy_from_slice(&store[start(place)..][..PAGE_BYTES]);
+    page
+}
+
+/// A record's settled value, or none if page 0 is damaged.
+pub fn settled_if_sound(store: &[u8; STORE_BYTES], record: Record) -> Option<Page> {
+    match read_commit_page(&page_of(store, Place::Commit)) {
+        CommitPage::Damaged => None,
+        CommitPage::Committed(named) if named.contains(&record) => Some(page_of(store, Place::Intention(record))),
+        _ => Some(page_of(store, Place::Home(record))),
+    }
+}
+
+/// The empty commit page.
+pub fn empty_page() -> Page {
+    let mut page = [0; PAGE_BYTES];
+    page[0] = EDITION << 4 | STATE_EMPTY;
+    page
+}
+
+/// The commit page that names these records.
+pub fn committed_page(named: &[Record]) -> Page {
+    let map = named.iter().fold(0u16, |map, record| map | 0x8000 >> record.0);
+    let mut page = [0; PAGE_BYTES];
+    page[0] = EDITION << 4 | STATE_COMMITTED;
+    page[1..3].copy_from_slice(&map.to_be_bytes());
+    page[3] = (named.len() as u8) << 3;
+    page
+}
+
+/// A page is good exactly if it is the page that its own map calls for.
+fn read_commit_page(page: &Page) -> CommitPage {
+    let map = u16::from_be_bytes([page[1], page[2]]);
+    if map == 0 {
+        return if *page == empty_page() { CommitPage::Empty } else { CommitPage::Damaged };
+    }
+    let named: Vec<Record> = (0..RECORDS as u8).filter(|r| map & 0x8000 >> r != 0).map(Record).collect();
+    if *page == committed_page(&named) {
+        CommitPage::Committed(named)
+    } else {
+        CommitPage::Damaged
+    }
+}

@@ -1,0 +1,13 @@
+//! What the tests share: playing a case on two programs and comparing all that can be seen of it.
+
+pub mod case;
+pub mod check;
+pub mod exhaustive;
+pub mod listed;
+pub mod minimise;
+pub mod random;
+pub mod report;
+pub mod settings;
+
+pub use case::{Case, Played, Program};
+pub use check::{check, Fault};

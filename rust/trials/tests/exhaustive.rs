@@ -1,0 +1,56 @@
+//! Every short list over small alphabets, from fresh, used, committed and damaged stores.
+
+use nekahuiro_lists::stores::{self, Bytes};
+use nekahuiro_lists::Rng;
+use nekahuiro_trials::exhaustive::{Choice, Family, CONTENDED, CRASHING, INHERITED, NESTED, STRAY};
+use nekahuiro_trials::{settings, Program};
+use std::time::Instant;
+
+/// Records 0 and 15 are committed and not yet copied home.
+fn committed() -> Bytes {
+    stores::committed(&mut Rng::new(7), 0x8001)
+}
+
+fn play(name: &str, store: Bytes, alphabet: &str, prefix: &str, length: usize, choice: Choice) {
+    let (start, length) = (Instant::now(), settings::length(length));
+    let family = Family { program: Program::Engine, store, alphabet, prefix, length, choice };
+    match family.play() {
+        Ok(lists) => println!("{name}: {lists} lists of up to {length} events, {:.1} s", start.elapsed().as_secs_f64()),
+        Err(text) => panic!("{name}: {text}"),
+    }
+}
+
+#[test]
+fn every_short_list() {
+    for (name, alphabet) in [("nested", NESTED), ("contended", CONTENDED), ("crashing", CRASHING), ("stray", STRAY)] {
+        play(&format!("{name}, fresh"), stores::fresh(), alphabet, "", 5, Choice::Every);
+        play(&format!("{name}, committed"), committed(), alphabet, "", 4, Choice::Every);
+    }
+}
+
+#[test]
+fn every_short_list_after_a_lock() {
+    for (name, alphabet) in [("nested", NESTED), ("contended", CONTENDED), ("crashing", CRASHING)] {
+        let prefix = "recover 63, begin none, lock 0 0";
+        play(&format!("{name}, locked"), committed(), alphabet, prefix, 4, Choice::Every);
+    }
+}
+
+#[test]
+fn every_short_list_on_damaged_stores() {
+    for way in 0..stores::DAMAGES {
+        let store = stores::damaged(&mut Rng::new(way as u64), way);
+        play(&format!("damaged in way {way}"), store, CRASHING, "", 4, Choice::Every);
+    }
+}
+
+#[test]
+fn longer_lists_of_accepted_events() {
+    for (name, alphabet) in [("nested", NESTED), ("contended", CONTENDED), ("crashing", CRASHING)] {
+        for (kind, store, length) in [("fresh", stores::fresh(), 8), ("committed", committed(), 7)] {
+            play(&format!("{name}, accepted, {kind}"), store, alphabet, "recover 63", length, Choice::AcceptedButLast);
+        }
+    }
+    let prefix = "recover 63, begin none";
+    play("inherited, accepted", committed(), INHERITED, prefix, 10, Choice::AcceptedButLast);
+}

@@ -1,0 +1,32 @@
+//! Copies of the ordinary player with one bug each: the same tests must find every one.
+
+use nekahuiro_lists::stores;
+use nekahuiro_player::planted::Bug;
+use nekahuiro_trials::exhaustive::{Choice, Family, CONTENDED, CRASHING, INHERITED, NESTED};
+use nekahuiro_trials::{random, settings, Program};
+
+#[test]
+fn random_lists_find_every_planted_bug() {
+    for bug in Bug::ALL {
+        let (tally, failure) = random::search(Program::Planted(bug), Program::Player, settings::seed(), 20_000);
+        let text = failure.unwrap_or_else(|| panic!("{bug:?} was not found in {}", tally.text()));
+        println!("{bug:?} was found after {}:\n{text}", tally.text());
+    }
+}
+
+#[test]
+fn exhaustive_lists_find_every_planted_bug() {
+    for bug in Bug::ALL {
+        let text = (2..=9).find_map(|length| shortest(bug, length)).unwrap_or_else(|| panic!("{bug:?} was not found"));
+        println!("{bug:?} was found:\n{text}");
+    }
+}
+
+/// A failing list of up to this many events after the first two.
+fn shortest(bug: Bug, length: usize) -> Option<String> {
+    let wide: &[&str] = if length <= 6 { &[NESTED, CONTENDED, CRASHING] } else { &[] };
+    wide.iter().chain(&[INHERITED]).find_map(|alphabet| {
+        let (program, store, prefix) = (Program::Planted(bug), stores::fresh(), "recover 63, begin none");
+        Family { program, store, alphabet, prefix, length, choice: Choice::AcceptedButLast }.play().err()
+    })
+}

@@ -1,0 +1,82 @@
+//! The wrapper takes anything without a panic, and its words and words of bits agree.
+
+use nekahuiro::{describe, why_bad, Answer, CommitPage, Event, Fields, Refusal, Store, Transaction};
+use nekahuiro_lists::Rng;
+use nekahuiro_player::event::decode;
+
+#[test]
+fn every_word_is_taken_apart_and_put_together() {
+    let mut rng = Rng::new(4);
+    for round in 0..2_000_000u32 {
+        // All kinds and transactions in the high bits; few low bits, so that good words come up.
+        let bits = (round << 23) | (rng.bits() as u32 & rng.bits() as u32 & rng.bits() as u32 & 0x007F_FFFF);
+        let word = bits.to_be_bytes();
+        assert_eq!(Fields::of(word).word(), word);
+        assert_eq!(Event::of(word).is_some(), decode(word).is_some(), "{bits:08X}");
+        assert_eq!(why_bad(word).is_none(), Event::of(word).is_some());
+        if let Some(event) = Event::of(word) {
+            assert_eq!(event.word(), word);
+            assert_eq!(describe(word).parse(), Ok(event));
+        }
+    }
+}
+
+#[test]
+fn junk_text_is_an_error_with_a_reason_and_a_mend() {
+    let parts = [
+        "begin",
+        "lock",
+        "write",
+        "none",
+        "",
+        "0",
+        "31",
+        "32",
+        "-1",
+        "+1",
+        "99999999999",
+        "A5",
+        "ü",
+        "\0",
+        "63",
+        "recover",
+    ];
+    let mut rng = Rng::new(6);
+    for _ in 0..100_000 {
+        let line: Vec<&str> = (0..rng.below(7)).filter_map(|_| rng.pick(&parts).copied()).collect();
+        if let Err(bad) = line.join(" ").parse::<Event>() {
+            assert!(!bad.reason.is_empty() && !bad.mend.is_empty());
+        }
+    }
+}
+
+#[test]
+fn any_bytes_can_be_played() {
+    let mut rng = Rng::new(8);
+    for _ in 0..2_000 {
+        let length = rng.below(200);
+        let words: Vec<u8> = (0..length).map(|_| rng.byte()).collect();
+        let mut store = Store::of(&[rng.byte(); 1056]).unwrap();
+        match store.play_words(&words) {
+            Ok(answers) => assert!(length % 4 == 0 && answers.len() == length / 4),
+            Err(refusal) => assert!(length % 4 != 0 && refusal == Refusal::List),
+        }
+    }
+    let long = vec![Event::Crash; 4097];
+    assert_eq!(Store::fresh().play(&long), Err(Refusal::List));
+}
+
+#[test]
+fn every_number_has_words() {
+    for number in 0..=255 {
+        let answer = Answer { number, value: 1 };
+        assert!(!answer.to_string().is_empty());
+        assert_eq!(answer.refusal().is_none(), answer.is_accepted());
+        assert_eq!(Refusal::of(number).number(), number);
+        assert!(!Refusal::of(number).to_string().is_empty());
+    }
+    assert_eq!(Store::of(&[0; 5]), Err(Refusal::Store));
+    assert_eq!(Store::fresh().commit_page(), CommitPage::Empty);
+    assert_eq!(Store::fresh().page(33), [0; 32]);
+    assert_eq!(Event::Begin { parent: Transaction::NONE }.to_string(), "begin none");
+}

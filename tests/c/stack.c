@@ -1,0 +1,94 @@
+/* How much stack the calls use: each runs on a painted stack, and the paint that is gone is counted.
+ * The exit status is 0 only if it is less than the header says. */
+
+#define _POSIX_C_SOURCE 200809L
+
+#include "nekahuiro.h"
+
+#include <pthread.h>
+#include <stdio.h>
+#include <stdlib.h>
+#include <string.h>
+
+#define STACK_BYTES (1 << 20)
+#define PAINT 0xA7
+
+static uint8_t store[NEKAHUIRO_STORE_BYTES], work[NEKAHUIRO_WORK_BYTES];
+static uint8_t events[NEKAHUIRO_EVENTS * NEKAHUIRO_EVENT_BYTES], answers[NEKAHUIRO_EVENTS * NEKAHUIRO_ANSWER_BYTES];
+static int played = 0;
+
+static void put(size_t at, uint32_t bits)
+{
+    for (int i = 0; i < NEKAHUIRO_EVENT_BYTES; i++)
+        events[at * NEKAHUIRO_EVENT_BYTES + i] = (uint8_t)(bits >> (24 - 8 * i));
+}
+
+/* Every kind of event with every path of commit and recover: nest, write all records, commit up, cut. */
+static size_t make_list(void)
+{
+    size_t at = 0;
+
+    put(at++, 0x80003F00);
+    put(at++, 0x1F800000);
+    for (uint32_t t = 0; t + 1 < NEKAHUIRO_DEPTH_LIMIT; t++)
+        put(at++, 0x10000000 | t << 23);
+    for (uint32_t t = NEKAHUIRO_DEPTH_LIMIT; t-- > 0;) {
+        for (uint32_t r = 0; r < NEKAHUIRO_RECORDS; r++) {
+            put(at++, 0x20000000 | t << 23 | r << 19);
+            put(at++, 0x30000055 | t << 23 | r << 19);
+            put(at++, 0x40000000 | t << 23 | r << 19);
+        }
+        put(at++, 0x50000000 | t << 23 | (t == 0 ? 20u : 63u) << 8);
+    }
+    put(at++, 0x80003F00);
+    put(at++, 0x1F800000);
+    put(at++, 0x60000000);
+    put(at++, 0x70000000);
+    return at;
+}
+
+static void *nothing(void *unused)
+{
+    return unused;
+}
+
+static void *calls(void *unused)
+{
+    int64_t age = 0;
+    size_t length = make_list();
+
+    played = nekahuiro_fresh(store, sizeof store) == 0
+             && nekahuiro_run(store, sizeof store, events, length * NEKAHUIRO_EVENT_BYTES, work, sizeof work, answers,
+                              sizeof answers) == 0
+             && nekahuiro_age(store, sizeof store, 3, 5, 10, &age) <= NEKAHUIRO_STALE;
+    return unused;
+}
+
+static size_t stack_used(void *(*body)(void *))
+{
+    uint8_t *stack = aligned_alloc(4096, STACK_BYTES);
+    pthread_attr_t attributes;
+    pthread_t thread;
+    size_t clean = 0;
+
+    if (!stack)
+        exit(2);
+    memset(stack, PAINT, STACK_BYTES);
+    pthread_attr_init(&attributes);
+    if (pthread_attr_setstack(&attributes, stack, STACK_BYTES) || pthread_create(&thread, &attributes, body, NULL))
+        exit(2);
+    pthread_join(thread, NULL);
+    while (clean < STACK_BYTES && stack[clean] == PAINT)
+        clean++;
+    free(stack);
+    return STACK_BYTES - clean;
+}
+
+int main(void)
+{
+    size_t base = stack_used(nothing), used = stack_used(calls);
+
+    used = used > base ? used - base : 0;
+    printf("stack: the calls use %zu bytes, the header allows %d\n", used, NEKAHUIRO_STACK_BYTES);
+    return !played || used > NEKAHUIRO_STACK_BYTES;
+}

@@ -1,0 +1,159 @@
+#!/usr/bin/env bash
+# The command line, as a user meets it: what works, what is refused, and that nothing is lost.
+set -uo pipefail
+root=$(cd "$(dirname "${BASH_SOURCE[0]}")/.." && pwd)
+run=$root/nekahuiro
+binary=${CARGO_TARGET_DIR:-$root/rust/target}/release/nekahuiro-cli # what the script runs in the end
+folder=$(mktemp -d)
+mounted=
+trap '[ -z "$mounted" ] || umount "$mounted"; rm -rf "$folder"' EXIT
+cd "$folder" || exit 1
+passed=0 failed=0
+
+report() { # NAME STATUS: counts a test; a failed one shows what was written
+    if [ "$2" = 0 ]; then passed=$((passed + 1)); return; fi
+    failed=$((failed + 1))
+    printf 'FAILED: %s\n--- output\n%s\n--- errors\n%s\n' "$1" "$(head -40 out)" "$(head -40 err)"
+}
+ok() { # NAME PATTERN COMMAND..: succeeds, and its output has the pattern
+    local name=$1 pattern=$2; shift 2
+    "$@" >out 2>err; local status=$?
+    [ $status = 0 ] && grep -qE -- "$pattern" out; report "$name" $?
+}
+fails() { # NAME STATUS PATTERN COMMAND..: fails with this status, and its message has the pattern
+    local name=$1 due=$2 pattern=$3; shift 3
+    "$@" >out 2>err; local status=$?
+    [ $status = "$due" ] && grep -qE -- "$pattern" err; report "$name" $?
+}
+same() { cmp -s "$2" "$3"; report "$1" $?; }       # NAME FILE FILE
+holds() { local name=$1; shift; "$@" >/dev/null 2>&1; report "$name" $?; } # NAME TEST..
+text() { printf '%b' "$1" >"$2"; }
+no_leftovers() { [ -z "$(find "$1" -name '.*.new')" ]; report "no file is left over in $1" $?; }
+
+# The worked list.
+ok "demo" "record 3 is 0000A500" "$run" demo
+ok "help" "encode" "$run" help
+ok "bench" "^mixed [0-9]+\.[0-9] [0-9]+\.[0-9] [0-9]+\.[0-9][0-9]$" "$run" bench --quick
+fails "bench with something else" 2 "bench takes" "$run" bench --frob
+ok "fresh" "1056 bytes" "$run" fresh store
+ok "show a fresh store" "empty, no commit is under way" "$run" show store
+text '80003F00 1F800000 10000000 # three words\n20980000\n309880A5\n50803F00\n' hex.txt
+text '10000000\n20980000\n30988011\n60800000\n50000200\n' rest.txt
+cat rest.txt >>hex.txt
+ok "play hex words" "^50000200 0B02$" "$run" play store hex.txt
+ok "a cut commit shows its intention page" "3  intention page 4 +0000A500" "$run" show store
+ok "the commit page in words" "15 10 00 08 \.\.\): committed, record 3" "$run" show store
+text 'recover 63\nbegin none\n\nlock 0 3  # a comment\nread 0 3 2\n' words.txt
+ok "play words" "^40188000 00A5$" "$run" play store words.txt
+ok "recovered" "3  home page 20 +0000A500" "$run" show store
+ok "age of a record" "^ahead -42235$" "$run" age store 3 5 10
+ok "age at the limit" "^live 5$" "$run" age store 2 5 5
+ok "age above the limit" "^stale 6$" "$run" age store 2 6 5
+
+# Words, hex and raw bytes are one list.
+ok "words to a word" "^309880A5$" "$run" encode write 1 3 2 A5
+ok "a word to words" "^write 1 3 2 A5$" "$run" encode 309880A5
+ok "a bad word to words" "bad, answered 1" "$run" encode 70000001
+ok "raw bytes to words" "^lock 0 3$" bash -c "'$run' encode --raw <words.txt | '$run' encode"
+bash -c "'$run' encode --raw <words.txt >raw.bin"
+ok "play raw bytes" "^40188000 00A5$" "$run" play store raw.bin
+ok "play standard input" "^40188000 00A5$" bash -c "'$run' play store - <words.txt"
+
+# Answers, trace and picture.
+ok "answers to a file" "4 events: 4 done" "$run" play store words.txt --answers answers.bin
+text '\x00\x00\x00\x00\x00\x00\x00\xA5' due.bin
+same "the answers" answers.bin due.bin
+ok "trace" "record 3 held by 0" "$run" play store words.txt --trace
+ok "another store" "a fresh store" "$run" fresh other
+ok "trace of a crash" "transaction 0 survives: the commit page was written" "$run" play other hex.txt --trace --dry
+ok "picture" "11 events" "$run" play other hex.txt --picture run.svg
+holds "the picture is SVG" grep -q '</svg>' run.svg
+cp store before
+ok "a dry run" "11 events" "$run" play store hex.txt --dry
+same "a dry run leaves the store" store before
+
+# Bad input: the line, the reason and the mend; the store stays.
+text 'recover 63\nbegin none\nlock 0 17\n' bad.txt
+fails "bad record" 1 "bad.txt, line 3: the record .17. isn't a number from 0 to 15" "$run" play store bad.txt
+holds "bad record: the mend" grep -q 'write `lock TRANSACTION RECORD`' err
+fails "unknown event" 1 "line 1: .lok. is no event" bash -c "echo lok 0 1 | '$run' play store -"
+fails "a word missing" 1 "the count is missing" bash -c "echo recover | '$run' play store -"
+fails "a word too many" 1 "one word too many" bash -c "echo crash now | '$run' play store -"
+fails "bad value" 1 "isn't a hex number" bash -c "echo write 0 0 0 100 | '$run' play store -"
+fails "short hex word" 1 "8 hex digits" bash -c "echo 8000F | '$run' play store -"
+fails "raw bytes cut off" 1 "3 raw bytes" bash -c "head -c 3 raw.bin | '$run' play store -"
+fails "too many events" 1 "4097 events" bash -c "yes crash | head -4097 | '$run' play store -"
+ok "as many events as there may be" "4096 events" bash -c "yes crash | head -4096 | '$run' play store - --answers a4096"
+ok "an empty list" "^0 events" bash -c "'$run' play store - </dev/null"
+head -c 1055 store >short
+fails "short store" 1 "1055 bytes .refused 22" "$run" play short words.txt
+fails "no store" 1 "can't read nothing" "$run" show nothing
+fails "a folder for a store" 1 "can't read" "$run" play . words.txt
+fails "no list" 1 "can't read nothing" "$run" play store nothing
+fails "record 16" 1 "refused 23" "$run" age store 16 0 0
+fails "clock below 0" 2 "isn't a number of minutes" "$run" age store 3 -5 0
+fails "no command" 2 "no command given" "$run"
+fails "unknown command" 2 "no command .frob." "$run" frob
+fails "unknown option" 2 "knows no" "$run" play store words.txt --frob
+fails "option without a file" 2 "needs a file" "$run" play store words.txt --answers
+fails "answers over the store" 2 "store is named twice" "$run" play store words.txt --answers ./store
+fails "picture over the list" 2 "words.txt is named twice" "$run" play store words.txt --picture words.txt
+fails "fresh over a store" 1 "is there already" "$run" fresh store
+same "all refused: the store stays" store before
+{ printf '\x15'; head -c 1055 /dev/zero; } >damaged
+cp damaged damaged.before
+ok "a damaged store in words" "damaged, it says committed but names no record" "$run" show damaged
+fails "age of a damaged store" 1 "refused 4" "$run" age damaged 3 0 0
+ok "play on a damaged store" "^80003F00 0400$" "$run" play damaged words.txt
+same "a damaged store stays" damaged damaged.before
+
+# Files that can't be written: a clear message, nothing lost, nothing left over.
+text 'recover 63\nbegin none\nlock 0 5\nwrite 0 5 0 77\ncommit 0 63\n' change.txt
+chmod 444 store
+fails "read-only store" 1 "store: it is read-only" "$run" play store change.txt
+chmod 644 store
+fails "answers into a missing folder" 1 "can't write missing/a" "$run" play store change.txt --answers missing/a
+fails "answers onto a folder" 1 "is a directory" "$run" play store change.txt --answers .
+fails "answers to a full device" 1 "No space left" "$run" play store change.txt --answers /dev/full
+fails "picture to a full device" 1 "No space left" "$run" play store change.txt --picture /dev/full
+fails "output to a full device" 1 "standard output: No space left" bash -c "'$run' play store change.txt >/dev/full"
+holds "the full device is still there" test -c /dev/full
+# A file may have 1,024 bytes and a store has more: the write stops halfway.
+fails "no room for the store" 1 "can't write store: File too large" \
+    bash -c "trap '' XFSZ; ulimit -f 1; '$binary' play store change.txt"
+same "nothing lost" store before
+no_leftovers .
+if [ "$(id -u)" = 0 ] && mkdir disk && mount -t tmpfs -o size=8k tmpfs disk 2>/dev/null; then
+    mounted=$folder/disk
+    cp store disk/store
+    head -c 100000 /dev/zero >disk/filler 2>/dev/null
+    fails "full disk" 1 "can't write disk/store: No space left" "$run" play disk/store change.txt
+    same "full disk: nothing lost" disk/store before
+    rm disk/filler
+    mount -o remount,ro disk
+    fails "read-only disk" 1 "can't write disk/store: Read-only file system" "$run" play disk/store change.txt
+    same "read-only disk: nothing lost" disk/store before
+    no_leftovers disk
+else
+    echo "command line: no small disk can be mounted here; a full disk is tried by a size limit and /dev/full only"
+fi
+if [ "$(id -u)" = 0 ] && command -v setpriv >/dev/null; then
+    mkdir locked; cp store locked/store; chmod 666 locked/store; chmod 755 locked "$folder"
+    cp "$binary" locked/run; cp change.txt locked/
+    fails "read-only folder" 1 "can't write locked/store: Permission denied" \
+        setpriv --reuid 65534 --regid 65534 --clear-groups locked/run play locked/store locked/change.txt
+    same "read-only folder: nothing lost" locked/store before
+fi
+
+# What succeeds replaces the file itself, also behind a link, and keeps its permissions.
+ln -s store link; chmod 640 store
+ok "play through a link" "5 events: 5 done" "$run" play link change.txt
+holds "the link is still a link" test -L link
+holds "permissions stay" test "$(stat -c %a store)" = 640
+ok "the change is there" "5  home page 22 +77000000" "$run" show store
+ok "fresh --force" "a fresh store" "$run" fresh store --force
+ok "and it is fresh" "5  home page 22 +00000000" "$run" show store
+no_leftovers .
+
+printf 'command line: %d passed, %d failed\n' "$passed" "$failed"
+[ "$failed" = 0 ]
