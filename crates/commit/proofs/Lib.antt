@@ -2,3 +2,4 @@
 pub mod Phases
 pub mod Sweeps
 pub mod Plans
+pub mod Arguments

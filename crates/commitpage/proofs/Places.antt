@@ -1,12 +1,12 @@
 -- The bytes of a commit page, one by one; a page is read by comparing it with the commit page of the map that stands in it.
 use mathlib.Core.Path.{_≡_, refl, sym, ap, ap₂, _∙_}
 use mathlib.Core.Bool.{Bool, true, false, cond, true≢false}
-use mathlib.Core.Option.{Option, none, some}
-use mathlib.Core.List.{List, [], _∷_}
-use Prim.Native.Nat.{ℕ, zero, suc, _+_, _-_, _*_, _/_, _%_, _^_, _≤_, _<_}
-use native.Mathlib.Nat.{div-div-eq-div-mul, pow-suc, mul-comm, mul-assoc, add-mul, mul-div-cancel, mul-mod-left}
+use mathlib.Core.Option.{none, some}
+use mathlib.Core.List.{List, _∷_}
+use Prim.Native.Nat.{ℕ, zero, suc, _+_, _-_, _*_, _/_, _%_, _^_, _<_}
+use native.Mathlib.Nat.{div-div-eq-div-mul, pow-suc, mul-comm, mul-assoc, add-mul, mul-div-cancel}
 use native.Mathlib.Omega.{arith}
-use lib.ListN.{length, getD, replicate}
+use lib.ListN.{getD, replicate}
 use Rattle.laws.specs.Tests.{same}
 use Rattle.laws.specs.Counting.{count}
 use Rattle.laws.specs.Bytes.{bytes, sameList}

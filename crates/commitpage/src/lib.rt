@@ -1,9 +1,8 @@
 // The commit page: edition 4 bits, state 4 bits, map 16 bits with record 0 first, count 5 bits, zeros.
 ghost use mathlib.Core.Path.{_≡_};
-ghost use mathlib.Core.Bool.{Bool, cond};
-ghost use mathlib.Core.List.{List};
-ghost use Prim.Native.Nat.{ℕ, _+_, _*_, _/_, _%_, _<_, _≤_};
-ghost use lib.ListN.{length, getD};
+ghost use mathlib.Core.Bool.{cond};
+ghost use Prim.Native.Nat.{_+_, _*_, _/_, _%_, _<_, _≤_};
+ghost use lib.ListN.{length};
 ghost use Rattle.laws.specs.Tests.{same};
 ghost use Rattle.laws.specs.Counting.{count};
 ghost use Rattle.laws.specs.Bytes.{sameList};

@@ -1,8 +1,6 @@
 -- The event of the rules that an event of each kind stands for.
-use mathlib.Core.Path.{_≡_, refl, ap, _∙_}
-use mathlib.Core.Option.{Option, none, some}
-use Prim.Native.Nat.{ℕ, _<_, _≤_}
-use lib.ListN.{List·getD-eq-default}
+use mathlib.Core.Path.{_≡_, refl}
+use mathlib.Core.Option.{none, some}
 use Rattle.rules.specs.Event.{eventOf, begin, lock, write, read, commit, abort, crash, recover}
 use Rattle.event.specs.Meaning.{meaning, fieldsOf}
 use Rattle.event.specs.declared.Event.{Event}

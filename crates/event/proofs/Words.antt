@@ -1,71 +1,100 @@
--- The table of used fields is the rules' table; a word of four bytes; the event of each kind.
+-- The table of used fields is the rules' table, and the test against it is theirs; a word of four bytes.
 use mathlib.Core.Path.{_≡_, refl, sym, ap, ap₂, _∙_}
-use mathlib.Core.Bool.{Bool, true, false, cond, _&&_, _||_, true≢false}
-use mathlib.Core.List.{List, [], _∷_, _++_}
+use mathlib.Core.Bool.{Bool, true, false, not, cond, _&&_, _||_, true≢false}
+use mathlib.Core.List.{List, [], _∷_}
 use mathlib.Core.Logic.{dite}
-use mathlib.Core.Option.{Option, none, some}
+use mathlib.Core.Option.{Option, none}
 use Prim.Native.Nat.{ℕ, zero, suc, _+_, _*_, _/_, _%_, _^_, _<_, _≤_}
-use native.Mathlib.Nat.{mod-one, add-zero}
+use native.Mathlib.Nat.{mod-one, mod-eq-of-lt, lt-of-le-of-lt, add-zero, zero-add}
 use native.Mathlib.Decide.{decLt}
 use native.Mathlib.Omega.{arith}
-use lib.ListN.{length, getD, take, drop, replicate, length-drop, List·getD-map, List·getD-eq-default}
+use lib.Bits.{bitAnd, bitXor, and-le-l}
+use lib.ListN.{length, getD, take, drop, length-drop, List·getD-eq-default}
 use lib.Seq.{getD-drop, drop-drop}
 use Rattle.laws.specs.Tests.{same}
+use Rattle.laws.specs.Counting.{all}
+use Rattle.laws.specs.Bits.{bits}
 use Rattle.laws.specs.Bytes.{number, numberFrom}
+use Rattle.laws.proofs.Tests.{same-refl, same-eq, Is, is?, yes′, no′}
+use Rattle.laws.proofs.Booleans.{both, or-cases}
+use Rattle.laws.proofs.All.{and-false, all-plus, all-same, all-at}
+use Rattle.laws.proofs.Bits.{within-is, field-within}
 use Rattle.rules.specs.Geometry.{wordSize}
-use Rattle.rules.specs.Event.{Fields, field, fields, Uses, uses, usesOf, noKind, row, wellFormed, eventOf, decode}
+use Rattle.rules.specs.Event.{Event, Fields, field, fields, Uses, uses, usesOf, noKind, row, wellFormed, eventOf, decode}
 use Rattle.rules.specs.Run.{words}
 use Rattle.rules.specs.Editions.{geometry1}
-use Rattle.laws.proofs.Tests.{same-refl}
 use Rattle.event.specs.Meaning.{fieldsOf}
 
+-- the code's table
 abbrev pub flags : List ℕ
-flags = 0 ∷ 33 ∷ 35 ∷ 55 ∷ 39 ∷ 41 ∷ 33 ∷ 32 ∷ 40 ∷ 0 ∷ 0 ∷ 0 ∷ 0 ∷ 0 ∷ 0 ∷ 0 ∷ []
+flags =
+    0 ∷ 0xFF800000 ∷ 0xFFF80000 ∷ 0xFFFFC0FF ∷ 0xFFFFC000 ∷ 0xFF803F00 ∷ 0xFF800000 ∷ 0xF0000000 ∷ 0xF0003F00 ∷
+    0 ∷ 0 ∷ 0 ∷ 0 ∷ 0 ∷ 0 ∷ 0 ∷ []
 
--- the flags of a table's entry
-abbrev pub flagged : ℕ → Uses
-flagged x =
-    record {
-      known = same (x / 32 % 2) 1;
-      transaction = same (x % 2) 1;
-      rec = same (x / 2 % 2) 1;
-      offset = same (x / 4 % 2) 1;
-      count = same (x / 8 % 2) 1;
-      value = same (x / 16 % 2) 1;
-    }
+abbrev agrees : Bool → Bool → Bool
+agrees true b = b
+agrees false b = not b
 
--- the table's entries past the rules' last kind say that there is no such kind
-padded : {A : Type 0} (d : A) (n : ℕ) (xs : List A) (k : ℕ) → getD (xs ++ replicate n d) k d ≡ getD xs k d
-padded d zero [] k = refl
-padded d (suc n) [] zero = refl
-padded d (suc n) [] (suc k) = padded d n [] k
-padded d n (x ∷ xs) zero = refl
-padded d n (x ∷ xs) (suc k) = padded d n xs k
+-- the bits of m from place a, n of them, are all f
+abbrev flagged : ℕ → ℕ → ℕ → Bool → Bool
+flagged m a n f = all n (λ k. agrees (bits m (a + k)) f)
 
-pub table : (k : ℕ) → flagged (getD flags k 0) ≡ usesOf k
-unfolding same uses usesOf noKind row
-table k = sym (List·getD-map flagged flags k 0) ∙ padded noKind 7 uses k
+-- an entry of the table flags the fields of a row of the rules' table, and the kind's own where there is such a kind
+abbrev flagsRow : ℕ → Uses → Bool
+flagsRow m u =
+    flagged m 0 8 (u .value) && flagged m 8 6 (u .count) && flagged m 14 5 (u .offset) && flagged m 19 4 (u .rec) && flagged m 23 5 (u .transaction) &&
+    flagged m 28 4 (u .known)
 
-and-true : (b : Bool) → (b && true) ≡ b
-and-true true = refl
-and-true false = refl
+-- the whole table at once: it computes
+table : all 16 (λ k. flagsRow (getD flags k 0) (usesOf k)) ≡ true
+unfolding all bits same uses usesOf noKind row
+table = refl
 
--- fields against a row of the table
-abbrev pub judged : Uses → ℕ → ℕ → ℕ → ℕ → ℕ → Bool
-judged u t r o c v =
-    u .known && (u .transaction || same t 0) && (u .rec || same r 0) && (u .offset || same o 0) && (u .count || same c 0) && (u .value || same v 0)
+agreed : (a b : Bool) → agrees a b ≡ true → a ≡ b
+agreed true true e = refl
+agreed true false e = sym e
+agreed false true e = e
+agreed false false e = refl
 
-pub well-formed : (k t r o c v : ℕ) → judged (flagged (getD flags k 0)) t r o c v ≡ wellFormed (fieldsOf k t r o c v)
-unfolding wellFormed fieldsOf
-well-formed k t r o c v =
-    ap (λ (u : Uses). judged u t r o c v) (table k) ∙ sym (ap (λ (b : Bool). judged (usesOf k) t r o c v && b) (same-refl 0) ∙ and-true (judged (usesOf k) t r o c v))
+flags-at : (m a n : ℕ) (f : Bool) → flagged m a n f ≡ true → (k : ℕ) → k < n → bits m (a + k) ≡ f
+flags-at m a n f e k h = agreed (bits m (a + k)) f (all-at n (λ k. agrees (bits m (a + k)) f) e k h)
 
--- a well-formed kind is one that there is
-pub known-lt : (k t r o c v : ℕ) → wellFormed (fieldsOf k t r o c v) ≡ true → k < 9
-unfolding wellFormed fieldsOf usesOf uses noKind row
-known-lt k t r o c v e =
-    dite (decLt k 9) (λ lt. lt) (λ ge.
-    absurd (true≢false (sym e ∙ ap (λ (u : Uses). judged u t r o c v && same 0 0) (List·getD-eq-default uses noKind {n = k} (omega arith)))))
+-- a word is within its kind's flags exactly if each field is used or 0, from the value up to the kind
+abbrev judgedBelow : Uses → ℕ → ℕ → ℕ → ℕ → ℕ → Bool
+judgedBelow u t r o c v =
+    (u .value || same v 0) && (u .count || same c 0) && (u .offset || same o 0) && (u .rec || same r 0) && (u .transaction || same t 0)
+
+abbrev judged : Uses → ℕ → ℕ → ℕ → ℕ → ℕ → ℕ → Bool
+judged u k t r o c v = judgedBelow u t r o c v && (u .known || same k 0)
+
+split : (p : ℕ → Bool) → all 32 p
+    ≡ (all 8 p && all 6 (λ k. p (8 + k)) && all 5 (λ k. p (14 + k)) && all 4 (λ k. p (19 + k)) && all 5 (λ k. p (23 + k)) && all 4 (λ k. p (28 + k)))
+split p =
+    all-plus 28 4 p
+    ∙ ap (λ (b : Bool). b && all 4 (λ k. p (28 + k))) (all-plus 23 5 p
+    ∙ ap (λ (b : Bool). b && all 5 (λ k. p (23 + k))) (all-plus 19 4 p
+    ∙ ap (λ (b : Bool). b && all 4 (λ k. p (19 + k))) (all-plus 14 5 p
+    ∙ ap (λ (b : Bool). b && all 5 (λ k. p (14 + k))) (all-plus 8 6 p))))
+
+module _ (w m : ℕ) (u : Uses) (right : flagsRow m u ≡ true) where
+  fields-within : all 32 (λ k. not (bits w k) || bits m k)
+      ≡ judged u (w / 268435456 % 16) (w / 8388608 % 32) (w / 524288 % 16) (w / 16384 % 32) (w / 256 % 64) (w / 1 % 256)
+  fields-within =
+      let a = both (flagged m 0 8 (u .value) && flagged m 8 6 (u .count) && flagged m 14 5 (u .offset) && flagged m 19 4 (u .rec) && flagged m 23 5 (u .transaction)) (flagged m 28 4 (u .known)) right in
+      let b = both (flagged m 0 8 (u .value) && flagged m 8 6 (u .count) && flagged m 14 5 (u .offset) && flagged m 19 4 (u .rec)) (flagged m 23 5 (u .transaction)) (a .0) in
+      let c = both (flagged m 0 8 (u .value) && flagged m 8 6 (u .count) && flagged m 14 5 (u .offset)) (flagged m 19 4 (u .rec)) (b .0) in
+      let d = both (flagged m 0 8 (u .value) && flagged m 8 6 (u .count)) (flagged m 14 5 (u .offset)) (c .0) in
+      let e = both (flagged m 0 8 (u .value)) (flagged m 8 6 (u .count)) (d .0) in
+      let z : all 8 (λ k. not (bits w k) || bits m k) ≡ all 8 (λ k. not (bits w (0 + k)) || bits m (0 + k)) =
+      all-same 8 _ _ (λ k lt. ap (λ (j : ℕ). not (bits w j) || bits m j) (sym (zero-add k))) in
+      split (λ k. not (bits w k) || bits m k)
+      ∙ ap₂ _&&_ (ap₂ _&&_ (ap₂ _&&_ (ap₂ _&&_ (ap₂ _&&_
+      (z ∙ field-within w m 0 8 (u .value) (flags-at m 0 8 (u .value) (e .0)))
+      (field-within w m 8 6 (u .count) (flags-at m 8 6 (u .count) (e .1))))
+      (field-within w m 14 5 (u .offset) (flags-at m 14 5 (u .offset) (d .1))))
+      (field-within w m 19 4 (u .rec) (flags-at m 19 4 (u .rec) (c .1))))
+      (field-within w m 23 5 (u .transaction) (flags-at m 23 5 (u .transaction) (b .1))))
+      (field-within w m 28 4 (u .known) (flags-at m 28 4 (u .known) (a .1)))
 
 -- the fields of a word of the first edition
 abbrev pub partsOf : ℕ → Fields
@@ -85,9 +114,87 @@ fields-are w =
       spare = mod-one (w / 1) i;
     }
 
-pub decode-is : (w : ℕ) → decode geometry1 w ≡ cond (wellFormed (partsOf w)) (eventOf (partsOf w)) none
+decode-is : (w : ℕ) → decode geometry1 w ≡ cond (wellFormed (partsOf w)) (eventOf (partsOf w)) none
 unfolding decode
 decode-is w = ap (λ (f : Fields). cond (wellFormed f) (eventOf f) none) (fields-are w)
+
+-- the code's test: no bit outside the flags of the word's kind
+abbrev pub flagsOf : ℕ → ℕ
+flagsOf w = getD flags (w / 268435456 % 16) 0
+
+judged-word : ℕ → Bool
+judged-word w = judged (usesOf (w / 268435456 % 16)) (w / 268435456 % 16) (w / 8388608 % 32) (w / 524288 % 16) (w / 16384 % 32) (w / 256 % 64) (w / 1 % 256)
+
+test-is : (w : ℕ) → w < 2 ^ 32 → same (bitAnd w (bitXor w (flagsOf w))) 0 ≡ judged-word w
+unfolding judged-word
+test-is w h =
+    ap (λ (x : ℕ). same x 0) (sym (mod-eq-of-lt (lt-of-le-of-lt (and-le-l w (bitXor w (flagsOf w))) h)))
+    ∙ within-is 32 w (flagsOf w)
+    ∙ fields-within w (flagsOf w) (usesOf (w / 268435456 % 16))
+    (all-at 16 (λ k. flagsRow (getD flags k 0) (usesOf k)) table (w / 268435456 % 16) (omega arith))
+
+-- the rules' order of the same tests, for a kind that there is
+turned : (n t r o c v z : Bool) → n ≡ true → (n && t && r && o && c && v && true) ≡ (v && c && o && r && t && (n || z))
+turned false t r o c v z e = absurd (true≢false (sym e))
+turned true false r o c v z e = sym (ap (λ (b : Bool). b && true) (and-false (v && c && o && r)))
+turned true true false o c v z e = sym (ap (λ (b : Bool). b && true && true) (and-false (v && c && o)))
+turned true true true false c v z e = sym (ap (λ (b : Bool). b && true && true && true) (and-false (v && c)))
+turned true true true true false v z e = sym (ap (λ (b : Bool). b && true && true && true && true) (and-false v))
+turned true true true true true false z e = refl
+turned true true true true true true z e = refl
+
+unknown : (f : Fields) (k : ℕ) → f .kind ≡ k → usesOf k .known ≡ false → eventOf f ≡ none
+unfolding usesOf uses row noKind eventOf
+unknown f zero q e = rw q refl
+unknown f (suc zero) q e = absurd (true≢false e)
+unknown f (suc (suc zero)) q e = absurd (true≢false e)
+unknown f (suc (suc (suc zero))) q e = absurd (true≢false e)
+unknown f (suc (suc (suc (suc zero)))) q e = absurd (true≢false e)
+unknown f (suc (suc (suc (suc (suc zero))))) q e = absurd (true≢false e)
+unknown f (suc (suc (suc (suc (suc (suc zero)))))) q e = absurd (true≢false e)
+unknown f (suc (suc (suc (suc (suc (suc (suc zero))))))) q e = absurd (true≢false e)
+unknown f (suc (suc (suc (suc (suc (suc (suc (suc zero)))))))) q e = absurd (true≢false e)
+unknown f (suc (suc (suc (suc (suc (suc (suc (suc (suc k))))))))) q e = rw q refl
+
+cond-none : (b : Bool) (x : Option Event) → x ≡ none → cond b x none ≡ none
+cond-none true x e = e
+cond-none false x e = refl
+
+formed-known : (k t r o c v : ℕ) → usesOf k .known ≡ true → wellFormed (fieldsOf k t r o c v) ≡ judged (usesOf k) k t r o c v
+unfolding wellFormed fieldsOf
+formed-known k t r o c v e =
+    let u = usesOf k in
+    ap (λ (b : Bool). u .known && (u .transaction || same t 0) && (u .rec || same r 0) && (u .offset || same o 0) && (u .count || same c 0) && (u .value || same v 0) && b) (same-refl 0)
+    ∙ turned (u .known) (u .transaction || same t 0) (u .rec || same r 0) (u .offset || same o 0) (u .count || same c 0) (u .value || same v 0) (same k 0) e
+
+formed-unknown : (k t r o c v : ℕ) → usesOf k .known ≡ false → wellFormed (fieldsOf k t r o c v) ≡ false
+unfolding wellFormed fieldsOf
+formed-unknown k t r o c v e = rw e refl
+
+-- taken apart, a word that passes the test is the event of its fields, and one that does not is none
+pub decode-by-test : (w : ℕ) → w < 2 ^ 32 → decode geometry1 w ≡ cond (same (bitAnd w (bitXor w (flagsOf w))) 0) (eventOf (partsOf w)) none
+unfolding judged-word fieldsOf
+decode-by-test w h = decode-is w ∙ go (is? (usesOf (w / 268435456 % 16) .known))
+  where
+    go : Is (usesOf (w / 268435456 % 16) .known)
+        → cond (wellFormed (partsOf w)) (eventOf (partsOf w)) none ≡ cond (same (bitAnd w (bitXor w (flagsOf w))) 0) (eventOf (partsOf w)) none
+    go (yes′ e) = ap (λ (b : Bool). cond b (eventOf (partsOf w)) none) (formed-known _ _ _ _ _ _ e ∙ sym (test-is w h))
+    go (no′ e) =
+        ap (λ (b : Bool). cond b (eventOf (partsOf w)) none) (formed-unknown _ _ _ _ _ _ e)
+        ∙ sym (cond-none (same (bitAnd w (bitXor w (flagsOf w))) 0) (eventOf (partsOf w)) (unknown (partsOf w) (w / 268435456 % 16) refl e))
+
+known-lt : (k : ℕ) → usesOf k .known ≡ true → k < 9
+unfolding usesOf uses noKind row
+known-lt k e =
+    dite (decLt k 9) (λ lt. lt) (λ ge.
+    absurd (true≢false (sym e ∙ ap (λ (u : Uses). u .known) (List·getD-eq-default uses noKind {n = k} (omega arith)))))
+
+pub kind-lt : (w : ℕ) → w < 2 ^ 32 → same (bitAnd w (bitXor w (flagsOf w))) 0 ≡ true → w / 268435456 % 16 < 9
+unfolding judged-word
+kind-lt w h e =
+    let k = w / 268435456 % 16 in
+    let q = both (judgedBelow (usesOf k) (w / 8388608 % 32) (w / 524288 % 16) (w / 16384 % 32) (w / 256 % 64) (w / 1 % 256)) (usesOf k .known || same k 0) (sym (test-is w h) ∙ e) in
+    or-cases (usesOf k .known) (same k 0) (q .1) (known-lt k) (λ z. let y = same-eq k 0 z in omega arith)
 
 -- the number of a list's first four bytes
 four : (l : List ℕ) → 4 ≤ length l → number (take 4 l) ≡ getD l 0 0 * 16777216 + getD l 1 0 * 65536 + getD l 2 0 * 256 + getD l 3 0
@@ -111,3 +218,12 @@ unfolding words wordSize
 words-next n k bs =
     let e : 4 * k + 4 ≡ 4 * (k + 1) = omega arith in
     ap (λ (l : List ℕ). number (take 4 (drop (4 * k) bs)) ∷ words geometry1 n l) (drop-drop 4 (4 * k) bs ∙ ap (λ (m : ℕ). drop m bs) e)
+
+-- word k of a list of bytes
+pub words-at : (n k : ℕ) (bs : List ℕ) → k < n → getD (words geometry1 n bs) k 0 ≡ number (take 4 (drop (4 * k) bs))
+unfolding words wordSize
+words-at zero k bs h = absurd (omega arith)
+words-at (suc n) zero bs h = refl
+words-at (suc n) (suc k) bs h =
+    let e : 4 + 4 * k ≡ 4 * suc k = omega arith in
+    words-at n k (drop 4 bs) (omega arith) ∙ ap (λ (l : List ℕ). number (take 4 l)) (drop-drop (4 * k) 4 bs ∙ ap (λ (m : ℕ). drop m bs) e)

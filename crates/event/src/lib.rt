@@ -1,13 +1,11 @@
 // The event word: kind, transaction, record, offset, count and value, most significant first, and the fields that each kind uses.
 ghost use mathlib.Core.Path.{_≡_};
-ghost use mathlib.Core.Bool.{Bool, _||_, _&&_};
-ghost use Prim.Native.Nat.{ℕ, _+_, _*_, _/_, _%_, _<_, _≤_};
+ghost use Prim.Native.Nat.{_+_, _*_, _/_, _%_, _<_, _≤_};
 ghost use lib.ListN.{length, take, drop};
-ghost use Rattle.laws.specs.Tests.{same};
 ghost use Rattle.laws.specs.Bytes.{number};
-ghost use Rattle.rules.specs.Event.{decode, word, wellFormed};
+ghost use Rattle.rules.specs.Event.{decode, word};
 ghost use Rattle.rules.specs.Editions.{geometry1};
-ghost use Rattle.event.specs.Meaning.{meaning, fieldsOf, InRange, Fits};
+ghost use Rattle.event.specs.Meaning.{meaning, InRange, Fits};
 
 // An event by its fields. Kind 0 is a bad event.
 pub struct Event {
@@ -19,8 +17,25 @@ pub struct Event {
     pub value: u8,
 }
 
-// The fields that a kind uses: 1 transaction, 2 record, 4 offset, 8 count, 16 value; 32 marks a kind that there is.
-const USES: [u8; 16] = [0, 33, 35, 55, 39, 41, 33, 32, 40, 0, 0, 0, 0, 0, 0, 0];
+// The fields that a kind uses, the kind's own among them, each flagged by ones at its place in the word. A kind that there isn't uses none.
+const USES: [u32; 16] = [
+    0,
+    Event::KIND | Event::TRANSACTION,
+    Event::KIND | Event::TRANSACTION | Event::RECORD,
+    Event::KIND | Event::TRANSACTION | Event::RECORD | Event::OFFSET | Event::VALUE,
+    Event::KIND | Event::TRANSACTION | Event::RECORD | Event::OFFSET,
+    Event::KIND | Event::TRANSACTION | Event::COUNT,
+    Event::KIND | Event::TRANSACTION,
+    Event::KIND,
+    Event::KIND | Event::COUNT,
+    0,
+    0,
+    0,
+    0,
+    0,
+    0,
+    0,
+];
 
 impl Event {
     // the fields' widths in bits
@@ -62,6 +77,19 @@ impl Event {
 
     pub const KIND_PLACE: u32 = Self::TRANSACTION_PLACE * Self::TRANSACTION_SPAN;
 
+    // the fields' flags: ones at the field's place
+    pub const VALUE: u32 = (Self::VALUE_SPAN - 1) * Self::VALUE_PLACE;
+
+    pub const COUNT: u32 = (Self::COUNT_SPAN - 1) * Self::COUNT_PLACE;
+
+    pub const OFFSET: u32 = (Self::OFFSET_SPAN - 1) * Self::OFFSET_PLACE;
+
+    pub const RECORD: u32 = (Self::RECORD_SPAN - 1) * Self::RECORD_PLACE;
+
+    pub const TRANSACTION: u32 = (Self::TRANSACTION_SPAN - 1) * Self::TRANSACTION_PLACE;
+
+    pub const KIND: u32 = (Self::KIND_SPAN - 1) * Self::KIND_PLACE;
+
     // The event that a word stands for.
     pub fn of_word(w: u32) -> Self
         ensures { λ r. ⌜ (decode geometry1 w ≡ meaning r) × InRange r ⌝ }
@@ -72,7 +100,8 @@ impl Event {
         let offset = (w / Self::OFFSET_PLACE % Self::OFFSET_SPAN) as u8;
         let count = (w / Self::COUNT_PLACE % Self::COUNT_SPAN) as u8;
         let value = (w / Self::VALUE_PLACE % Self::VALUE_SPAN) as u8;
-        if is_well_formed(kind, transaction, rec, offset, count, value) {
+        let uses = USES[narrow(kind)];
+        if w & (w ^ uses) == 0 {
             Event {
                 kind,
                 transaction,
@@ -124,26 +153,6 @@ impl Event {
             + wide(events[at + 2]) * 256
             + wide(events[at + 3])
     }
-}
-
-// There is such a kind, and each field that it does not use is 0.
-fn is_well_formed(kind: u8, transaction: u8, rec: u8, offset: u8, count: u8, value: u8) -> bool
-    requires { ⌜ kind < 16 ⌝ }
-    ensures { λ r. ⌜ r ≡ wellFormed (fieldsOf kind transaction rec offset count value) ⌝ }
-{
-    let uses = USES[narrow(kind)];
-    let a = used_or_zero(uses % 2, transaction);
-    let b = used_or_zero(uses / 2 % 2, rec);
-    let c = used_or_zero(uses / 4 % 2, offset);
-    let d = used_or_zero(uses / 8 % 2, count);
-    let e = used_or_zero(uses / 16 % 2, value);
-    (uses / 32 % 2 == 1) & a & b & c & d & e
-}
-
-fn used_or_zero(used: u8, x: u8) -> bool
-    ensures { λ r. ⌜ r ≡ (same used 1 || same x 0) ⌝ }
-{
-    (used == 1) | (x == 0)
 }
 
 fn wide(x: u8) -> u32

@@ -5,13 +5,14 @@ use Prim.Native.Nat.{ℕ, zero, suc, _+_, _*_, _/_, _%_, _^_, _<_}
 use native.Mathlib.Nat.{zero-div, div-div-eq-div-mul, pow-suc, mul-comm, one-mul, mod-eq-of-lt, mod-one, zero-mul, zero-add}
 use native.Mathlib.Omega.{arith}
 use lib.Dec.{eqb·zero-suc, eqb·suc-zero, eqb·suc-suc}
-use lib.Pow.{pow-lt, pow-pos}
+use lib.Pow.{pow-lt, pow-pos, pow-add}
 use lib.Arith.{mod-mul}
 use lib.Bits.{bitAnd, bitOr, bitXor, and-shr, or-shr, xor-shr, and-mod, or-mod, xor-mod}
 use borrow.Author.Tests.{eq-eqb, ne-eqb}
 use Rattle.laws.specs.Tests.{same}
 use Rattle.laws.specs.Counting.{all}
 use Rattle.laws.specs.Bits.{bits}
+use Rattle.laws.proofs.All.{and-true, and-false, all-same, all-true}
 
 module _ (op : ℕ → ℕ → ℕ) (f : Bool → Bool → Bool)
     (shr : (a b k : ℕ) → op a b / 2 ^ k ≡ op (a / 2 ^ k) (b / 2 ^ k))
@@ -92,14 +93,6 @@ pub bits-single : (w k j : ℕ) → k < w → bits (1 * 2 ^ k % 2 ^ w) j ≡ sam
 bits-single w k j h =
     ap (λ (x : ℕ). bits x j) (ap (λ (x : ℕ). x % 2 ^ w) (one-mul (2 ^ k)) ∙ mod-eq-of-lt (pow-lt h)) ∙ bits-pow k j
 
-and-true : (b : Bool) → (b && true) ≡ b
-and-true true = refl
-and-true false = refl
-
-and-false : (b : Bool) → (b && false) ≡ false
-and-false true = refl
-and-false false = refl
-
 one-more : (b : Bool) (d p a : ℕ) → d < 2 → 0 < p → b ≡ same a 0 → (b && not (same d 1)) ≡ same (d * p + a) 0
 unfolding same
 one-more b zero p a h q e =
@@ -126,3 +119,26 @@ pub within-is : (n a b : ℕ) → same (bitAnd a (bitXor a b) % 2 ^ n) 0 ≡ all
 within-is n a b =
     sym (low-zero n (bitAnd a (bitXor a b)))
     ∙ ap (all n) (fun-ext (λ k. ap not (bits-minus a b k) ∙ implied (bits a k) (bits b k)))
+
+-- A field of w, from place a and n wide, against a word m whose bits there are all f: it is within m exactly if f, or the field is 0.
+pub bits-over : (w a k : ℕ) → bits w (a + k) ≡ bits (w / 2 ^ a) k
+unfolding bits
+bits-over w a k =
+    ap (λ (x : ℕ). same (x % 2) 1) (ap (λ (x : ℕ). w / x) (pow-add 2 a k) ∙ sym (div-div-eq-div-mul w (2 ^ a) (2 ^ k)))
+
+or-true : (b : Bool) → (b || true) ≡ true
+or-true true = refl
+or-true false = refl
+
+or-false : (b : Bool) → (b || false) ≡ b
+or-false true = refl
+or-false false = refl
+
+pub field-within : (w m a n : ℕ) (f : Bool) → ((k : ℕ) → k < n → bits m (a + k) ≡ f)
+    → all n (λ k. not (bits w (a + k)) || bits m (a + k)) ≡ (f || same (w / 2 ^ a % 2 ^ n) 0)
+field-within w m a n true h =
+    all-same n (λ k. not (bits w (a + k)) || bits m (a + k)) (λ k. true) (λ k lt. ap (λ (b : Bool). not (bits w (a + k)) || b) (h k lt) ∙ or-true (not (bits w (a + k)))) ∙ all-true n
+field-within w m a n false h =
+    all-same n (λ k. not (bits w (a + k)) || bits m (a + k)) (λ k. not (bits (w / 2 ^ a) k))
+    (λ k lt. ap (λ (b : Bool). not (bits w (a + k)) || b) (h k lt) ∙ or-false (not (bits w (a + k))) ∙ ap not (bits-over w a k))
+    ∙ low-zero n (w / 2 ^ a)

@@ -6,4 +6,5 @@ pub mod Counting
 pub mod Those
 pub mod Bytes
 pub mod Updated
+pub mod All
 pub mod Compared

@@ -1,9 +1,8 @@
 -- A checked number is the number that was handed in, and there is none exactly where the rules have none.
-use mathlib.Core.Path.{_≡_, refl, ap, _∙_}
-use mathlib.Core.Bool.{Bool, true, false, cond}
-use Prim.Native.Nat.{ℕ, _<_, min}
+use mathlib.Core.Path.{_≡_}
+use mathlib.Core.Bool.{true, false}
+use Prim.Native.Nat.{ℕ}
 use native.Mathlib.Nat.{min-eq-left, le-of-suc-le-suc}
-use native.Mathlib.Omega.{arith}
 use Rattle.laws.specs.Tests.{under}
 use Rattle.laws.proofs.Tests.{Is, is?, yes′, no′, under-lt}
 use Rattle.rules.specs.Geometry.{transactions, records}

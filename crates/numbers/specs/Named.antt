@@ -1,5 +1,5 @@
 -- What a number names: a transaction or a record, or no such one.
-use mathlib.Core.Bool.{Bool, cond}
+use mathlib.Core.Bool.{cond}
 use Prim.Native.Nat.{ℕ, min}
 use Rattle.laws.specs.Tests.{under}
 use Rattle.rules.specs.Geometry.{transactions, records}

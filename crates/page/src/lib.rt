@@ -1,6 +1,6 @@
 // Pages of 32 bytes in the store and in the working buffer. A page is read by value and written whole.
 ghost use mathlib.Core.Path.{_≡_};
-ghost use Prim.Native.Nat.{ℕ, _+_, _*_, _<_, _≤_};
+ghost use Prim.Native.Nat.{_+_, _*_, _<_, _≤_};
 ghost use lib.ListN.{length, take, drop, getD, set};
 ghost use Rattle.laws.specs.Functions.{updated};
 ghost use Rattle.rules.specs.Store.{pagesOf};

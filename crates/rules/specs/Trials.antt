@@ -23,9 +23,11 @@ pub data Due : Type 0 where
   page : ℕ → List ℕ → Due
   value : ℕ → Page → Due
 
--- A row: a start store, events with the answers due, and what is due of the store at the end; or an age.
+-- A row: a start store, events with the answers due, and what is due of the store at the end; or the lengths of store, events, working buffer
+-- and answer buffer with the refusal due; or an age.
 pub data Trial : Type 0 where
   plays : List ℕ → List Line → List Due → Trial
+  refuses : ℕ → ℕ → ℕ → ℕ → ℕ → Trial
   ages : List ℕ → ℕ → ℕ → ℕ → Age → Trial
 
 abbrev pub eventsOf : List Line → List ℕ
@@ -70,6 +72,9 @@ abbrev pub passes : Trial → Bool
 passes (plays store ls ds) =
     let r = run edition1 store (eventsOf ls) (replicate (workSize geometry1) 0) (replicate (2 * length ls) 255) in
     same (r .answer) 0 && sameList (r .answers) (answersOf ls) && allDue (r .store) ds
+passes (refuses store events work answers n) =
+    let r = run edition1 (replicate store 7) (replicate events 7) (replicate work 7) (replicate answers 7) in
+    same (r .answer) n && sameList (r .store) (replicate store 7) && sameList (r .answers) (replicate answers 7)
 passes (ages store r clock limit a) = sameAge (ageOf edition1 store r clock limit) a
 
 abbrev pub allPass : List Trial → Bool
@@ -201,4 +206,6 @@ trials =
     onFresh (
     on (begin 24) 0x0500 ∷ on (begin 30) 0x0500 ∷ on (lock 31 3) 0x0500 ∷ (0x70000001, 0x0100) ∷ (0x90000000, 0x0100) ∷ (0x00000000, 0x0100) ∷
     (0x20000002, 0x0100) ∷ on (recover 63) 0x0300 ∷ []) [] ∷
+    -- Refused before the first event, in the order 22, 24, 20, 21, with nothing touched.
+    refuses 1055 5 4095 0 22 ∷ refuses 1056 5 4095 0 24 ∷ refuses 1056 5 4096 0 20 ∷ refuses 1056 16388 4096 8194 20 ∷ refuses 1056 8 4096 3 21 ∷
     []

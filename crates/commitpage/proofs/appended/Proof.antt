@@ -1,5 +1,5 @@
 -- By the record's flag.
-use mathlib.Core.Path.{refl, sym}
+use mathlib.Core.Path.{refl}
 use borrow.Author.Needs.{needs}
 use Rattle.commitpage.proofs.appended.Statement.{statement}
 use Rattle.commitpage.proofs.appended.Tie as tie

@@ -1,6 +1,6 @@
 -- The set digits of a map are the records that it names.
 use native.Mathlib.Omega.{arith}
-use lib.Count.{ones, ones-le}
+use lib.Count.{ones-le}
 use Rattle.commitpage.proofs.Maps.{count-ones}
 use Rattle.commitpage.proofs.ones.Statement.{statement}
 use Rattle.commitpage.proofs.ones.Tie as tie

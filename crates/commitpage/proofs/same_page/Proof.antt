@@ -7,7 +7,8 @@ use borrow.Author.Needs.{needs}
 use lib.ListN.{length, getD}
 use Rattle.laws.specs.Tests.{same}
 use Rattle.laws.specs.Counting.{all}
-use Rattle.laws.proofs.Compared.{all-next, sameList-all}
+use Rattle.laws.proofs.All.{all-next}
+use Rattle.laws.proofs.Compared.{sameList-all}
 use Rattle.commitpage.proofs.same_page.Statement.{statement}
 use Rattle.commitpage.proofs.same_page.Tie as tie
 use Rattle.commitpage.proofs.same_page.Reads as reads

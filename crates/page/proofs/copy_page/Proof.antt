@@ -1,3 +1,4 @@
+-- A page is read, then written.
 use borrow.Author.Needs.{needs}
 use Rattle.page.proofs.copy_page.Statement.{statement}
 use Rattle.page.proofs.copy_page.Tie as tie

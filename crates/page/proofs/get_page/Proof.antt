@@ -1,3 +1,4 @@
+-- A page is the 32 bytes from its place.
 use Rattle.rules.specs.Store.{pagesOf}
 use borrow.Author.Needs.{needs}
 use Rattle.page.proofs.get_page.Statement.{statement}

@@ -1,7 +1,8 @@
+-- The part that is lent is page n; what it leaves of the whole is the list with that page in its place.
 use lib.ListN.{length}
 use native.Mathlib.Omega.{arith}
 -- The part that is lent is page n; what it leaves of the whole is a list with that page replaced.
-use mathlib.Core.Path.{_≡_, refl, sym, ap, _∙_}
+use mathlib.Core.Path.{_≡_, ap, _∙_}
 use mathlib.Core.List.{List}
 use Prim.Native.Nat.{ℕ, _*_}
 use Rattle.rules.specs.Store.{pagesOf}

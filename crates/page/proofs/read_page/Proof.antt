@@ -1,11 +1,11 @@
 -- The bytes read so far are those of the part.
 use Rattle.laws.proofs.Filled.{Filled, filled-none, filled-more, filled-all}
-use Prim.Native.Nat.{ℕ, _≤_, _<_, _-_, _+_}
-use mathlib.Core.Path.{_≡_, refl, sym, ap, _∙_}
+use Prim.Native.Nat.{ℕ, _≤_, _-_, _+_}
+use mathlib.Core.Path.{_≡_, sym, _∙_}
 use native.Mathlib.Omega.{arith}
 use borrow.Author.Needs.{needs}
-use lib.ListN.{length, getD, take, drop, length-set, length-take, length-drop, length-replicate}
-use lib.Seq.{ext-getD, getD-take, getD-drop}
+use lib.ListN.{length, getD, drop, length-take, length-drop}
+use lib.Seq.{getD-take, getD-drop}
 use Rattle.page.proofs.read_page.Statement.{statement}
 use Rattle.page.proofs.read_page.Tie as tie
 use Rattle.page.proofs.read_page.Reads as reads

@@ -1,55 +1,70 @@
--- The fields of the word are the rules'; a word that is not well formed gives kind 0.
-use mathlib.Core.Path.{_≡_, refl, sym, ap, _∙_}
+-- A word with no bit outside its kind's flags is the event of its fields; any other gives kind 0.
+use mathlib.Core.Path.{_≡_, sym, ap, _∙_}
 use mathlib.Core.Bool.{Bool, true, false, cond}
 use mathlib.Core.Option.{none}
+use Prim.Native.Nat.{ℕ}
 use native.Mathlib.Omega.{arith}
-use Rattle.rules.specs.Event.{wellFormed, eventOf}
+use lib.Bits.{bitAnd, bitXor}
+use lib.ListN.{getD}
+use borrow.Author.Tests.{eq-eqb, ne-eqb}
+use Rattle.laws.specs.Tests.{same}
+use Rattle.rules.specs.Event.{eventOf}
 use Rattle.event.specs.Meaning.{meaning, fieldsOf}
-use Rattle.event.proofs.Words.{partsOf, decode-is, known-lt}
+use Rattle.event.proofs.Words.{flags, flagsOf, partsOf, decode-by-test, kind-lt}
 use borrow.Author.Needs.{needs}
 use Rattle.event.proofs.Event.of_word.Statement.{statement}
 use Rattle.event.proofs.Event.of_word.Tie as tie
 use Rattle.event.proofs.Event.of_word.Reads as reads
 use Rattle.event.proofs.Event.of_word.Lts as lts
-use Rattle.event.proofs.is_well_formed.Reads as is-well-formed-reads
+use Rattle.event.proofs.narrow.Reads as narrow-reads
 
--- src/lib.rt:53:20
+-- src/lib.rt:92:20
 cast-kind : tie.Need-cast-kind
 cast-kind c = search needs
 
--- src/lib.rt:54:27
+-- src/lib.rt:93:27
 cast-transaction : tie.Need-cast-transaction
 cast-transaction c = search needs
 
--- src/lib.rt:55:19
+-- src/lib.rt:94:19
 cast-rec : tie.Need-cast-rec
 cast-rec c = search needs
 
--- src/lib.rt:56:22
+-- src/lib.rt:95:22
 cast-offset : tie.Need-cast-offset
 cast-offset c = search needs
 
--- src/lib.rt:57:21
+-- src/lib.rt:96:21
 cast-count : tie.Need-cast-count
 cast-count c = search needs
 
--- src/lib.rt:58:21
+-- src/lib.rt:97:21
 cast-value : tie.Need-cast-value
 cast-value c = search needs
 
--- src/lib.rt:59:12
-is-well-formed-requires : tie.Need-is-well-formed-requires
-is-well-formed-requires c κs = search needs
+-- src/lib.rt:98:25
+narrow-requires : tie.Need-narrow-requires
+narrow-requires c κs = search needs
 
--- src/lib.rt:50:5
+-- src/lib.rt:98:20
+mul-uses : tie.Need-mul-uses
+mul-uses c = search needs
+
+-- src/lib.rt:98:20
+array-read-uses : tie.Need-array-read-uses
+array-read-uses c = search needs
+
+-- src/lib.rt:89:5
 returns : tie.Need-returns
-unfolding meaning
+unfolding meaning same
 returns c =
     let w = c .before .before .args .w in
-    let e : wellFormed (partsOf w) ≡ true = sym (c .before .is-well-formed .ensures) ∙ c .if1 .taken in (
-      decode-is w ∙ ap (λ (b : Bool). cond b (eventOf (partsOf w)) none) e,
+    let n = c .before .narrow .ensures in
+    let z : bitAnd w (bitXor w (flagsOf w)) ≡ 0 = ap (λ (k : ℕ). bitAnd w (bitXor w (getD flags k 0))) (sym n) ∙ c .if1 .taken in
+    let e : same (bitAnd w (bitXor w (flagsOf w))) 0 ≡ true = eq-eqb _ _ z in (
+      decode-by-test w (omega arith) ∙ ap (λ (b : Bool). cond b (eventOf (partsOf w)) none) e,
       record {
-        kind = known-lt _ _ _ _ _ _ e;
+        kind = kind-lt w (omega arith) e;
         transaction = omega arith;
         rec = omega arith;
         offset = omega arith;
@@ -58,13 +73,15 @@ returns c =
       },
     )
 
--- src/lib.rt:50:5
+-- src/lib.rt:89:5
 returns-2 : tie.Need-returns-2
-unfolding meaning fieldsOf eventOf
+unfolding meaning fieldsOf eventOf same
 returns-2 c =
     let w = c .before .before .args .w in
-    let e : wellFormed (partsOf w) ≡ false = sym (c .before .is-well-formed .ensures) ∙ c .if1 .left in (
-      decode-is w ∙ ap (λ (b : Bool). cond b (eventOf (partsOf w)) none) e,
+    let n = c .before .narrow .ensures in
+    let e : same (bitAnd w (bitXor w (flagsOf w))) 0 ≡ false =
+    ne-eqb _ _ (λ z. c .if1 .left (ap (λ (k : ℕ). bitAnd w (bitXor w (getD flags k 0))) n ∙ z)) in (
+      decode-by-test w (omega arith) ∙ ap (λ (b : Bool). cond b (eventOf (partsOf w)) none) e,
       record {
         kind = omega arith;
         transaction = omega arith;
@@ -85,6 +102,8 @@ of-word-spec =
     cast-offset
     cast-count
     cast-value
-    is-well-formed-requires
+    narrow-requires
+    mul-uses
+    array-read-uses
     returns
     returns-2)

@@ -1,5 +1,4 @@
 -- By computing, from the most significant field down.
-use mathlib.Core.Path.{refl}
 use Rattle.rules.specs.Event.{word}
 use borrow.Author.Needs.{needs}
 use Rattle.event.proofs.Event.to_word.Statement.{statement}

@@ -1,0 +1,38 @@
+use borrow.Author.Needs.{needs}
+use mathlib.Core.Path.{ap, sym, _∙_}
+use lib.IntN.{ℤ}
+use mir.Syntax.{w64}
+use mir.Val.{toZ, ofZ}
+use mir.Facts.{toZ-ofZ}
+use Rattle.age.specs.Meaning.{meaning}
+use Rattle.age.proofs.Laws.{is-ahead, is-live, is-stale, widened}
+use Rattle.age.proofs.judge.Statement.{statement}
+use Rattle.age.proofs.judge.Tie as tie
+use Rattle.age.proofs.judge.Reads as reads
+use Rattle.age.proofs.judge.Lts as lts
+
+-- src/lib.rt:34:9
+returns : tie.Need-returns
+unfolding meaning
+returns c = let back = toZ-ofZ (c .before .fits .age) in rw back (is-ahead _ _ (rw back at (c .if1 .taken)))
+
+-- src/lib.rt:36:16
+cast-if2 : tie.Need-cast-if2
+cast-if2 c = search needs
+
+-- src/lib.rt:37:9
+returns-2 : tie.Need-returns-2
+unfolding meaning
+returns-2 c =
+    let back = toZ-ofZ (c .before .before .fits .age) in
+    rw back (is-live _ _ (rw back at (c .before .if1 .left)) (rw (back, widened (c .before .before .fits .limit)) at (c .if2 .taken)))
+
+-- src/lib.rt:30:1
+returns-3 : tie.Need-returns-3
+unfolding meaning
+returns-3 c =
+    let back = toZ-ofZ (c .before .before .fits .age) in
+    rw back (is-stale _ _ (rw back at (c .before .if1 .left)) (rw (back, widened (c .before .before .fits .limit)) at (c .if2 .left)))
+
+pub judge-spec : {M : Type 1} → statement M
+judge-spec = tie.close (tie.spec returns cast-if2 returns-2 returns-3)

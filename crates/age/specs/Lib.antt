@@ -1,0 +1,2 @@
+-- What an age and its judgement stand for.
+pub mod Meaning

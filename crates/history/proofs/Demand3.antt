@@ -1,0 +1,138 @@
+-- Demand 3 of every run that is played: from its bytes to lists of words, and back.
+use mathlib.Core.Path.{_≡_, refl, sym, ap, subst, subst⁻¹, _∙_}
+use mathlib.Core.Bool.{Bool, true, false, not, cond, true≢false}
+use mathlib.Core.List.{List, [], _∷_}
+use mathlib.Core.Logic.{_≢_}
+use mathlib.Core.Option.{Option, none, some}
+use Prim.Native.Nat.{ℕ, _*_}
+use native.Mathlib.Omega.{arith}
+use lib.ListN.{length, drop}
+use Rattle.laws.specs.Tests.{same}
+use Rattle.laws.proofs.Tests.{same-eq}
+use Rattle.laws.proofs.Booleans.{not-false}
+use Rattle.rules.specs.Geometry.{Geometry}
+use Rattle.rules.specs.State.{down}
+use Rattle.rules.specs.Form.{Form}
+use Rattle.rules.specs.Step.{StateOf, firstOf}
+use Rattle.rules.specs.Run.{words, play, eventsIn, runRefusals, runAll, runBy, run}
+use Rattle.rules.specs.Editions.{geometry1, edition1}
+use Rattle.rules.proofs.Medium.{MediumLaws}
+use Rattle.rules.proofs.Editions.{proper1}
+use Rattle.rules.proofs.AtomicPages.{atomic-laws}
+use Rattle.rules.proofs.Acceptance.{pass}
+use Rattle.rules.proofs.Soundness.{Reached, reached-start, reached-play}
+use Rattle.history.specs.History.{History, nothingYet, survives, overlaid}
+use Rattle.history.specs.Demand3.{Row, history, Along, SameEvent, SameAnswer, settledIn, Plays, rowsOf, historyOf, Demand-3-holds}
+use Rattle.history.proofs.Roots.{lost}
+use Rattle.history.proofs.Invariant.{now, After}
+use Rattle.history.proofs.Runs.{rowsFrom, rows-are, future, run-after, start-holds, settled-is}
+use Rattle.history.proofs.TwoRuns.{twice}
+
+-- no run is refused with 0
+abbrev NonZero : List (ℕ × Bool) → Type 0
+NonZero [] = Unit {0}
+NonZero (x ∷ xs) = (x .0 ≢ 0) × NonZero xs
+
+first-some : (l : List (ℕ × Bool)) → NonZero l → firstOf l ≢ some 0
+unfolding firstOf
+first-some [] h e = let z : true ≡ false = cc in true≢false z
+first-some (x ∷ xs) h e = go (x .1) e (first-some xs (h .1))
+  where
+    go : (b : Bool) → cond b (some (x .0)) (firstOf xs) ≡ some 0 → firstOf xs ≢ some 0 → ⊥
+    go true e n = let z : x .0 ≡ 0 = cc in h .0 z
+    go false e n = n e
+
+module _ (f : Form) where
+  numbered : (store events work answers : List ℕ) → NonZero (runRefusals f store events work answers)
+  unfolding runRefusals
+  numbered store events work answers = ((λ e. omega arith), ((λ e. omega arith), ((λ e. omega arith), ((λ e. omega arith), tt))))
+
+  none-sized : (store events work answers : List ℕ) → firstOf (runRefusals f store events work answers) ≡ none → length store ≡ f .medium .size
+  unfolding runRefusals
+  none-sized store events work answers q = same-eq (length store) (f .medium .size) (not-false _ (pass 22 (not (same (length store) (f .medium .size))) _ q .0))
+
+  -- a run that is played has a store of the right length, and plays all its events
+  plays-all : (store events work answers : List ℕ) → Plays f store events work answers → (run f store events work answers ≡ runAll f store events answers) × (length store ≡ f .medium .size)
+  unfolding Plays run runBy
+  plays-all store events work answers h = go (firstOf (runRefusals f store events work answers)) refl h
+    where
+      go : (o : Option ℕ) → firstOf (runRefusals f store events work answers) ≡ o → runBy f store events answers o .answer ≡ 0
+          → (runBy f store events answers (firstOf (runRefusals f store events work answers)) ≡ runAll f store events answers) × (length store ≡ f .medium .size)
+      go none q h = (ap (runBy f store events answers) q, none-sized store events work answers q)
+      go (some n) q h = absurd (first-some (runRefusals f store events work answers) (numbered store events work answers) (q ∙ ap some h))
+
+module _ (f : Form) (M : MediumLaws (f .geometry) (f .medium)) where
+  abbrev g : Geometry
+  g = f .geometry
+
+  -- a played run: the start state, the words, and what they leave
+  abbrev start : List ℕ → StateOf f
+  start store = down (f .medium .fromBytes store)
+
+  abbrev wordsOf : List ℕ → List ℕ
+  wordsOf events = words g (eventsIn f events) events
+
+  module _ (store events work answers : List ℕ) (P : Plays f store events work answers) where
+    reached : Reached f M (start store)
+    reached = reached-start f M store (plays-all f store events work answers P .1)
+
+    rows-of : rowsOf f store events work answers ≡ rowsFrom f (start store) (wordsOf events)
+    unfolding rowsOf runAll
+    rows-of = rw (plays-all f store events work answers P .0) (rows-are f (start store) (wordsOf events) (drop (2 * eventsIn f events) answers))
+
+    history-of : historyOf f store events work answers ≡ history g nothingYet (rowsFrom f (start store) (wordsOf events))
+    unfolding historyOf
+    history-of = rw rows-of
+
+    settled-at-end : (r : ℕ) → settledIn f (run f store events work answers .store) r ≡ f .medium .settled (play f (start store) (wordsOf events) .state .store) r
+    unfolding settledIn runAll
+    settled-at-end r = rw (plays-all f store events work answers P .0)
+        (ap (λ (s : f .medium .Store). f .medium .settled s r) (M .from-to _ (reached-play f M (start store) reached (wordsOf events) .shaped)))
+
+    ran : After f (f .medium .settled (f .medium .fromBytes store)) (play f (start store) (wordsOf events) .state) nothingYet (history g nothingYet (rowsFrom f (start store) (wordsOf events))) (λ i. lost) (future f (start store) (wordsOf events))
+    ran = run-after f M (wordsOf events) reached (start-holds f M (f .medium .fromBytes store))
+
+  -- two lists of words from one start
+  list-runs : (final : ℕ → Bool) (store ws us : List ℕ) → Reached f M (start store) → ((i : ℕ) → final i ≡ survives (history g nothingYet (rowsFrom f (start store) ws)) i)
+      → Along g (SameEvent g final) nothingYet (rowsFrom f (start store) ws) (rowsFrom f (start store) us)
+      → Along g (SameAnswer g final) nothingYet (rowsFrom f (start store) ws) (rowsFrom f (start store) us) × M .Agree (play f (start store) ws .state .store) (play f (start store) us .state .store)
+  unfolding down
+  list-runs final store ws us R K E =
+      let d = f .medium .fromBytes store in
+      twice f M final R (start-holds f M d) (λ j r. none) d ws us K (record { shape = λ j r. refl; alike = λ j r e. refl; stores = M .agree-refl d }) E
+
+  -- DEMAND 3
+  pub demand-3 : Demand-3-holds f
+  unfolding Demand-3-holds settledIn
+  demand-3 store events work answers P = record {
+    surviving-writes = first;
+    two-runs = second;
+  }
+    where
+      first : (r : ℕ) → let h = historyOf f store events work answers in
+          settledIn f (run f store events work answers .store) r ≡ overlaid (survives h) r (h .writes) (settledIn f store r)
+      first r =
+          settled-at-end store events work answers P r
+          ∙ subst⁻¹ (λ (h : History). now f (play f (start store) (wordsOf events) .state) r ≡ overlaid (survives h) r (h .writes) (settledIn f store r)) (history-of store events work answers P)
+          (settled-is f M (play f (start store) (wordsOf events) .state) (ran store events work answers P .tells) r)
+
+      second : (events′ work′ answers′ : List ℕ) → Plays f store events′ work′ answers′
+          → let final = survives (historyOf f store events work answers) in
+          let a = rowsOf f store events work answers in
+          let b = rowsOf f store events′ work′ answers′ in
+          Along g (SameEvent g final) nothingYet a b
+          → Along g (SameAnswer g final) nothingYet a b
+          × ((r : ℕ) → settledIn f (run f store events′ work′ answers′ .store) r ≡ settledIn f (run f store events work answers .store) r)
+      second events′ work′ answers′ P′ E =
+          let T = list-runs (survives (historyOf f store events work answers)) store (wordsOf events) (wordsOf events′) (reached store events work answers P)
+          (λ i. ap (λ (h : History). survives h i) (history-of store events work answers P))
+          (subst (λ (b : List Row). Along g (SameEvent g (survives (historyOf f store events work answers))) nothingYet (rowsFrom f (start store) (wordsOf events)) b) (rows-of store events′ work′ answers′ P′)
+          (subst (λ (a : List Row). Along g (SameEvent g (survives (historyOf f store events work answers))) nothingYet a (rowsOf f store events′ work′ answers′)) (rows-of store events work answers P) E)) in (
+            subst⁻¹ (λ (a : List Row). Along g (SameAnswer g (survives (historyOf f store events work answers))) nothingYet a (rowsOf f store events′ work′ answers′)) (rows-of store events work answers P)
+                (subst⁻¹ (λ (b : List Row). Along g (SameAnswer g (survives (historyOf f store events work answers))) nothingYet (rowsFrom f (start store) (wordsOf events)) b) (rows-of store events′ work′ answers′ P′) (T .0)),
+            λ r. settled-at-end store events′ work′ answers′ P′ r ∙ M .agree-settled _ _ (T .1) r ∙ sym (settled-at-end store events work answers P r),
+          )
+
+-- of edition 1
+pub demand-3-edition1 : Demand-3-holds edition1
+demand-3-edition1 = demand-3 edition1 (atomic-laws geometry1 proper1)

@@ -1,0 +1,5 @@
+-- Demand 3: what a run's events and answers tell, and the claim about whole runs.
+pub mod History
+pub mod Demand3
+pub mod Claims
+pub mod Trials

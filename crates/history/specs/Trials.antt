@@ -1,0 +1,136 @@
+-- Trials of the history: lists of events with their answers, and how each transaction stands at the end.
+use Prim.Native.Nat.{ℕ, zero, suc}
+use mathlib.Core.Bool.{Bool, true, cond, _&&_}
+use mathlib.Core.List.{List, [], _∷_}
+use mathlib.Core.Option.{some}
+use lib.ListN.{getD, length}
+use Rattle.laws.specs.Tests.{same}
+use Rattle.laws.specs.Bytes.{sameList}
+use Rattle.rules.specs.Geometry.{nobody}
+use Rattle.rules.specs.Store.{blank}
+use Rattle.rules.specs.Event.{Event, begin, lock, write, read, commit, abort, recover}
+use Rattle.rules.specs.Step.{Answer, done, refused, cut}
+use Rattle.history.specs.History.{Fate, bearing, committed, stored, ended, History, nothingYet, survives, overlaid, told}
+
+-- an event and its answer
+abbrev pub Line : Type 0
+Line = Event × Answer
+
+-- how a transaction stands, as a number
+abbrev pub code : Fate → ℕ
+code (bearing t) = 1
+code committed = 2
+code stored = 3
+code ended = 4
+
+-- a row: events with their answers; for transactions 1, 2, .. how each stands at the end; those that survive; a byte of a record of zeros
+-- over which the surviving writes are laid
+pub record Trial : Type 0 where
+  pub lines : List Line
+  pub fates : List ℕ
+  pub survivors : List ℕ
+  pub place : ℕ × ℕ
+  pub byte : ℕ
+
+-- among sixteen records
+abbrev pub toldAll : History → List Line → History
+toldAll h [] = h
+toldAll h (l ∷ ls) = toldAll (told 16 h (some (l .0)) (l .1)) ls
+
+-- of n transactions from i
+abbrev pub codes : History → ℕ → ℕ → List ℕ
+codes h zero i = []
+codes h (suc n) i = code (h .fate i) ∷ codes h n (suc i)
+
+abbrev pub surviving : History → ℕ → ℕ → List ℕ
+surviving h zero i = []
+surviving h (suc n) i = cond (survives h i) (i ∷ surviving h n (suc i)) (surviving h n (suc i))
+
+abbrev pub passes : Trial → Bool
+passes t =
+    let h = toldAll nothingYet (t .lines) in
+    let n = length (t .fates) in
+    sameList (codes h n 1) (t .fates) && sameList (surviving h n 1) (t .survivors) &&
+    same (getD (overlaid (survives h) (t .place .0) (h .writes) blank) (t .place .1) 0) (t .byte)
+
+abbrev pub allPass : List Trial → Bool
+allPass [] = true
+allPass (t ∷ ts) = passes t && allPass ts
+
+abbrev ok : Answer
+ok = done 0
+
+abbrev pub trials : List Trial
+trials =
+    -- document 01's list in full
+    record {
+      lines =
+          (recover 63, ok) ∷ (begin nobody, done 0) ∷ (begin 0, done 1) ∷ (lock 1 3, ok) ∷ (write 1 3 2 165, ok) ∷ (commit 1 63, ok) ∷
+          (begin 0, done 1) ∷ (lock 1 3, ok) ∷ (write 1 3 2 17, ok) ∷ (abort 1, ok) ∷ (commit 0 2, cut 2) ∷ (read 0 3 2, refused 2) ∷
+          (recover 63, done 2) ∷ (begin nobody, done 0) ∷ (lock 0 3, ok) ∷ (read 0 3 2, done 165) ∷ [];
+      fates = 3 ∷ 2 ∷ 4 ∷ 1 ∷ [];
+      survivors = 1 ∷ 2 ∷ [];
+      place = (3, 2);
+      byte = 165;
+    } ∷
+    -- one record changed: cut after 1 page write it is lost, after 2 it survives
+    record {
+      lines = (recover 63, ok) ∷ (begin nobody, done 0) ∷ (lock 0 3, ok) ∷ (write 0 3 2 7, ok) ∷ (commit 0 1, cut 1) ∷ [];
+      fates = 4 ∷ [];
+      survivors = [];
+      place = (3, 2);
+      byte = 0;
+    } ∷
+    record {
+      lines = (recover 63, ok) ∷ (begin nobody, done 0) ∷ (lock 0 3, ok) ∷ (write 0 3 2 7, ok) ∷ (commit 0 2, cut 2) ∷ [];
+      fates = 3 ∷ [];
+      survivors = 1 ∷ [];
+      place = (3, 2);
+      byte = 7;
+    } ∷
+    -- n leaves out what an aborted child wrote, and counts what a committed one wrote
+    record {
+      lines =
+          (recover 63, ok) ∷ (begin nobody, done 0) ∷ (lock 0 3, ok) ∷ (write 0 3 2 7, ok) ∷ (begin 0, done 1) ∷ (lock 1 4, ok) ∷
+          (write 1 4 2 9, ok) ∷ (abort 1, ok) ∷ (commit 0 2, cut 2) ∷ [];
+      fates = 3 ∷ 4 ∷ [];
+      survivors = 1 ∷ [];
+      place = (4, 2);
+      byte = 0;
+    } ∷
+    record {
+      lines =
+          (recover 63, ok) ∷ (begin nobody, done 0) ∷ (lock 0 3, ok) ∷ (write 0 3 2 7, ok) ∷ (begin 0, done 1) ∷ (lock 1 4, ok) ∷
+          (write 1 4 2 9, ok) ∷ (commit 1 63, ok) ∷ (commit 0 2, cut 2) ∷ [];
+      fates = 4 ∷ 2 ∷ [];
+      survivors = [];
+      place = (3, 2);
+      byte = 0;
+    } ∷
+    -- an abort ends the descendants, and undoes what a committed child left
+    record {
+      lines =
+          (recover 63, ok) ∷ (begin nobody, done 0) ∷ (begin 0, done 1) ∷ (begin 1, done 2) ∷ (begin nobody, done 3) ∷ (abort 0, ok) ∷ (begin nobody, done 0) ∷ [];
+      fates = 4 ∷ 4 ∷ 4 ∷ 1 ∷ 1 ∷ [];
+      survivors = [];
+      place = (3, 2);
+      byte = 0;
+    } ∷
+    record {
+      lines = (recover 63, ok) ∷ (begin nobody, done 0) ∷ (begin 0, done 1) ∷ (lock 1 3, ok) ∷ (write 1 3 2 7, ok) ∷ (commit 1 63, ok) ∷ (abort 0, ok) ∷ [];
+      fates = 4 ∷ 2 ∷ [];
+      survivors = [];
+      place = (3, 2);
+      byte = 0;
+    } ∷
+    -- a cut ends the other top transactions too; a refusal ends none
+    record {
+      lines =
+          (recover 63, ok) ∷ (begin nobody, done 0) ∷ (begin nobody, done 1) ∷ (lock 0 3, ok) ∷ (write 0 3 2 7, ok) ∷ (write 0 3 2 8, ok) ∷
+          (commit 0 3, cut 3) ∷ (recover 0, cut 0) ∷ (recover 63, done 2) ∷ (begin nobody, done 0) ∷ (begin 0, done 1) ∷ (commit 0 63, refused 10) ∷ [];
+      fates = 3 ∷ 4 ∷ 1 ∷ 1 ∷ [];
+      survivors = 1 ∷ [];
+      place = (3, 2);
+      byte = 8;
+    } ∷
+    []
