@@ -2,3 +2,6 @@
 pub mod Decides
 pub mod Words
 pub mod Clauses
+pub mod Tree
+pub mod Locks
+pub mod Whole

@@ -1,4 +1,5 @@
 use borrow.Author.Needs.{needs}
+use Rattle.soundness.proofs.Whole.{whole-decided}
 use Rattle.soundness.proofs.is_sound.Statement.{statement}
 use Rattle.soundness.proofs.is_sound.Tie as tie
 use Rattle.soundness.proofs.is_sound.Reads as reads
@@ -34,7 +35,9 @@ is-phase-requires c κs = search needs
 
 -- src/lib.rt:210:1
 returns : tie.Need-returns
-returns c = ?
+returns c = λ work long. let a = c .before .before .before .before .before .before .before .args in
+    whole-decided (a .up) (a .parent .now) (a .depth .now) (a .line .now) (a .held .now) (a .retained .now) (a .writers .now) work (a .store .now) (c .before .before .before .before .before .before .before .pre) long
+    (c .before .before .before .before .before .is-tree .ensures) (c .before .before .before .before .are-sets .ensures) (c .before .before .before .are-sets2 .ensures) (c .before .before .are-sets3 .ensures) (c .before .are-shares .ensures) (c .is-phase .ensures)
 
 pub is-sound-spec : {M : Type 1} → statement M
 is-sound-spec =
