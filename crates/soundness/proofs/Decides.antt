@@ -9,8 +9,8 @@ use lib.Dec.{ltb, leb}
 use borrow.Author.Tests.{ltb-true, ltb-false, leb-true, leb-false}
 use Rattle.laws.specs.Tests.{same}
 use Rattle.laws.specs.Counting.{all}
-use Rattle.laws.proofs.Tests.{same?, Same, is, isnt, Is, is?, yes′, no′}
-use Rattle.laws.proofs.Booleans.{or-cases, or-left, or-right, clash}
+use Rattle.laws.proofs.Tests.{same?, Same, is, isnt}
+use Rattle.laws.proofs.Booleans.{or-cases, clash}
 use Rattle.laws.proofs.Counting.{all-true, all-of}
 use Rattle.soundness.specs.Decides.{Decides}
 

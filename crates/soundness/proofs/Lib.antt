@@ -5,3 +5,4 @@ pub mod Clauses
 pub mod Tree
 pub mod Locks
 pub mod Whole
+pub mod Unique

@@ -1,30 +1,29 @@
 -- What each transaction has of each lock is right exactly if the holders, retainers and versions are as soundness asks.
-use mathlib.Core.Path.{_≡_, refl, sym, ap, ap₂, _∙_}
-use mathlib.Core.Bool.{Bool, true, false, not, _||_, true≢false, Bool·not-not}
+use mathlib.Core.Path.{_≡_, sym, ap, ap₂, _∙_}
+use mathlib.Core.Bool.{Bool, true, not, _||_, true≢false, Bool·not-not}
 use mathlib.Core.List.{List}
 use mathlib.Core.Logic.{dite}
 use native.Mathlib.Decide.{decLt}
 use native.Mathlib.Omega.{arith}
-use Prim.Native.Nat.{ℕ, _<_, _≤_}
+use Prim.Native.Nat.{ℕ, _<_}
 use lib.ListN.{length, getD}
 use Rattle.laws.specs.Tests.{same}
 use Rattle.laws.proofs.Tests.{same-eq, same-refl}
-use Rattle.laws.proofs.Booleans.{or-cases, not-true, not-false}
-use Rattle.rules.specs.State.{isActive, isLock, lineOf, mem, live, holds, retains}
+use Rattle.laws.proofs.Booleans.{or-cases}
+use Rattle.rules.specs.State.{isActive, lineOf, mem, live, holds, retains}
 use Rattle.rules.specs.Sound.{Sound, inLine}
 use Rattle.rules.specs.Editions.{edition1}
 use Rattle.sets.specs.Sets.{sets}
 use Rattle.sets.proofs.Sets.{sets-past}
-use Rattle.arrays.specs.View.{Owners, bearersOf, modesOf}
+use Rattle.arrays.specs.View.{bearersOf}
 use Rattle.arrays.proofs.View.{free-is, some-is}
 use Rattle.arrays.proofs.Modes.{lock-is}
-use Rattle.soundness.specs.Clauses.{Numbered, Share, ShareOf, Shares}
+use Rattle.soundness.specs.Clauses.{Numbered, ShareOf, Shares}
 use Rattle.soundness.specs.Encoded.{stateOf}
 
 -- a set that isn't empty is a record's
 pub in-range : (words : List ℕ) (r t : ℕ) → length words ≡ 16 → sets words r t ≡ true → r < 16
 in-range words r t long e = dite (decLt r 16) (λ lt. lt) (λ ge. absurd (true≢false (sym e ∙ sets-past words r t (omega arith))))
-
 
 -- a depth that isn't 0 tells a live transaction
 live-is : (parent depth : List ℕ) (t : ℕ) → not (same (getD depth t 0) 0) ≡ isActive (bearersOf parent depth t)

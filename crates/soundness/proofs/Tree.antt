@@ -9,7 +9,7 @@ use Prim.Native.Nat.{ℕ, zero, suc, _<_, _≤_}
 use lib.ListN.{length, getD, List·getD-eq-default}
 use Rattle.laws.specs.Tests.{same}
 use Rattle.laws.specs.Bits.{bits}
-use Rattle.rules.specs.State.{Bearers, free, active, isActive, depthIn, chain, lineOf, mem, live, open-state}
+use Rattle.rules.specs.State.{Bearers, active, isActive, chain, lineOf, mem, live, open-state}
 use Rattle.rules.specs.Sound.{Sound}
 use Rattle.rules.specs.Editions.{edition1}
 use Rattle.rules.proofs.Bearers.{Rooted, parent-line}
@@ -17,7 +17,7 @@ use Rattle.rules.proofs.Locks.{rooted-of}
 use Rattle.sets.specs.Sets.{sets}
 use Rattle.arrays.specs.View.{bearerAt, bearersOf}
 use Rattle.arrays.proofs.View.{depth-is, active-is, deep-is}
-use Rattle.soundness.specs.Clauses.{Vacant, Seated, Entry, Entries}
+use Rattle.soundness.specs.Clauses.{Entry, Entries}
 use Rattle.soundness.specs.Encoded.{stateOf}
 use Rattle.soundness.proofs.Words.{no-bits}
 

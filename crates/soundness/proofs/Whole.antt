@@ -2,14 +2,13 @@
 use mathlib.Core.Path.{_≡_, refl, sym, ap, ap₂, _∙_}
 use mathlib.Core.Bool.{Bool, true, false, cond, _&&_, _||_, true≢false}
 use mathlib.Core.List.{List}
-use mathlib.Core.Logic.{_⊎_, inl, inr, dite}
-use mathlib.Core.Option.{Option, none, some}
+use mathlib.Core.Logic.{dite}
+use mathlib.Core.Option.{none, some}
 use native.Mathlib.Decide.{decLt}
 use native.Mathlib.Omega.{arith}
-use Prim.Native.Nat.{ℕ, zero, suc, _*_, _+_, _<_, _≤_}
+use Prim.Native.Nat.{ℕ, _*_, _+_, _<_, _≤_}
 use lib.ListN.{length, getD, length-take, length-drop}
 use Rattle.laws.specs.Tests.{same}
-use Rattle.laws.proofs.Tests.{Is, is?, yes′, no′}
 use Rattle.laws.proofs.Booleans.{or-cases, refute}
 use Rattle.rules.specs.Geometry.{records}
 use Rattle.rules.specs.Store.{Page, pagesOf}
@@ -90,13 +89,22 @@ module _ (up : ℕ) (parent depth line held retained writers work store : List �
   clauses-of N =
       let S = N .sound in
       let E = entry-of up parent depth line held retained writers work store S (N .lines) (N .tidy) in
-      let L = locked-of up parent depth held retained writers work store S in
-      ((((((λ t h. E t),
-      held-numbered up parent depth held retained writers work store S),
-      retained-numbered up parent depth held retained writers work store S),
-      writers-numbered up parent depth held retained writers work store S),
-      shares-of parent depth line held retained writers (N .lines) L),
-      record { flag = N .flag; idle = λ e t h. down-free S e t; calm = S .calm })
+      let L = locked-of up parent depth held retained writers work store S in (
+        (
+          (
+            (
+              (
+                (λ t h. E t),
+                held-numbered up parent depth held retained writers work store S,
+              ),
+              retained-numbered up parent depth held retained writers work store S,
+            ),
+            writers-numbered up parent depth held retained writers work store S,
+          ),
+          shares-of parent depth line held retained writers (N .lines) L,
+        ),
+        record { flag = N .flag; idle = λ e t h. down-free S e t; calm = S .calm },
+      )
 
   pub whole-decided : {a b c d e f : Bool} → Decides a (Entries parent depth line) → Decides b (Numbered held) → Decides c (Numbered retained) → Decides d (Numbered writers)
       → Decides e (Shares depth line held retained writers) → Decides f (Phase up depth store)

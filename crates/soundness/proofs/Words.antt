@@ -1,15 +1,13 @@
 -- Two numbers with the same bits are the same; a number with no bit from place n on.
 use mathlib.Core.Path.{_≡_, refl, sym, ap, _∙_, fun-ext}
-use mathlib.Core.Bool.{Bool, true, false, not, true≢false}
+use mathlib.Core.Bool.{Bool, true, false, true≢false}
 use mathlib.Core.Logic.{dite}
 use native.Mathlib.Decide.{decLt}
-use native.Mathlib.Nat.{pow-suc, mul-comm, div-div-eq-div-mul}
 use native.Mathlib.Omega.{arith}
-use Prim.Native.Nat.{ℕ, zero, suc, _+_, _-_, _*_, _/_, _%_, _^_, _<_, _≤_}
-use borrow.Author.Tests.{eqb-true}
+use Prim.Native.Nat.{ℕ, zero, suc, _+_, _-_, _/_, _%_, _^_, _<_, _≤_}
 use Rattle.laws.specs.Tests.{same}
 use Rattle.laws.specs.Bits.{bits}
-use Rattle.laws.proofs.Tests.{same?, Same, is, isnt, same-eq}
+use Rattle.laws.proofs.Tests.{same?, Same, is, isnt}
 use Rattle.laws.proofs.Bits.{bits-zero, bits-over}
 use Rattle.soundness.specs.Decides.{Decides}
 use Rattle.soundness.proofs.Decides.{decides-as, decides-same}

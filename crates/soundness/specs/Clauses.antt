@@ -7,7 +7,7 @@ use mathlib.Core.Logic.{_⊎_}
 use Prim.Native.Nat.{ℕ, suc, _<_, _≤_}
 use lib.ListN.{getD}
 use Rattle.laws.specs.Tests.{same}
-use Rattle.rules.specs.Geometry.{Geometry, transactions, nobody}
+use Rattle.rules.specs.Geometry.{transactions, nobody}
 use Rattle.rules.specs.Store.{pagesOf, emptied}
 use Rattle.rules.specs.Editions.{geometry1}
 use Rattle.sets.specs.Sets.{sets}

@@ -1,12 +1,11 @@
 -- The state that the engine's arrays stand for, and when they are its encoding.
 use mathlib.Core.Path.{_≡_}
-use mathlib.Core.Bool.{Bool}
 use mathlib.Core.List.{List}
 use Prim.Native.Nat.{ℕ, _≤_}
 use lib.ListN.{getD, length}
 use Rattle.laws.specs.Tests.{same}
 use Rattle.rules.specs.Store.{pagesOf}
-use Rattle.rules.specs.State.{Bearers, State, lineOf, mem}
+use Rattle.rules.specs.State.{lineOf, mem}
 use Rattle.rules.specs.Step.{StateOf}
 use Rattle.rules.specs.Sound.{Sound}
 use Rattle.rules.specs.Editions.{edition1}
@@ -40,3 +39,13 @@ pub record Sized (parent depth line held retained writers store : List ℕ) : Ty
   pub retaineds : length retained ≡ 16
   pub writerss : length writers ≡ 16
   pub stores : length store ≡ 1056
+
+-- two states' arrays, but for working buffer and store, are the same
+pub record Alike (up : ℕ) (parent depth line held retained writers : List ℕ) (up′ : ℕ) (parent′ depth′ line′ held′ retained′ writers′ : List ℕ) : Type 0 where
+  pub ups : up ≡ up′
+  pub parents : parent ≡ parent′
+  pub depths : depth ≡ depth′
+  pub lines : line ≡ line′
+  pub helds : held ≡ held′
+  pub retaineds : retained ≡ retained′
+  pub writerss : writers ≡ writers′

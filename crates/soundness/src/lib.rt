@@ -1,10 +1,9 @@
 // Whether any bytes in the engine's arrays encode a sound state. Every test is made, and the results are joined at the end.
 ghost use mathlib.Core.Path.{_≡_};
-ghost use mathlib.Core.Bool.{Bool, true, false, not, _||_};
+ghost use mathlib.Core.Bool.{true};
 ghost use mathlib.Core.List.{List};
-ghost use Prim.Native.Nat.{ℕ, _<_, _≤_};
+ghost use Prim.Native.Nat.{ℕ, _<_};
 ghost use lib.ListN.{length, getD};
-ghost use Rattle.laws.specs.Tests.{same};
 ghost use Rattle.laws.specs.Bits.{bits};
 ghost use Rattle.rules.specs.Geometry.{transactions};
 ghost use Rattle.sets.specs.Sets.{sets};
@@ -118,7 +117,15 @@ fn are_sets(words: &[u32; 16]) -> bool
 }
 
 // What t has of one lock is as it must be, with the transactions at or above t and at or beneath it.
-fn is_share(live: bool, above: u32, beneath: u32, held: u32, retained: u32, writers: u32, t: u8) -> bool
+fn is_share(
+    live: bool,
+    above: u32,
+    beneath: u32,
+    held: u32,
+    retained: u32,
+    writers: u32,
+    t: u8,
+) -> bool
     requires { ⌜ t < 24 ⌝ }
     ensures { λ r. ⌜ Decides r (Share live (bits above) (bits beneath) (bits held) (bits retained) (bits writers) t) ⌝ }
 {

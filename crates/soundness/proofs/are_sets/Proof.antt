@@ -1,3 +1,4 @@
+-- So far each set has transaction numbers only.
 use mathlib.Core.Path.{_≡_}
 use mathlib.Core.Bool.{true}
 use Prim.Native.Nat.{ℕ, _-_, _<_, _≤_}

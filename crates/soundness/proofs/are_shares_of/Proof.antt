@@ -1,3 +1,4 @@
+-- So far what t has of each lock is right.
 use mathlib.Core.Path.{subst}
 use mathlib.Core.Bool.{Bool, not}
 use Prim.Native.Nat.{ℕ, _-_, _<_, _≤_}
@@ -83,10 +84,11 @@ loop-less c = search needs
 -- src/lib.rt:156:5
 loop-again : tie.Need-loop-again Inv-loop μ-loop
 unfolding sets same
-loop-again c = let a = c .before .before .before .before .before .before .before .before .before .args in let l = c .before .before .before .before .before .loop in
-    (search needs,
-    decides-more (ShareOf (a .depth .now) (a .line .now) (a .held .now) (a .retained .now) (a .writers .now) (a .t)) (l .r) (l .inv .1)
-    (subst (λ (f : ℕ → Bool). Decides (c .is-share .result) (Share (not (same (getD (a .depth .now) (a .t) 0) 0)) (bits (getD (a .line .now) (a .t) 0)) f (bits (getD (a .held .now) (l .r) 0)) (bits (getD (a .retained .now) (l .r) 0)) (bits (getD (a .writers .now) (l .r) 0)) (a .t))) (c .before .before .before .before .before .before .descendants .ensures) (c .is-share .ensures)))
+loop-again c = let a = c .before .before .before .before .before .before .before .before .before .args in let l = c .before .before .before .before .before .loop in (
+  search needs,
+  decides-more (ShareOf (a .depth .now) (a .line .now) (a .held .now) (a .retained .now) (a .writers .now) (a .t)) (l .r) (l .inv .1)
+      (subst (λ (f : ℕ → Bool). Decides (c .is-share .result) (Share (not (same (getD (a .depth .now) (a .t) 0) 0)) (bits (getD (a .line .now) (a .t) 0)) f (bits (getD (a .held .now) (l .r) 0)) (bits (getD (a .retained .now) (l .r) 0)) (bits (getD (a .writers .now) (l .r) 0)) (a .t))) (c .before .before .before .before .before .before .descendants .ensures) (c .is-share .ensures)),
+)
 
 -- src/lib.rt:141:1
 returns : tie.Need-returns Inv-loop μ-loop

@@ -1,3 +1,4 @@
+-- The law of a free number, or of one that is borne.
 use native.Mathlib.Omega.{arith}
 use borrow.Author.Needs.{needs}
 use Rattle.soundness.proofs.Clauses.{entry-vacant, entry-seated}

@@ -1,3 +1,4 @@
+-- The law of the clause, over what the commit page says.
 use mathlib.Core.Path.{ap, _∙_}
 use mathlib.Core.List.{List}
 use Prim.Native.Nat.{ℕ}

@@ -1,3 +1,4 @@
+-- The law of the clause, over the depths and lines that were read.
 use borrow.Author.Needs.{needs}
 use Rattle.laws.specs.Tests.{same}
 use Rattle.soundness.proofs.Clauses.{seated-decided}

@@ -1,3 +1,4 @@
+-- A set has transaction numbers only if nothing stands above its low 24 bits.
 use Rattle.laws.specs.Tests.{same}
 use Rattle.soundness.proofs.Words.{decides-numbered}
 use Rattle.soundness.proofs.is_set.Statement.{statement}

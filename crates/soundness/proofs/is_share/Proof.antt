@@ -1,3 +1,4 @@
+-- The law of the clause, over the tests that were made.
 use mathlib.Core.Path.{ap, _∙_, fun-ext}
 use mathlib.Core.Bool.{Bool, not, _||_}
 use Prim.Native.Nat.{ℕ}

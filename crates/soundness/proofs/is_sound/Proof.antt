@@ -1,3 +1,4 @@
+-- The law that the clauses together are the encoding of a sound state.
 use borrow.Author.Needs.{needs}
 use Rattle.soundness.proofs.Whole.{whole-decided}
 use Rattle.soundness.proofs.is_sound.Statement.{statement}

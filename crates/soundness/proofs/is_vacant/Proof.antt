@@ -1,3 +1,4 @@
+-- The law of the clause.
 use borrow.Author.Needs.{needs}
 use Rattle.laws.specs.Tests.{same}
 use Rattle.soundness.proofs.Clauses.{vacant-decided}
