@@ -6,3 +6,4 @@ pub mod Tree
 pub mod Locks
 pub mod Whole
 pub mod Unique
+pub mod Start
