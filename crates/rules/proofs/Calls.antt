@@ -2,16 +2,17 @@
 use mathlib.Core.Path.{_≡_, refl, ap, ap₂, subst, subst⁻¹, _∙_}
 use mathlib.Core.Bool.{Bool, true, cond}
 use mathlib.Core.List.{List, [], _∷_, _++_}
+use mathlib.Core.Option.{Option, none, some}
 use Prim.Native.Nat.{ℕ, _*_}
 use lib.ListN.{take}
 use Rattle.laws.specs.Tests.{same}
 use Rattle.rules.specs.Form.{Form}
-use Rattle.rules.specs.Step.{StateOf}
-use Rattle.rules.specs.Run.{eventsIn}
-use Rattle.rules.specs.Portion.{wordsIn, Portion, portion, Chain, added, addedAnswers, next, chain}
+use Rattle.rules.specs.Step.{StateOf, firstOf}
+use Rattle.rules.specs.Run.{eventsIn, runRefusals}
+use Rattle.rules.specs.Portion.{Lent, wordsIn, Portion, portion, Chain, added, addedAnswers, next, chain}
 use Rattle.rules.specs.Calls.{Call, lents, results, left, joinedOf, answersOf, AllPromised}
 use Rattle.rules.proofs.Medium.{MediumLaws}
-use Rattle.rules.proofs.Portions.{Carried, sound-portion}
+use Rattle.rules.proofs.Portions.{lengths-only, Carried, sound-portion}
 
 module _ (f : Form) (M : MediumLaws (f .geometry) (f .medium)) {X : Type 0} (view : X → StateOf f) (bytes : X → List ℕ) (proper : X → Type 0) where
   abbrev found : StateOf f → Bool
@@ -34,6 +35,16 @@ module _ (f : Form) (M : MediumLaws (f .geometry) (f .medium)) {X : Type 0} (vie
   unfolding addedAnswers
   answers-one c p e h = ap₂ (λ (n : ℕ) (bs : List ℕ). cond (same n 0) (take (2 * eventsIn f (c .lent .events)) bs) []) e h
 
+  -- found sound where that counts
+  as-sound : (x : X) (l : Lent) (sound : Bool) → (firstOf (runRefusals f (bytes x) (l .events) (l .work) (l .answers)) ≡ none → sound ≡ true)
+      → portion f sound (view x) (bytes x) (l .events) (l .work) (l .answers) ≡ portion f true (view x) (bytes x) (l .events) (l .work) (l .answers)
+  as-sound x l sound h = go (firstOf (runRefusals f (bytes x) (l .events) (l .work) (l .answers))) refl
+    where
+      go : (o : Option ℕ) → firstOf (runRefusals f (bytes x) (l .events) (l .work) (l .answers)) ≡ o
+          → portion f sound (view x) (bytes x) (l .events) (l .work) (l .answers) ≡ portion f true (view x) (bytes x) (l .events) (l .work) (l .answers)
+      go none q = ap (λ (b : Bool). portion f b (view x) (bytes x) (l .events) (l .work) (l .answers)) (h q)
+      go (some n) q = lengths-only f sound true (view x) (bytes x) (l .events) (l .work) (l .answers) n q
+
   pub calls-chain : (x : X) (cs : List (Call X)) → AllPromised f view bytes proper x cs → proper x → Carried f M (view x) (bytes x)
       → AsChain x cs (chain f found (view x) (bytes x) (lents cs))
   unfolding lents results left joinedOf answersOf chain next
@@ -44,7 +55,7 @@ module _ (f : Form) (M : MediumLaws (f .geometry) (f .medium)) {X : Type 0} (vie
       let K = P .0 .1 in
       let p = portion f true (view x) (bytes x) (l .events) (l .work) (l .answers) in
       let q = portion f sound (view x) (bytes x) (l .events) (l .work) (l .answers) in
-      let e : q ≡ p = ap (λ (b : Bool). portion f b (view x) (bytes x) (l .events) (l .work) (l .answers)) (K .found .every-sound (view x) (refl, W) (C .reached .sound)) in
+      let e : q ≡ p = as-sound x l sound (λ h. K .found h .every-sound (view x) (refl, W) (C .reached .sound)) in
       let state : view (c .after) ≡ p .state = K .state ∙ ap (λ (y : Portion f). y .state) e in
       let store : bytes (c .after) ≡ p .store = K .stored ∙ ap (λ (y : Portion f). y .store) e in
       let answer : c .answer ≡ p .answer = K .answered ∙ ap (λ (y : Portion f). y .answer) e in

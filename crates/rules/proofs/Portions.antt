@@ -118,6 +118,14 @@ module _ (f : Form) where
   lengths-first sound s store events work answers n h =
       ap (λ (o : Option ℕ). portionBy f s store events answers o .answer) (first-then (runRefusals f store events work answers) ((25, not sound) ∷ []) n h)
 
+  -- then nothing depends on what is found of the state
+  pub lengths-only : (a b : Bool) (s : StateOf f) (store events work answers : List ℕ) (n : ℕ) → firstOf (runRefusals f store events work answers) ≡ some n
+      → portion f a s store events work answers ≡ portion f b s store events work answers
+  unfolding portion portionBy portionRefusals
+  lengths-only a b s store events work answers n h =
+      ap (portionBy f s store events answers)
+      (first-then (runRefusals f store events work answers) ((25, not a) ∷ []) n h ∙ sym (first-then (runRefusals f store events work answers) ((25, not b) ∷ []) n h))
+
   -- with lengths that fit, 25 is answered exactly if the state is found unsound
   pub unsound-refused : (s : StateOf f) (store events work answers : List ℕ) → firstOf (runRefusals f store events work answers) ≡ none
       → portion f false s store events work answers .answer ≡ 25

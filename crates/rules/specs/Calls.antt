@@ -5,11 +5,12 @@ use mathlib.Core.Path.{_≡_}
 use mathlib.Core.Bool.{Bool, cond}
 use mathlib.Core.List.{List, [], _∷_, _++_}
 use mathlib.Core.Logic.{_≢_}
+use mathlib.Core.Option.{none}
 use lib.ListN.{take}
 use Rattle.laws.specs.Tests.{same}
 use Rattle.rules.specs.Form.{Form}
-use Rattle.rules.specs.Step.{StateOf}
-use Rattle.rules.specs.Run.{eventsIn}
+use Rattle.rules.specs.Step.{StateOf, firstOf}
+use Rattle.rules.specs.Run.{eventsIn, runRefusals}
 use Rattle.rules.specs.Portion.{Lent, Finds, Portion, portion, wordsIn}
 
 -- X is what the caller keeps between two calls: what is lent as a state, the working buffer and the store. A call: the buffers lent, its answer,
@@ -46,9 +47,10 @@ module _ (f : Form) {X : Type 0} where
 
   -- the state and the store's bytes that x stands for; x is written as a state is
   module _ (view : X → StateOf f) (bytes : X → List ℕ) (proper : X → Type 0) where
-    -- what a call on x promises, where x is found sound or not: the portion's answer, state, store and answers; a refused call changes nothing
+    -- what a call on x promises: where no length is refused x is found sound or not; the portion's answer, state, store and answers; a refused call
+    -- changes nothing
     pub record Keeps (x : X) (sound : Bool) (p : Portion f) (c : Call X) : Type 0 where
-      pub found : Finds f (λ s. (view x ≡ s) × proper x) sound
+      pub found : firstOf (runRefusals f (bytes x) (c .lent .events) (c .lent .work) (c .lent .answers)) ≡ none → Finds f (λ s. (view x ≡ s) × proper x) sound
       pub answered : c .answer ≡ p .answer
       pub state : view (c .after) ≡ p .state
       pub stored : bytes (c .after) ≡ p .store
