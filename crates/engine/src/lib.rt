@@ -177,14 +177,19 @@ fn put_answer(answers: &mut [u8], k: usize, a: Answer)
     answers[at + 1] = a.value;
 }
 
+// The engine's state between two portions, 340 bytes with no padding; all zeros is the start. A caller keeps it and lends it: the order of the fields
+// is final.
+#[repr(C)]
 pub struct Engine {
-    pub up: u8,
-    pub parent: [u8; 24],
-    pub depth: [u8; 24],
     pub line: [u32; 24],
     pub held: [u32; 16],
     pub retained: [u32; 16],
     pub writers: [u32; 16],
+    pub parent: [u8; 24],
+    pub depth: [u8; 24],
+    pub up: u8,
+    // zeros
+    pub spare: [u8; 3],
 }
 
 // A portion of events: the engine comes in and goes out by value, and is changed in place between.
@@ -197,6 +202,7 @@ pub fn portion(
 ) -> Engine
     requires { ⌜ Intact (whole e (now work) (now store)) × (length (now events) ≤ 16384) × (length (now events) ≤ 2 * length (now answers)) ⌝ }
     ensures { λ r. ⌜ Portion (whole e (now (work .entry)) (now (store .entry))) (now (events .entry)) (now (answers .entry)) (whole r (now (work .exit)) (now (store .exit))) (now (answers .exit)) ⌝ }
+    ensures { λ r. ⌜ r .spare ≡ e .spare ⌝ }
 {
     let mut up = e.up;
     let mut parent = e.parent;
@@ -222,14 +228,16 @@ pub fn portion(
         );
         put_answer(answers, k, a);
     }
+    let spare = e.spare;
     Engine {
-        up,
-        parent,
-        depth,
         line,
         held,
         retained,
         writers,
+        parent,
+        depth,
+        up,
+        spare,
     }
 }
 
@@ -238,12 +246,13 @@ pub fn start() -> Engine
     ensures { λ e. ⌜ ((work store : List ℕ) → length work ≡ 4096 → length store ≡ 1056 → Intact (whole e work store) × (view (whole e work store) ≡ down (pagesOf store))) ⌝ }
 {
     Engine {
-        up: 0,
-        parent: [0; 24],
-        depth: [0; 24],
         line: [0; 24],
         held: [0; 16],
         retained: [0; 16],
         writers: [0; 16],
+        parent: [0; 24],
+        depth: [0; 24],
+        up: 0,
+        spare: [0; 3],
     }
 }

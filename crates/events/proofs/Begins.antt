@@ -88,6 +88,14 @@ module _ (x : Arrays) (I : Intact x) (u : x .up ≡ 1) (p f above : ℕ) (room :
     unfolding bearersOf
     bearers-are = fun-ext (λ j. bearer-at j (same? j f))
 
+    tidy-at : (j : ℕ) → Same j f → getD depth′ j 0 ≡ 0 → getD parent′ j 0 ≡ 0
+    tidy-at j (is e s _) z =
+        let h = f-small in let m = I .form .depths in
+        let k : getD depth′ j 0 ≡ getD (x .depth) p 0 + 1 = ap (λ (i : ℕ). getD depth′ i 0) e ∙ getD-set-same (x .depth) f (getD (x .depth) p 0 + 1) 0 (omega arith) in
+        absurd (omega arith)
+    tidy-at j (isnt e s _) z =
+        getD-set-other (x .parent) f j p 0 e ∙ I .form .tidy j (sym (getD-set-other (x .depth) f j (getD (x .depth) p 0 + 1) 0 e) ∙ z)
+
     no-writer : (r : ℕ) → sets (x .writers) r f ≡ false
     unfolding view live
     no-writer r = refute (sets (x .writers) r f) (λ e. clash (version-live (I .sound) f r (wrote-is x f r ∙ e)) idle)
@@ -125,6 +133,8 @@ module _ (x : Arrays) (I : Intact x) (u : x .up ≡ 1) (p f above : ℕ) (room :
         y-is
         (let F = I .form in record {
           lines = lines-are ∙ ap lineIn (sym bearers-are);
+          flag = F .flag;
+          tidy = λ j. tidy-at j (same? j f);
           parents = length-set (x .parent) f p ∙ F .parents;
           depths = length-set (x .depth) f (getD (x .depth) p 0 + 1) ∙ F .depths;
           long = ap length (L .is) ∙ length-set (x .line) f (L .word) ∙ F .long;

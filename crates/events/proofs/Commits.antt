@@ -38,7 +38,7 @@ use Rattle.commit.specs.Phase.{Leaves, topSlot, versionsIn}
 use Rattle.events.specs.Whole.{Arrays, arrays, view, lineIn, Formed, Intact, saying, Stepped, Ready}
 use Rattle.events.proofs.Rules.{commit-done, commit-refused}
 use Rattle.events.proofs.Steps.{answer, stepped, finishes, unmoved, state-eq, up-is, live-is, wrote-is, depth-of, shallow, writer-deep}
-use Rattle.events.proofs.Ends.{bearers-cleared, lines-cleared, rest-is, rest-form}
+use Rattle.events.proofs.Ends.{bearers-cleared, lines-cleared, tidy-cleared, rest-is, rest-form}
 use Rattle.events.proofs.Falls.{zeros, zeros-down, zeros-formed, Fallen, fallen}
 
 -- the test for a child
@@ -225,6 +225,8 @@ module _ (x : Arrays) (I : Intact x) (t k : ℕ) (R : Ready x t) (childless : ha
           finishes x y (some (commit t k)) (ended (passed (view x) t p) alone (view x .store)) 0 commit-is y-is
           (let F = I .form in record {
             lines = lines-cleared (rooted-of (I .sound)) alone closed (x .line) line (F .lines) N ∙ ap lineIn (sym (bearers-cleared alone (x .parent) (x .depth) parent depth P D));
+            flag = F .flag;
+            tidy = tidy-cleared alone (x .parent) (x .depth) parent depth P D (F .tidy);
             parents = P .long;
             depths = D .long;
             long = N .long;

@@ -56,6 +56,16 @@ lines-cleared {b} T dead closed line line′ e C = fun-ext (λ j. fun-ext (λ u.
     go j u true = bits-zero u
     go j u false = ap (λ (f : ℕ → ℕ → Bool). f j u) e
 
+pub tidy-cleared : (dead : ℕ → Bool) (parent depth parent′ depth′ : List ℕ) → Cleared dead parent parent′ → Cleared dead depth depth′
+    → ((t : ℕ) → getD depth t 0 ≡ 0 → getD parent t 0 ≡ 0) → (t : ℕ) → getD depth′ t 0 ≡ 0 → getD parent′ t 0 ≡ 0
+unfolding places cleared
+tidy-cleared dead parent depth parent′ depth′ P D T t z =
+    ap (λ (f : ℕ → ℕ). f t) (P .are) ∙ go (dead t) (sym (ap (λ (f : ℕ → ℕ). f t) (D .are)) ∙ z)
+  where
+    go : (b : Bool) → cond b 0 (getD depth t 0) ≡ 0 → cond b 0 (getD parent t 0) ≡ 0
+    go true e = refl
+    go false e = T t e
+
 -- those that `dead` picks end, over a store
 module _ (x : Arrays) (I : Intact x) (dead : ℕ → Bool) (closed : (z a : ℕ) → dead z ≡ false → dead a ≡ true → mem a (lineOf (bearersOf (x .parent) (x .depth)) z) ≡ false)
     (parent depth line held retained writers store : List ℕ) (P : Cleared dead (x .parent) parent) (D : Cleared dead (x .depth) depth) (L : Cleared dead (x .line) line)
@@ -73,6 +83,8 @@ module _ (x : Arrays) (I : Intact x) (dead : ℕ → Bool) (closed : (z a : ℕ)
   unfolding view
   rest-form size = let F = I .form in record {
     lines = lines-cleared (rooted-of (I .sound)) dead closed (x .line) line (F .lines) L ∙ ap lineIn (sym (bearers-cleared dead (x .parent) (x .depth) parent depth P D));
+    flag = F .flag;
+    tidy = tidy-cleared dead (x .parent) (x .depth) parent depth P D (F .tidy);
     parents = P .long;
     depths = D .long;
     long = L .long;

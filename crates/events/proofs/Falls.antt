@@ -4,7 +4,7 @@ use mathlib.Core.Bool.{Bool, true, false, not, cond, true≢false}
 use mathlib.Core.List.{List, [], _∷_}
 use mathlib.Core.Logic.{_≢_}
 use mathlib.Core.Option.{Option, none, some}
-use Prim.Native.Nat.{ℕ, zero, suc}
+use Prim.Native.Nat.{ℕ, zero, suc, _≤_}
 use native.Mathlib.Omega.{arith}
 use lib.ListN.{length, getD, replicate, length-replicate}
 use Rattle.laws.specs.Tests.{same}
@@ -62,6 +62,8 @@ module _ (work store : List ℕ) where
   unfolding lineIn lineOf depthIn chain mem
   zeros-formed w s = record {
     lines = none-in 24 ∙ sym (ap lineIn bearers-free);
+    flag = omega arith;
+    tidy = λ t e. at 24 t;
     parents = length-replicate {A = ℕ} 24 0;
     depths = length-replicate {A = ℕ} 24 0;
     long = length-replicate {A = ℕ} 24 0;
@@ -166,8 +168,8 @@ module _ (x : Arrays) (I : Intact x) (k : ℕ) where
           recover-done edition1 (view x) k (down-is x n) (whole-is (x .store) c h g)
           ∙ ap₂ (λ (p : Pages) (b : Bool). concluded (raised (view x) p) C b) (sym (L .store)) (sym (L .crashed) ∙ e)
 
-      formed : (up : ℕ) → Formed (arrays up (x .parent) (x .depth) (x .line) (x .held) (x .retained) (x .writers) (x .work) store)
-      formed up = let F = I .form in record { lines = F .lines; parents = F .parents; depths = F .depths; long = F .long; helds = F .helds; retaineds = F .retaineds; writerss = F .writerss; works = F .works; stores = size }
+      formed : (up : ℕ) → up ≤ 1 → Formed (arrays up (x .parent) (x .depth) (x .line) (x .held) (x .retained) (x .writers) (x .work) store)
+      formed up h = let F = I .form in record { lines = F .lines; flag = h; tidy = F .tidy; parents = F .parents; depths = F .depths; long = F .long; helds = F .helds; retaineds = F .retaineds; writerss = F .writerss; works = F .works; stores = size }
 
       over : State Pages → State Pages
       over s = record { up = s .up; bearer = s .bearer; held = s .held; retained = s .retained; version = s .version; store = pagesOf store }
@@ -178,11 +180,11 @@ module _ (x : Arrays) (I : Intact x) (k : ℕ) where
       unfolding concluded saying numberOf valueOf view down over
       recover-cut e =
           stepped x _ (some (recover k)) (down (C .store)) (cut (C .made)) (answer 11 made) (outcome true e)
-          (ap over (idle-down (I .sound) (down-is x n)) ∙ ap down (L .store)) (ap (answer 11) (L .made)) (formed (x .up))
+          (ap over (idle-down (I .sound) (down-is x n)) ∙ ap down (L .store)) (ap (answer 11) (L .made)) (formed (x .up) (I .form .flag))
 
       pub recover-steps : crashed ≡ false
           → Stepped x (some (recover k)) (answer 0 made) (arrays 1 (x .parent) (x .depth) (x .line) (x .held) (x .retained) (x .writers) (x .work) store)
       unfolding concluded saying numberOf valueOf view raised
       recover-steps e =
           stepped x _ (some (recover k)) (raised (view x) (pagesOf store)) (done (C .made)) (answer 0 made) (outcome false e)
-          (state-eq (same-refl 1) refl refl refl refl refl) (ap (answer 0) (L .made)) (formed 1)
+          (state-eq (same-refl 1) refl refl refl refl refl) (ap (answer 0) (L .made)) (formed 1 (omega arith))

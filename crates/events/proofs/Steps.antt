@@ -126,7 +126,7 @@ module _ (x : Arrays) (I : Intact x) where
     y = record { up = x .up; parent = x .parent; depth = x .depth; line = x .line; held = held; retained = x .retained; writers = x .writers; work = x .work; store = x .store }
 
     y-form : Formed y
-    y-form = let F = I .form in record { lines = F .lines; parents = F .parents; depths = F .depths; long = F .long; helds = G .long; retaineds = F .retaineds; writerss = F .writerss; works = F .works; stores = F .stores }
+    y-form = let F = I .form in record { lines = F .lines; flag = F .flag; tidy = F .tidy; parents = F .parents; depths = F .depths; long = F .long; helds = G .long; retaineds = F .retaineds; writerss = F .writerss; works = F .works; stores = F .stores }
 
     grants : a ≡ grantable (view x .held) (view x .retained) (lineOf (view x .bearer) t) t r
     unfolding view lineIn
@@ -200,7 +200,7 @@ module _ (x : Arrays) (I : Intact x) where
       finishes x _ (some (write t r o v)) (wrote (view x) t r (set (visible edition1 (view x) t r) o v)) 0
       (write-done edition1 (view x) t (up-is x (R .up)) (live-is x t (R .live)) r o v (holds-is x r t ∙ h))
       (state-eq refl refl refl refl (versions-are t r _ R h writers′ work′ W) refl)
-      (let F = I .form in record { lines = F .lines; parents = F .parents; depths = F .depths; long = F .long; helds = F .helds; retaineds = F .retaineds; writerss = W .long; works = n; stores = F .stores })
+      (let F = I .form in record { lines = F .lines; flag = F .flag; tidy = F .tidy; parents = F .parents; depths = F .depths; long = F .long; helds = F .helds; retaineds = F .retaineds; writerss = W .long; works = n; stores = F .stores })
 
   pub write-refuses : (t r o v : ℕ) → Ready x t → sets (x .held) r t ≡ false → Stepped x (some (write t r o v)) (answer 9 0) x
   write-refuses t r o v R h =

@@ -3,7 +3,7 @@ use mathlib.Core.Path.{_≡_}
 use mathlib.Core.Bool.{Bool}
 use mathlib.Core.List.{List}
 use mathlib.Core.Option.{Option}
-use Prim.Native.Nat.{ℕ, _<_}
+use Prim.Native.Nat.{ℕ, _<_, _≤_}
 use lib.ListN.{getD, length}
 use Rattle.laws.specs.Tests.{same}
 use Rattle.rules.specs.Store.{pagesOf}
@@ -48,9 +48,11 @@ view x = record {
 unfoldable pub lineIn : Bearers → ℕ → ℕ → Bool
 lineIn b t u = mem u (lineOf b t)
 
--- the lines are those of the parents and depths; the arrays have their lengths
+-- the lines are those of the parents and depths; the flag is 0 or 1; a free number has the parent 0; the arrays have their lengths
 pub record Formed (x : Arrays) : Type 0 where
   pub lines : sets (x .line) ≡ lineIn (bearersOf (x .parent) (x .depth))
+  pub flag : x .up ≤ 1
+  pub tidy : (t : ℕ) → getD (x .depth) t 0 ≡ 0 → getD (x .parent) t 0 ≡ 0
   pub parents : length (x .parent) ≡ 24
   pub depths : length (x .depth) ≡ 24
   pub long : length (x .line) ≡ 24

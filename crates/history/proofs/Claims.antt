@@ -1,7 +1,7 @@
 -- The central law at each prefix of a list, and what is settled after crashes and recoveries.
 use mathlib.Core.Path.{_≡_, refl, sym, ap, _∙_}
 use mathlib.Core.Bool.{Bool, true, false, false≢true}
-use mathlib.Core.List.{List, [], _∷_, _++_, append-nil}
+use mathlib.Core.List.{List, [], _∷_, append-nil}
 use mathlib.Core.Option.{Option, none, some}
 use Prim.Native.Nat.{ℕ}
 use lib.ListN.{length}
@@ -20,6 +20,7 @@ use Rattle.rules.proofs.Medium.{MediumLaws}
 use Rattle.rules.proofs.Acceptance.{Judged, acts, refuses, judge?}
 use Rattle.rules.proofs.Locks.{rooted-of, tree-of}
 use Rattle.rules.proofs.Soundness.{Reached, reached-start, reached-play}
+use Rattle.rules.proofs.Portions.{play-append}
 use Rattle.history.specs.History.{History, nothingYet, standsWith, writesTo, overlaid}
 use Rattle.history.specs.Demand3.{rows, settledIn}
 use Rattle.history.specs.Claims.{seenBy, isRestart, restarts, stateAfter, historyAfter, Reads-overlay, Commit-survives}
@@ -31,14 +32,8 @@ use Rattle.history.proofs.Invariant.{now, Holds, After}
 use Rattle.history.proofs.Runs.{stepOf, rowsFrom, rows-are, future, run-after, start-holds, settled-is}
 
 -- the rows of a list, from its answers
-rows-played : (f : Form) (s : StateOf f) (ws : List ℕ) → rows ws (answerBytes (play f s ws .answers)) ≡ rowsFrom f s ws
+pub rows-played : (f : Form) (s : StateOf f) (ws : List ℕ) → rows ws (answerBytes (play f s ws .answers)) ≡ rowsFrom f s ws
 rows-played f s ws = ap (rows ws) (sym (append-nil (answerBytes (play f s ws .answers)))) ∙ rows-are f s ws []
-
--- a list and more
-play-more : (f : Form) (s : StateOf f) (ws more : List ℕ) → play f s (ws ++ more) .state ≡ play f (play f s ws .state) more .state
-unfolding play
-play-more f s [] more = refl
-play-more f s (w ∷ ws) more = play-more f (stepOf f s w .state) ws more
 
 -- a recovery leaves the store that its page writes left, cut or not
 after-cut : (f : Form) (s : StateOf f) (c : Cut (f .medium .Store)) (b : Bool) (r : ℕ) → now f (concluded (raised s (c .store)) c b .state) r ≡ f .medium .settled (c .store) r
@@ -119,6 +114,6 @@ module _ (f : Form) (M : MediumLaws (f .geometry) (f .medium)) where
   pub commit-survives : (store ws more : List ℕ) → length store ≡ f .medium .size → Commit-survives f store ws more
   unfolding Commit-survives stateAfter
   commit-survives store ws more sized k r =
-      ap (λ (s : StateOf f). now f s r) (play-more f (down (f .medium .fromBytes store)) ws more)
+      ap (λ (s : StateOf f). now f s r) (play-append f (down (f .medium .fromBytes store)) ws more .state)
       ∙ restarts-settled (play f (down (f .medium .fromBytes store)) ws .state) more k r
       ∙ reads-overlay store ws sized .settles r

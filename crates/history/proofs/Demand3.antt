@@ -1,7 +1,7 @@
 -- Demand 3 of every run that is played: from its bytes to lists of words, and back.
 use mathlib.Core.Path.{_≡_, refl, sym, ap, subst, subst⁻¹, _∙_}
-use mathlib.Core.Bool.{Bool, true, false, not, cond, true≢false}
-use mathlib.Core.List.{List, [], _∷_}
+use mathlib.Core.Bool.{Bool, not}
+use mathlib.Core.List.{List}
 use mathlib.Core.Logic.{_≢_}
 use mathlib.Core.Option.{Option, none, some}
 use Prim.Native.Nat.{ℕ, _*_}
@@ -20,6 +20,7 @@ use Rattle.rules.proofs.Medium.{MediumLaws}
 use Rattle.rules.proofs.Editions.{proper1}
 use Rattle.rules.proofs.AtomicPages.{atomic-laws}
 use Rattle.rules.proofs.Acceptance.{pass}
+use Rattle.rules.proofs.Portions.{first-lacks}
 use Rattle.rules.proofs.Soundness.{Reached, reached-start, reached-play}
 use Rattle.history.specs.History.{History, nothingYet, survives, overlaid}
 use Rattle.history.specs.Demand3.{Row, history, Along, SameEvent, SameAnswer, settledIn, Plays, rowsOf, historyOf, Demand-3-holds}
@@ -28,24 +29,11 @@ use Rattle.history.proofs.Invariant.{now, After}
 use Rattle.history.proofs.Runs.{rowsFrom, rows-are, future, run-after, start-holds, settled-is}
 use Rattle.history.proofs.TwoRuns.{twice}
 
--- no run is refused with 0
-abbrev NonZero : List (ℕ × Bool) → Type 0
-NonZero [] = Unit {0}
-NonZero (x ∷ xs) = (x .0 ≢ 0) × NonZero xs
-
-first-some : (l : List (ℕ × Bool)) → NonZero l → firstOf l ≢ some 0
-unfolding firstOf
-first-some [] h e = let z : true ≡ false = cc in true≢false z
-first-some (x ∷ xs) h e = go (x .1) e (first-some xs (h .1))
-  where
-    go : (b : Bool) → cond b (some (x .0)) (firstOf xs) ≡ some 0 → firstOf xs ≢ some 0 → ⊥
-    go true e n = let z : x .0 ≡ 0 = cc in h .0 z
-    go false e n = n e
-
 module _ (f : Form) where
-  numbered : (store events work answers : List ℕ) → NonZero (runRefusals f store events work answers)
+  -- no run is refused with 0
+  not-zero : (store events work answers : List ℕ) → firstOf (runRefusals f store events work answers) ≢ some 0
   unfolding runRefusals
-  numbered store events work answers = ((λ e. omega arith), ((λ e. omega arith), ((λ e. omega arith), ((λ e. omega arith), tt))))
+  not-zero store events work answers = first-lacks 0 _ ((λ e. absurd (omega arith)), ((λ e. absurd (omega arith)), ((λ e. absurd (omega arith)), ((λ e. absurd (omega arith)), tt))))
 
   none-sized : (store events work answers : List ℕ) → firstOf (runRefusals f store events work answers) ≡ none → length store ≡ f .medium .size
   unfolding runRefusals
@@ -59,7 +47,7 @@ module _ (f : Form) where
       go : (o : Option ℕ) → firstOf (runRefusals f store events work answers) ≡ o → runBy f store events answers o .answer ≡ 0
           → (runBy f store events answers (firstOf (runRefusals f store events work answers)) ≡ runAll f store events answers) × (length store ≡ f .medium .size)
       go none q h = (ap (runBy f store events answers) q, none-sized store events work answers q)
-      go (some n) q h = absurd (first-some (runRefusals f store events work answers) (numbered store events work answers) (q ∙ ap some h))
+      go (some n) q h = absurd (not-zero store events work answers (q ∙ ap some h))
 
 module _ (f : Form) (M : MediumLaws (f .geometry) (f .medium)) where
   abbrev g : Geometry
@@ -93,17 +81,30 @@ module _ (f : Form) (M : MediumLaws (f .geometry) (f .medium)) where
     ran = run-after f M (wordsOf events) reached (start-holds f M (f .medium .fromBytes store))
 
   -- two lists of words from one start
-  list-runs : (final : ℕ → Bool) (store ws us : List ℕ) → Reached f M (start store) → ((i : ℕ) → final i ≡ survives (history g nothingYet (rowsFrom f (start store) ws)) i)
+  words-twice : (final : ℕ → Bool) (store ws us : List ℕ) → Reached f M (start store) → ((i : ℕ) → final i ≡ survives (history g nothingYet (rowsFrom f (start store) ws)) i)
       → Along g (SameEvent g final) nothingYet (rowsFrom f (start store) ws) (rowsFrom f (start store) us)
       → Along g (SameAnswer g final) nothingYet (rowsFrom f (start store) ws) (rowsFrom f (start store) us) × M .Agree (play f (start store) ws .state .store) (play f (start store) us .state .store)
   unfolding down
-  list-runs final store ws us R K E =
+  words-twice final store ws us R K E =
       let d = f .medium .fromBytes store in
       twice f M final R (start-holds f M d) (λ j r. none) d ws us K (record { shape = λ j r. refl; alike = λ j r e. refl; stores = M .agree-refl d }) E
 
+  -- the same, of any rows that are theirs: of a whole run, and of portions
+  pub list-runs : (store ws us : List ℕ) → Reached f M (start store) → {a b : List Row} → a ≡ rowsFrom f (start store) ws → b ≡ rowsFrom f (start store) us
+      → let final = survives (history g nothingYet a) in Along g (SameEvent g final) nothingYet a b
+      → Along g (SameAnswer g final) nothingYet a b × ((r : ℕ) → now f (play f (start store) us .state) r ≡ now f (play f (start store) ws .state) r)
+  list-runs store ws us R {a} {b} p q E =
+      let final = survives (history g nothingYet a) in
+      let T = words-twice final store ws us R (λ i. ap (λ (x : List Row). survives (history g nothingYet x) i) p)
+      (subst (λ (y : List Row). Along g (SameEvent g final) nothingYet (rowsFrom f (start store) ws) y) q (subst (λ (x : List Row). Along g (SameEvent g final) nothingYet x b) p E)) in (
+        subst⁻¹ (λ (x : List Row). Along g (SameAnswer g final) nothingYet x b) p
+            (subst⁻¹ (λ (y : List Row). Along g (SameAnswer g final) nothingYet (rowsFrom f (start store) ws) y) q (T .0)),
+        λ r. M .agree-settled _ _ (T .1) r,
+      )
+
   -- DEMAND 3
   pub demand-3 : Demand-3-holds f
-  unfolding Demand-3-holds settledIn
+  unfolding Demand-3-holds settledIn historyOf
   demand-3 store events work answers P = record {
     surviving-writes = first;
     two-runs = second;
@@ -124,14 +125,8 @@ module _ (f : Form) (M : MediumLaws (f .geometry) (f .medium)) where
           → Along g (SameAnswer g final) nothingYet a b
           × ((r : ℕ) → settledIn f (run f store events′ work′ answers′ .store) r ≡ settledIn f (run f store events work answers .store) r)
       second events′ work′ answers′ P′ E =
-          let T = list-runs (survives (historyOf f store events work answers)) store (wordsOf events) (wordsOf events′) (reached store events work answers P)
-          (λ i. ap (λ (h : History). survives h i) (history-of store events work answers P))
-          (subst (λ (b : List Row). Along g (SameEvent g (survives (historyOf f store events work answers))) nothingYet (rowsFrom f (start store) (wordsOf events)) b) (rows-of store events′ work′ answers′ P′)
-          (subst (λ (a : List Row). Along g (SameEvent g (survives (historyOf f store events work answers))) nothingYet a (rowsOf f store events′ work′ answers′)) (rows-of store events work answers P) E)) in (
-            subst⁻¹ (λ (a : List Row). Along g (SameAnswer g (survives (historyOf f store events work answers))) nothingYet a (rowsOf f store events′ work′ answers′)) (rows-of store events work answers P)
-                (subst⁻¹ (λ (b : List Row). Along g (SameAnswer g (survives (historyOf f store events work answers))) nothingYet (rowsFrom f (start store) (wordsOf events)) b) (rows-of store events′ work′ answers′ P′) (T .0)),
-            λ r. settled-at-end store events′ work′ answers′ P′ r ∙ M .agree-settled _ _ (T .1) r ∙ sym (settled-at-end store events work answers P r),
-          )
+          let T = list-runs store (wordsOf events) (wordsOf events′) (reached store events work answers P) (rows-of store events work answers P) (rows-of store events′ work′ answers′ P′) E in
+          (T .0, λ r. settled-at-end store events′ work′ answers′ P′ r ∙ T .1 r ∙ sym (settled-at-end store events work answers P r))
 
 -- of edition 1
 pub demand-3-edition1 : Demand-3-holds edition1

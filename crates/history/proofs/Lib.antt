@@ -11,5 +11,7 @@ pub mod Twins
 pub mod TwoRuns
 pub mod Demand3
 pub mod Claims
+pub mod Joined
+pub mod Called
 pub mod Trials
 pub mod Example

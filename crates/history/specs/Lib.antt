@@ -2,4 +2,6 @@
 pub mod History
 pub mod Demand3
 pub mod Claims
+pub mod Joined
+pub mod Called
 pub mod Trials

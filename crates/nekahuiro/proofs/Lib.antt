@@ -1,3 +1,5 @@
 pub mod Laying
 pub mod Ages
 pub mod Running
+pub mod Portions
+pub mod Chained

@@ -49,7 +49,7 @@ unfolding lengthsRefused refusalNumber firstOf
 refused-not e a h k m = rw (same-refl 1056, same-refl 4096, h, same-refl 0, not-lt-under 16384 e k, not-lt-under a (2 * (e / 4)) (omega (arith, m)))
 
 -- the lengths decide the run's refusal
-by-lengths : (store events work answers : List ℕ) → firstOf (runRefusals edition1 store events work answers) ≡ lengthsRefused (length store) (length events) (length work) (length answers)
+pub by-lengths : (store events work answers : List ℕ) → firstOf (runRefusals edition1 store events work answers) ≡ lengthsRefused (length store) (length events) (length work) (length answers)
 unfolding runRefusals lengthsRefused eventsIn open-geometry
 by-lengths store events work answers = refl
 

@@ -2,3 +2,5 @@
 pub mod Laying
 pub mod Ages
 pub mod Running
+pub mod Portions
+pub mod Chained

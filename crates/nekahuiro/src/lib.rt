@@ -1,9 +1,10 @@
-// The open operations: a run, a fresh store, the age of a record. Any bytes may come in; each refuses or does what the rules say.
+// The open operations: a run, a portion, a fresh store, the age of a record. Any bytes may come in; each refuses or does what the rules say.
 ghost use mathlib.Core.Path.{_≡_};
 ghost use mathlib.Core.Bool.{Bool, cond};
 ghost use Prim.Native.Nat.{ℕ, _+_, _<_, _≤_};
 ghost use lib.IntN.{ℤ};
-ghost use lib.ListN.{length, take};
+ghost use mathlib.Core.List.{List};
+ghost use lib.ListN.{length, take, replicate};
 ghost use Rattle.laws.specs.Bytes.{number as spelled};
 ghost use Rattle.rules.specs.Store.{pagesOf, named, fresh};
 ghost use Rattle.rules.specs.Run.{layFresh};
@@ -14,7 +15,12 @@ ghost use Rattle.history.specs.Demand3.{Demand-3};
 ghost use Rattle.nekahuiro.specs.Ages.{toldAs, ageIn, ageNumber, ageLeft};
 ghost use Rattle.nekahuiro.specs.Laying.{LaidTo};
 ghost use Rattle.nekahuiro.specs.Running.{lengthsRefused, refusalNumber, Ran};
+ghost use Rattle.nekahuiro.specs.Portions.{Kept, kept, Portioned-as};
+ghost use Rattle.events.specs.Whole.{Intact};
+ghost use Rattle.engine.specs.Portion.{whole};
+ghost use Rattle.soundness.specs.Decides.{Decides};
 ghost use Rattle.age.specs.Meaning.{meaning};
+use engine::Engine;
 
 const STORE: usize = 1056;
 
@@ -190,4 +196,99 @@ pub extern "C" fn nekahuiro_run(
     }
     engine::portion(engine::start(), store, events, work, answers);
     0
+}
+
+// The spare bytes are zeros.
+fn is_bare(spare: [u8; 3]) -> bool
+    ensures { λ r. ⌜ Decides r (spare ≡ replicate 3 0) ⌝ }
+{
+    let a = spare[0] == 0;
+    let b = spare[1] == 0;
+    let c = spare[2] == 0;
+    a & b & c
+}
+
+// What is lent as a state is one, and sound.
+fn is_state(e: Engine, store: &[u8]) -> bool
+    requires { ⌜ length (now store) ≡ 1056 ⌝ }
+    ensures { λ r. ⌜ ((work : List ℕ) → length work ≡ 4096 → Decides r (Intact (whole e work (now (store .entry))) × (e .spare ≡ replicate 3 0))) ⌝ }
+{
+    let parent = e.parent;
+    let depth = e.depth;
+    let line = e.line;
+    let held = e.held;
+    let retained = e.retained;
+    let writers = e.writers;
+    let spare = e.spare;
+    let sound = soundness::is_sound(
+        e.up,
+        &parent,
+        &depth,
+        &line,
+        &held,
+        &retained,
+        &writers,
+        store,
+    );
+    let bare = is_bare(spare);
+    sound & bare
+}
+
+// A portion's answer, and the state after it.
+pub struct Portioned {
+    pub engine: Engine,
+    pub number: u8,
+}
+
+// A refused portion: the state stays.
+fn refused(e: Engine, n: u8) -> Portioned
+    ensures { λ r. ⌜ (r .engine ≡ e) × (r .number ≡ n) ⌝ }
+{
+    Portioned {
+        engine: e,
+        number: n,
+    }
+}
+
+// A portion by value.
+fn portion_of(
+    e: Engine,
+    store: &mut [u8],
+    events: &[u8],
+    work: &mut [u8],
+    answers: &mut [u8],
+) -> Portioned
+    ensures { λ r. ⌜ Portioned-as (kept e (now (work .entry)) (now (store .entry))) (now (events .entry)) (now (answers .entry)) (r .number) (kept (r .engine) (now (work .exit)) (now (store .exit))) (now (answers .exit)) ⌝ }
+{
+    let n = refusal(store.len(), events.len(), work.len(), answers.len());
+    if n != 0 {
+        return refused(e, n);
+    }
+    if is_state(e, &store[..]) {
+        let after = engine::portion(e, store, events, work, answers);
+        return Portioned {
+            engine: after,
+            number: 0,
+        };
+    }
+    refused(e, 25)
+}
+
+// Plays a portion of events on a state that is lent and changed in place, with the store and the working buffer that the last portion left. 0, or a
+// refusal's number: 22, 24, 20, 21 or 25, in this order, and then touches nothing.
+#[no_mangle]
+pub extern "C" fn nekahuiro_portion(
+    state: &mut Engine,
+    store: &mut [u8],
+    events: &[u8],
+    work: &mut [u8],
+    answers: &mut [u8],
+) -> u8
+    ensures { λ r. ⌜ Portioned-as (kept (now (state .entry)) (now (work .entry)) (now (store .entry))) (now (events .entry)) (now (answers .entry)) r (kept (now (state .exit)) (now (work .exit)) (now (store .exit))) (now (answers .exit)) ⌝ }
+{
+    let before = *state;
+    let done = portion_of(before, store, events, work, answers);
+    let after = done.engine;
+    *state = after;
+    done.number
 }

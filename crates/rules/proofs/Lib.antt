@@ -1,4 +1,5 @@
 pub mod Trials
+pub mod PortionTrials
 pub mod Medium
 pub mod Tree
 pub mod Bearers
@@ -7,6 +8,9 @@ pub mod Locks
 pub mod Owners
 pub mod Parts
 pub mod Soundness
+pub mod Portions
+pub mod CutLists
+pub mod Calls
 pub mod Editions
 pub mod Map
 pub mod CommitPage

@@ -11,5 +11,8 @@ pub mod Step
 pub mod Run
 pub mod Age
 pub mod Sound
+pub mod Portion
+pub mod Calls
 pub mod Editions
 pub mod Trials
+pub mod PortionTrials

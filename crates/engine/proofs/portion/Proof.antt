@@ -17,12 +17,12 @@ use Rattle.event.proofs.Event.of_word.Reads as of-word-reads
 use Rattle.event.proofs.Event.word_at.Reads as word-at-reads
 
 abbrev Inv-loop : tie.InvT-loop
-Inv-loop store₀ events work₀ answers₀ up₀ parent₀ depth₀ line₀ held₀ retained₀ writers₀ n k₀ store work answers up parent depth line held retained writers k =
+Inv-loop e store₀ events work₀ answers₀ up₀ parent₀ depth₀ line₀ held₀ retained₀ writers₀ n k₀ store work answers up parent depth line held retained writers k =
     (k ≤ n) × (n ≡ length events / 4) × (n ≤ 4096) × (4 * n ≤ length events) × (2 * n ≤ length answers₀)
     × Playing (arrays up₀ parent₀ depth₀ line₀ held₀ retained₀ writers₀ work₀ store₀) events answers₀ n k (arrays up parent depth line held retained writers work store) answers
 
 abbrev μ-loop : tie.MeasureT-loop
-μ-loop store₀ events work₀ answers₀ up₀ parent₀ depth₀ line₀ held₀ retained₀ writers₀ n k₀ store work answers up parent depth line held retained writers k =
+μ-loop e store₀ events work₀ answers₀ up₀ parent₀ depth₀ line₀ held₀ retained₀ writers₀ n k₀ store work answers up parent depth line held retained writers k =
     n - k
 
 loop-holds : tie.Need-loop-holds Inv-loop μ-loop
@@ -59,7 +59,7 @@ same-length-3 : tie.Need-same-length-3 Inv-loop μ-loop
 same-length-3 c = search needs
 
 returns : tie.Need-returns Inv-loop μ-loop
-returns c = let l = c .before .loop in playing-all _ _ _ _ _ (l .k) _ (omega arith) (l .inv .1) (l .inv .5)
+returns c = let l = c .before .before .loop in (playing-all _ _ _ _ _ (l .k) _ (omega arith) (l .inv .1) (l .inv .5), refl)
 
 pub portion-spec : {M : Type 1} → statement M
 portion-spec =

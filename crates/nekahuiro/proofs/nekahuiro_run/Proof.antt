@@ -51,7 +51,7 @@ returns-2 c =
     let none = sym (c .before .before .before .before .before .before .before .before .before .before .before .before .refusal .ensures) ∙ c .before .before .before .before .before .before .before .before .before .before .before .if1 .left in
     let l = lengths-of _ _ _ _ none in
     let begun = c .before .before .before .before .before .before .before .before .before .before .start .ensures (a .work .now) (a .store .now) (l .work) (l .store) in
-    let left = from-start (a .store .now) (a .events .now) (a .work .now) (a .answers .now) (c .before .before .before .before .before .before .before .before .before .before .start .result) _ _ (begun .1) (c .before .before .before .before .before .before .portion .ensures) in
+    let left = from-start (a .store .now) (a .events .now) (a .work .now) (a .answers .now) (c .before .before .before .before .before .before .before .before .before .before .start .result) _ _ (begun .1) (c .before .before .before .before .before .before .portion .ensures .0) in
     signed (run-played (a .store .now) (a .events .now) (a .work .now) (a .answers .now) _ _ _ none (left .0) (left .1) (search needs))
 
 pub nekahuiro-run-spec : {M : Type 1} → statement M

@@ -1,0 +1,52 @@
+-- Calls of a portion, each on what the last one left, from the start.
+use mathlib.Core.Path.{_≡_}
+use mathlib.Core.Bool.{true, false}
+use mathlib.Core.List.{List}
+use Prim.Native.Nat.{ℕ, _*_}
+use lib.ListN.{length, take}
+use Rattle.rules.specs.State.{mem}
+use Rattle.rules.specs.Run.{eventsIn, run}
+use Rattle.rules.specs.Portion.{Lent, allEvents, allZero, AllFit, Fits}
+use Rattle.rules.specs.Calls.{Call, lents, results, left, answersOf, Promised, AllPromised}
+use Rattle.rules.specs.Editions.{edition1}
+use Rattle.history.specs.Called.{Demand-3-called}
+use Rattle.nekahuiro.specs.Portions.{Kept, kept, view, bytes, Proper, zeros}
+
+-- A CALL SINGLES OUT its answer and every byte but those of the working buffer: two calls on x with the same buffers.
+pub record Alike-calls (c d : Call Kept) : Type 0 where
+  pub answer : c .answer ≡ d .answer
+  pub engine : c .after .engine ≡ d .after .engine
+  pub store : c .after .store ≡ d .after .store
+  pub answers : c .answers ≡ d .answers
+  -- of the working buffer the live versions
+  pub state : view (c .after) ≡ view (d .after)
+
+unfoldable pub Singled-out : Type 0
+Singled-out = (x : Kept) (c d : Call Kept) → c .lent ≡ d .lent → Promised edition1 view bytes Proper x c → Promised edition1 view bytes Proper x d → Alike-calls c d
+
+-- calls from all zeros, over a store and a working buffer of the right length
+pub record FromStart (work store : List ℕ) (cs : List (Call Kept)) : Type 0 where
+  pub stores : length store ≡ 1056
+  pub works : length work ≡ 4096
+  pub calls : AllPromised edition1 view bytes Proper (kept zeros work store) cs
+
+-- what holds of them: none is refused with 25, and demand 3 over the joined list
+pub record Called-well (work store : List ℕ) (cs : List (Call Kept)) : Type 0 where
+  pub never-25 : mem 25 (results cs) ≡ false
+  pub demand-3 : Demand-3-called edition1 view bytes Proper (kept zeros work store) cs
+
+unfoldable pub Calls-hold : Type 0
+Calls-hold = (work store : List ℕ) (cs : List (Call Kept)) → FromStart work store cs → Called-well work store cs
+
+-- CUTTING A LIST ANYWHERE gives the answers and the store of its whole run, and the state of one call with the whole list.
+pub record As-run (work store : List ℕ) (cs : List (Call Kept)) (one : Call Kept) : Type 0 where
+  pub played : allZero (results cs) ≡ true
+  pub same-answers : answersOf edition1 cs ≡ take (2 * eventsIn edition1 (allEvents (lents cs))) (run edition1 store (allEvents (lents cs)) (one .lent .work) (one .lent .answers) .answers)
+  pub same-store : left (kept zeros work store) cs .store ≡ run edition1 store (allEvents (lents cs)) (one .lent .work) (one .lent .answers) .store
+  pub same-engine : left (kept zeros work store) cs .engine ≡ one .after .engine
+  pub same-state : view (left (kept zeros work store) cs) ≡ view (one .after)
+
+unfoldable pub Cut-anywhere : Type 0
+Cut-anywhere = (work store : List ℕ) (cs : List (Call Kept)) → FromStart work store cs → AllFit edition1 (lents cs)
+    → (one : Call Kept) → one .lent .events ≡ allEvents (lents cs) → Fits edition1 (one .lent)
+    → Promised edition1 view bytes Proper (kept zeros (one .lent .work) store) one → As-run work store cs one

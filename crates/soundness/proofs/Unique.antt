@@ -1,0 +1,73 @@
+-- Every number of the engine's arrays follows from the state that they encode: two encodings of states with the same flag, bearers, locks and
+-- writers are the same, array by array.
+use mathlib.Core.Path.{_≡_, refl, sym, ap, _∙_, fun-ext}
+use mathlib.Core.Bool.{Bool}
+use mathlib.Core.List.{List}
+use native.Mathlib.Omega.{arith}
+use Prim.Native.Nat.{ℕ, zero, suc, _≤_}
+use lib.ListN.{length, getD}
+use lib.Seq.{ext-getD}
+use Rattle.laws.specs.Tests.{same}
+use Rattle.laws.proofs.Tests.{same?, Same, is, isnt}
+use Rattle.laws.proofs.Booleans.{clash}
+use Rattle.rules.specs.State.{Bearers, Modes, depthIn, parentIn, isLock, lineOf, mem}
+use Rattle.rules.specs.Step.{StateOf}
+use Rattle.rules.specs.Versions.{isSome}
+use Rattle.rules.specs.Editions.{edition1}
+use Rattle.sets.specs.Sets.{sets}
+use Rattle.arrays.specs.View.{bearersOf, modesOf}
+use Rattle.arrays.proofs.View.{depth-is, parent-is, some-is}
+use Rattle.arrays.proofs.Modes.{lock-is}
+use Rattle.soundness.specs.Encoded.{stateOf, Encoded, Sized, Alike}
+use Rattle.soundness.proofs.Words.{bits-same}
+
+same-sets : (l m : List ℕ) → length l ≡ length m → sets l ≡ sets m → l ≡ m
+unfolding sets
+same-sets l m long e = ext-getD 0 l m long (λ i h. bits-same (getD l i 0) (getD m i 0) (ap (λ (f : ℕ → ℕ → Bool). f i) e))
+
+same-locks : (l m : List ℕ) → length l ≡ length m → modesOf (sets l) ≡ modesOf (sets m) → l ≡ m
+same-locks l m long e =
+    same-sets l m long
+    (fun-ext (λ r. fun-ext (λ t. sym (lock-is (sets l) r t) ∙ ap (λ (f : Modes). isLock (f r t)) e ∙ lock-is (sets m) r t)))
+
+same-flag : (a b : ℕ) → a ≤ 1 → b ≤ 1 → same a 1 ≡ same b 1 → a ≡ b
+same-flag a b h k e = go (same? a 1) (same? b 1)
+  where
+    go : Same a 1 → Same b 1 → a ≡ b
+    go (is p s _) (is q u _) = p ∙ sym q
+    go (is p s _) (isnt q u _) = clash s (e ∙ u)
+    go (isnt p s _) (is q u _) = clash u (sym e ∙ s)
+    go (isnt p s _) (isnt q u _) = omega arith
+
+module _ (up : ℕ) (parent depth line held retained writers work store : List ℕ)
+    (up′ : ℕ) (parent′ depth′ line′ held′ retained′ writers′ work′ store′ : List ℕ)
+    (N : Encoded up parent depth line held retained writers work store) (N′ : Encoded up′ parent′ depth′ line′ held′ retained′ writers′ work′ store′)
+    (Z : Sized parent depth line held retained writers store) (Z′ : Sized parent′ depth′ line′ held′ retained′ writers′ store′)
+    (e : stateOf up parent depth held retained writers work store ≡ stateOf up′ parent′ depth′ held′ retained′ writers′ work′ store′) where
+  bearers : bearersOf parent depth ≡ bearersOf parent′ depth′
+  bearers = ap (λ (s : StateOf edition1). s .bearer) e
+
+  depth-same : (t : ℕ) → getD depth t 0 ≡ getD depth′ t 0
+  depth-same t = sym (depth-is parent depth t) ∙ ap (λ (b : Bearers). depthIn (b t)) bearers ∙ depth-is parent′ depth′ t
+
+  parent-same : (t n : ℕ) → getD depth t 0 ≡ n → getD parent t 0 ≡ getD parent′ t 0
+  parent-same t zero d = N .tidy t d ∙ sym (N′ .tidy t (sym (depth-same t) ∙ d))
+  parent-same t (suc n) d =
+      sym (parent-is parent depth t n d) ∙ ap (λ (b : Bearers). parentIn (b t)) bearers ∙ parent-is parent′ depth′ t n (sym (depth-same t) ∙ d)
+
+  writers-same : sets writers ≡ sets writers′
+  writers-same =
+      fun-ext (λ r. fun-ext (λ t.
+      sym (some-is depth writers work t r) ∙ ap (λ (s : StateOf edition1). isSome (s .version t r)) e ∙ some-is depth′ writers′ work′ t r))
+
+  pub encoding-unique : Alike up parent depth line held retained writers up′ parent′ depth′ line′ held′ retained′ writers′
+  encoding-unique = record {
+    ups = same-flag up up′ (N .flag) (N′ .flag) (ap (λ (s : StateOf edition1). s .up) e);
+    parents = ext-getD 0 parent parent′ (Z .parents ∙ sym (Z′ .parents)) (λ t h. parent-same t (getD depth t 0) refl);
+    depths = ext-getD 0 depth depth′ (Z .depths ∙ sym (Z′ .depths)) (λ t h. depth-same t);
+    lines = same-sets line line′ (Z .lines ∙ sym (Z′ .lines))
+        (N .lines ∙ ap {B = ℕ → ℕ → Bool} (λ (b : Bearers) (t u : ℕ). mem u (lineOf b t)) bearers ∙ sym (N′ .lines));
+    helds = same-locks held held′ (Z .helds ∙ sym (Z′ .helds)) (ap (λ (s : StateOf edition1). s .held) e);
+    retaineds = same-locks retained retained′ (Z .retaineds ∙ sym (Z′ .retaineds)) (ap (λ (s : StateOf edition1). s .retained) e);
+    writerss = same-sets writers writers′ (Z .writerss ∙ sym (Z′ .writerss)) writers-same;
+  }

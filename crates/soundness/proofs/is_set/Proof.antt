@@ -1,0 +1,15 @@
+-- A set has transaction numbers only if nothing stands above its low 24 bits.
+use Rattle.laws.specs.Tests.{same}
+use Rattle.soundness.proofs.Words.{decides-numbered}
+use Rattle.soundness.proofs.is_set.Statement.{statement}
+use Rattle.soundness.proofs.is_set.Tie as tie
+use Rattle.soundness.proofs.is_set.Reads as reads
+use Rattle.soundness.proofs.is_set.Lts as lts
+
+-- src/lib.rt:102:1
+returns : tie.Need-returns
+unfolding same
+returns c = decides-numbered 24 (c .args .s)
+
+pub is-set-spec : {M : Type 1} → statement M
+is-set-spec = tie.close (tie.spec returns)
