@@ -2,7 +2,7 @@
 
 use nekahuiro::limits::{ANSWER_BYTES, EVENTS, EVENT_BYTES, STORE_BYTES, WORK_BYTES};
 use nekahuiro::{raw, Event, Fields, Record, Refusal, State, Store, Transaction, Work};
-use nekahuiro_history::{first_half, Run};
+use nekahuiro_history::{first_half, tell, tell_from, Earlier, End, Run, Transaction as Told};
 use nekahuiro_lists::stores::{self, Bytes};
 use nekahuiro_lists::{timing, worked, Rng};
 use nekahuiro_player::soundness::Fault;
@@ -68,6 +68,43 @@ fn a_chain_of_portions_is_longer_than_any_list() {
         let run = Run { before: &store, events: &joined, answers: &answers, after: &board.store };
         let history = first_half(run).unwrap();
         assert!(history.transactions.iter().filter(|told| told.survives).count() > 100);
+    }
+}
+
+#[test]
+fn a_history_can_begin_anywhere() {
+    let mut rng = Rng::new(10);
+    for number in 0..lists() / 4 {
+        let case = random::case(settings::seed() + 10, number);
+        let at = rng.below(case.length() + 1);
+        let mut board = Board::new(case.store, &mut rng);
+        let mut answers = board.play(&case.events[..at * EVENT_BYTES]).unwrap();
+        let facts = lent::facts(&board.state, &board.work);
+        let changed = |t| facts.versions.keys().filter(move |(writer, _)| *writer == t).map(|(_, record)| record.0);
+        let mut live: Vec<_> = facts.live.iter().collect();
+        live.sort_by_key(|(_, begun)| begun.depth);
+        let earlier = live.iter().map(|(t, begun)| Earlier {
+            number: t.0,
+            parent: begun.parent.map(|parent| parent.0),
+            changed: changed(**t).collect(),
+        });
+        let earlier: Vec<Earlier> = earlier.collect();
+        let late = board.play(&case.events[at * EVENT_BYTES..]).unwrap();
+        let part = tell_from(&earlier, &case.events[at * EVENT_BYTES..], &late).unwrap();
+        answers.extend(late);
+        let whole = tell(&case.events, &answers).unwrap();
+        // The same transactions, in another order, have the same fate.
+        let fate = |told: &Told| (told.begun.filter(|begun| *begun >= at), told.number, told.survives);
+        let lives_on = |told: &&Told| match told.end {
+            End::Never => true,
+            End::Committed { at: end, .. } | End::Aborted(end) | End::Crashed(end) => end >= at,
+        };
+        let mut due: Vec<_> = whole.transactions.iter().filter(lives_on).map(fate).collect();
+        let later = |told: &Told| (told.begun.map(|begun| begun + at), told.number, told.survives);
+        let mut found: Vec<_> = part.transactions.iter().map(later).collect();
+        due.sort_unstable();
+        found.sort_unstable();
+        assert_eq!(found, due, "list {number}, cut at {at}");
     }
 }
 

@@ -38,7 +38,12 @@ fn draw_box(svg: &mut Svg, told: &Told, scale: &Scale, bar: &Bar, y: f64) {
         End::Aborted(at) => format!("aborted at event {}", at + 1),
         End::Crashed(at) => format!("crashed at event {}", at + 1),
     };
-    let tip = format!("transaction {}, begun at event {}, {ending}: {fate}", transaction.number, bar.first + 1);
+    let begun = match transaction.begun {
+        Some(at) => format!("begun at event {}", at + 1),
+        None => "begun before".to_string(),
+    };
+    let outcome = if told.is_open(bar.transaction) { "open" } else { fate };
+    let tip = format!("transaction {}, {begun}, {ending}: {outcome}", transaction.number);
     svg.rect(x, y, width.max(2.0), bar.height, &format!("{fate}{open}"), &tip);
 }
 
@@ -50,8 +55,10 @@ fn draw_badge(svg: &mut Svg, told: &Told, scale: &Scale, bar: &Bar, y: f64) {
         return;
     }
     let class = if transaction.survives { "badge-survives" } else { "badge-lost" };
-    svg.circle(scale.middle(bar.first), y, 8.5, class);
-    svg.text(scale.middle(bar.first), y + 3.5, "badge", &transaction.number.to_string());
+    // One that was live before has an event of its own in its first column.
+    let x = if transaction.begun.is_some() { scale.middle(bar.first) } else { scale.left(bar.first) };
+    svg.circle(x, y, 8.5, class);
+    svg.text(x, y + 3.5, "badge", &transaction.number.to_string());
 }
 
 fn draw_event(svg: &mut Svg, told: &Told, scale: &Scale, at: usize, y: f64) {
