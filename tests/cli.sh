@@ -73,6 +73,9 @@ ok "a dry run" "11 events" "$run" play store hex.txt --dry
 same "a dry run leaves the store" store before
 
 # Portions and state files: as one run over the joined lists.
+number() { awk -v name="NEKAHUIRO_$1" '$2 == name { print $3 }' "$root/include/nekahuiro.h"; }
+state_bytes=$(number STATE_BYTES)
+desk_bytes=$((state_bytes + $(number WORK_BYTES)))
 "$run" fresh whole >out && "$run" fresh cut >out && cp cut cut.first
 ok "the whole list" "11 events: 10 done, 0 refused, 1 cut" "$run" play whole hex.txt --answers whole.bin
 ok "in portions" "11 events: 10 done, 0 refused, 1 cut" "$run" play cut hex.txt --portions 2 --answers cut.bin
@@ -82,7 +85,7 @@ cp cut.first cut
 ok "a first part" "6 events: 6 done.* 2 transactions: 0 survive, 0 lost, 2 still open" \
     bash -c "head -4 hex.txt | '$run' play cut - --state desk --answers one.bin"
 holds "what is live is said" grep -qx "desk: up, live: 0" out
-holds "a state file has 4436 bytes" test "$(stat -c %s desk)" = 4436
+holds "a state file has state and working buffer" test "$(stat -c %s desk)" = "$desk_bytes"
 cp desk desk.first
 ok "a dry run from a state" "desk: down" "$run" play cut rest.txt --state desk --dry
 same "a dry run leaves the state" desk desk.first
@@ -101,11 +104,11 @@ ok "more events than a run takes" "^5000 events: 5000 done" \
 same "more events leave the store" whole cut
 ok "an empty list on a state" "^0 events" bash -c "'$run' play cut - --state desk </dev/null"
 cp cut cut.before; cp desk desk.before; cp desk.first odd
-printf '\x01' | dd of=odd bs=1 seek=339 conv=notrunc 2>err
+printf '\x01' | dd of=odd bs=1 seek=$((state_bytes - 1)) conv=notrunc 2>err
 fails "a state that isn't sound" 1 "the state in odd is refused .25.*cut isn't the store" "$run" play cut words.txt --state odd
 fails "a state of another store" 1 "refused .25." "$run" play cut words.txt --state desk.first
-head -c 4435 desk >short.desk
-fails "a short state file" 1 "no state file: it has 4435 bytes, and a state file has 4436" \
+head -c $((desk_bytes - 1)) desk >short.desk
+fails "a short state file" 1 "no state file: it has $((desk_bytes - 1)) bytes, and a state file has $desk_bytes" \
     "$run" play cut words.txt --state short.desk
 fails "a folder for a state" 1 "can't read" "$run" play cut words.txt --state .
 fails "a state in a missing folder" 1 "can't write missing/desk" "$run" play cut words.txt --state missing/desk

@@ -39,9 +39,9 @@ line; # starts a comment. Any other file is taken as raw event words of 4 bytes.
 The store file is replaced only when all has gone well, in one step. The exit status is 0 only then:
 1 means that something failed, 2 that the command was called wrongly.
 
-A state file has what is live between two portions: the lent state of 340 bytes, then the working buffer
-of 4096. It goes with its store, and nothing else may write the two between. If the power goes while
-they are replaced, the state file is gone: what was live is lost, and the next list starts down.
+A state file has what is live between two portions: the lent state, then the working buffer. It goes
+with its store, and nothing else may write the two between. If the power goes while they are replaced,
+the state file is gone: what was live is lost, and the next list starts down.
 ";
 
 /// Prints the help.

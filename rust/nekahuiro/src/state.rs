@@ -51,9 +51,9 @@ layout! {
     /// sound is refused with [`Refusal::State`]. A set of transactions has bit `1 << t` for t.
     ///
     /// ```
-    /// use nekahuiro::State;
+    /// use nekahuiro::{limits::STATE_BYTES, State};
     /// let state = State::new();
-    /// assert_eq!(state.bytes(), [0; 340]);
+    /// assert_eq!(state.bytes(), [0; STATE_BYTES]);
     /// assert_eq!(State::of(&state.bytes()), Ok(state));
     /// ```
     pub struct State {

@@ -71,11 +71,16 @@ fn bit(transaction: PlayersTransaction) -> u32 {
 /// The facts of a struct that may be lent with this store, or why it may not.
 pub fn judge(state: &State, work: &Work, store: &Bytes) -> Result<Facts, Unsound> {
     let facts = facts(state, work);
-    match facts.fault(store[..PAGE_BYTES] == stores::fresh()[..PAGE_BYTES]) {
+    match facts.fault(is_empty(store)) {
         Some(fault) => Err(Unsound::Facts(fault)),
         None if encode(&facts) != *state => Err(Unsound::Struct),
         None => Ok(facts),
     }
+}
+
+/// Whether the commit page is empty.
+pub fn is_empty(store: &Bytes) -> bool {
+    store[..PAGE_BYTES] == stores::fresh()[..PAGE_BYTES]
 }
 
 /// Which bytes of the working buffer hold versions.

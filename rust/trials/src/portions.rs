@@ -32,8 +32,7 @@ impl Board {
 
     /// A board on which a state was put; none if it isn't sound.
     pub fn with(state: State, store: Bytes, work: Work) -> Option<Board> {
-        let facts = lent::judge(&state, &work, &store).ok()?;
-        let desk = Desk::of(&facts, true)?;
+        let desk = Desk::of(&lent::facts(&state, &work), lent::is_empty(&store))?;
         Some(Board { state, store, work, desk, players_store: store })
     }
 
@@ -112,7 +111,7 @@ impl Board {
             answers.truncate((events.len() / EVENT_BYTES * ANSWER_BYTES).saturating_sub(1));
         }
         if wrong(4, rng) {
-            state.spare[rng.below(state.spare.len())] = 1 << rng.below(8);
+            state.up = 2 + rng.below(254) as u8;
         }
         let before = (state.clone(), store.clone(), work.clone(), answers.clone());
         let number = raw::portion(&mut state, &mut store, &list, &mut work, &mut answers);
@@ -162,15 +161,12 @@ pub fn mutate(state: &mut State, rng: &mut Rng) {
     let live: Vec<usize> = (0..state.depth.len()).filter(|t| state.depth[*t] != 0).collect();
     let someone = rng.pick(&live).copied().unwrap_or(t);
     let bit = 1 << someone;
-    match rng.below(16) {
-        0 => {
+    match rng.below(15) {
+        0..=1 => {
             let mut bytes = state.bytes();
-            bytes[rng.below(STATE_BYTES)] ^= 1 << rng.below(8);
-            State::of(&bytes).into_iter().for_each(|changed| *state = changed);
-        }
-        1 => {
-            let mut bytes = state.bytes();
-            bytes[rng.below(STATE_BYTES)] = rng.byte();
+            // The last bytes are few and say much.
+            let at = if rng.percent(30) { STATE_BYTES - 1 - rng.below(4) } else { rng.below(STATE_BYTES) };
+            bytes[at] = if rng.percent(50) { bytes[at] ^ 1 << rng.below(8) } else { rng.byte() };
             State::of(&bytes).into_iter().for_each(|changed| *state = changed);
         }
         2 => state.depth[someone] = state.depth[someone].wrapping_add(rng.one_of([1, 255])),
@@ -185,7 +181,6 @@ pub fn mutate(state: &mut State, rng: &mut Rng) {
         11 => state.writers[r] |= (state.held[r] | state.retained[r]) & rng.bits() as u32,
         12 => state.up = rng.one_of([0, 1, 1, 1, 2, 255]),
         13 => state.line[someone] ^= 1 << rng.below(32),
-        14 => state.spare[rng.below(state.spare.len())] = rng.byte(),
         _ => {
             // Gone, with all that it held: sound if it was a leaf.
             state.depth[someone] = 0;

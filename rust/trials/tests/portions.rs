@@ -1,11 +1,14 @@
 //! Events in portions: cuttings against whole runs, and what may be lent against an independent judge.
 
-use nekahuiro::limits::{ANSWER_BYTES, EVENTS, EVENT_BYTES, STORE_BYTES, WORK_BYTES};
+use nekahuiro::limits::{ANSWER_BYTES, EVENTS, EVENT_BYTES, STATE_BYTES, STORE_BYTES, WORK_BYTES};
 use nekahuiro::{raw, Event, Fields, Record, Refusal, State, Store, Transaction, Work};
-use nekahuiro_history::{first_half, tell, tell_from, Earlier, End, Run, Transaction as Told};
+use nekahuiro_history::{
+    first_half, second_half, second_list, tell, tell_from, Earlier, End, Run, Transaction as Told,
+};
 use nekahuiro_lists::stores::{self, Bytes};
 use nekahuiro_lists::{timing, worked, Rng};
 use nekahuiro_player::soundness::Fault;
+use nekahuiro_trials::exhaustive::NESTED;
 use nekahuiro_trials::lent::{self, Unsound};
 use nekahuiro_trials::portions::{any_state, check_cut, mutate, share, Board};
 use nekahuiro_trials::{listed, random, settings, Case};
@@ -64,11 +67,51 @@ fn a_chain_of_portions_is_longer_than_any_list() {
             joined.extend(list);
         }
         assert!(joined.len() > 4 * EVENTS * EVENT_BYTES);
-        // Demand 3 holds over the joined list.
-        let run = Run { before: &store, events: &joined, answers: &answers, after: &board.store };
-        let history = first_half(run).unwrap();
+        // Demand 3 holds over the joined list, and the second run may be cut elsewhere.
+        let first = Run { before: &store, events: &joined, answers: &answers, after: &board.store };
+        let history = first_half(first).unwrap();
         assert!(history.transactions.iter().filter(|told| told.survives).count() > 100);
+        let changed = second_list(&history, &joined, |value| value.wrapping_add(0x5D)).unwrap();
+        let mut second = Board::new(store, &mut rng);
+        let portions = changed.chunks(EVENT_BYTES * 1000);
+        let answers: Vec<u8> = portions.flat_map(|portion| second.play(portion).unwrap()).collect();
+        let run = Run { before: &store, events: &changed, answers: &answers, after: &second.store };
+        second_half(&history, first, run).unwrap();
     }
+}
+
+#[test]
+fn short_lists_cut_at_every_place() {
+    let letters = listed::words(NESTED);
+    let letters: Vec<&[u8]> = letters.chunks_exact(EVENT_BYTES).collect();
+    let length = settings::length(3) as u32;
+    let lists = (letters.len() as u64).pow(length);
+    let failure = share(lists, |number| {
+        let mut rng = rng(11, number);
+        let mut events = listed::words("recover 63, begin none, begin 0, lock 1 0");
+        for place in 0..length {
+            let letter = number / (letters.len() as u64).pow(place) % letters.len() as u64;
+            events.extend(letters[letter as usize]);
+        }
+        let mut whole = Store::fresh();
+        let due = whole.play_words(&events).map_err(|refusal| refusal.to_string())?;
+        let due: Vec<u8> = due.iter().flat_map(|answer| answer.bytes()).collect();
+        let mut ends = Vec::new();
+        for at in 0..=events.len() / EVENT_BYTES {
+            let mut board = Board::new(stores::fresh(), &mut rng);
+            let (early, late) = events.split_at(at * EVENT_BYTES);
+            let answers = [board.play(early)?, board.play(late)?].concat();
+            if answers != due || board.store != *whole.bytes() {
+                return Err(format!("{events:02X?}, cut at {at}: not what the whole run gives"));
+            }
+            ends.push(board.state);
+        }
+        match ends.iter().all(|state| *state == ends[0]) {
+            true => Ok(()),
+            false => Err(format!("{events:02X?}: another state when cut elsewhere")),
+        }
+    });
+    assert_eq!(failure, None);
 }
 
 #[test]
@@ -330,10 +373,11 @@ fn the_library_takes_exactly_what_the_judge_calls_sound_and_plays_on() {
     });
     assert_eq!(failure, None, "seed {}", settings::seed());
     let verdicts = verdicts.into_inner().unwrap();
-    println!("lent states: {structs} structs, {verdicts:?}");
+    let sound = verdicts.get("Ok(())").copied().unwrap_or(0);
+    println!("lent states: {structs} structs, {sound} sound, the others for {} reasons", verdicts.len() - 1);
     // Every clause was met, and a good part was sound.
     assert!(structs < 2_000 || verdicts.len() >= 13, "{verdicts:?}");
-    assert!(structs < 2_000 || verdicts.get("Ok(())").is_some_and(|sound| sound * 5 > structs), "{verdicts:?}");
+    assert!(structs < 2_000 || sound * 5 > structs, "{verdicts:?}");
 }
 
 #[test]
@@ -341,8 +385,8 @@ fn random_bytes_are_hardly_ever_a_state() {
     let mut rng = Rng::new(9);
     for _ in 0..20_000 {
         let mut bytes = State::new().bytes();
-        for _ in 0..rng.one_of([1, 2, 5, 340]) {
-            bytes[rng.below(340)] = rng.byte();
+        for _ in 0..rng.one_of([1, 2, 5, STATE_BYTES]) {
+            bytes[rng.below(STATE_BYTES)] = rng.byte();
         }
         let state = State::of(&bytes).unwrap();
         assert_eq!(state.bytes(), bytes);
@@ -364,5 +408,5 @@ fn a_state_tells_who_is_live_and_who_has_what() {
     assert_eq!(numbers(state.writers(record).collect()), [0]);
     assert_eq!(work.version(record, 1)[2], 0xA5);
     assert_eq!((work.version(record, 0), work.version(record, 9)), ([0; 32], [0; 32]));
-    assert_eq!(State::of(&[0; 339]), Err(Refusal::State));
+    assert_eq!(State::of(&[0; STATE_BYTES - 1]), Err(Refusal::State));
 }
