@@ -218,6 +218,11 @@ pub fn any_state(rng: &mut Rng) -> State {
     state
 }
 
+/// The random source for a number of a test, which its salt tells from other tests.
+pub fn rng(salt: u64, number: u64) -> Rng {
+    Rng::new(settings::seed() ^ salt.rotate_left(40) ^ number.wrapping_mul(0xA24B_AED4_963E_E407))
+}
+
 /// Does `work` for each number below `count`, shared among threads; the first failure.
 pub fn share(count: u64, work: impl Fn(u64) -> Result<(), String> + Sync) -> Option<String> {
     let (next, found) = (AtomicU64::new(0), Mutex::new(None));
