@@ -181,15 +181,17 @@ pub fn mutate(state: &mut State, rng: &mut Rng) {
         11 => state.writers[r] |= (state.held[r] | state.retained[r]) & rng.bits() as u32,
         12 => state.up = rng.one_of([0, 1, 1, 1, 2, 255]),
         13 => state.line[someone] ^= 1 << rng.below(32),
-        _ => {
-            // Gone, with all that it held: sound if it was a leaf.
-            state.depth[someone] = 0;
-            state.parent[someone] = 0;
-            state.line[someone] = 0;
-            for set in state.held.iter_mut().chain(&mut state.retained).chain(&mut state.writers) {
-                *set &= !bit;
-            }
-        }
+        _ => forget(state, someone),
+    }
+}
+
+/// A transaction is gone, with all that it held: sound if it was a leaf.
+fn forget(state: &mut State, transaction: usize) {
+    state.depth[transaction] = 0;
+    state.parent[transaction] = 0;
+    state.line[transaction] = 0;
+    for set in state.held.iter_mut().chain(&mut state.retained).chain(&mut state.writers) {
+        *set &= !(1 << transaction);
     }
 }
 

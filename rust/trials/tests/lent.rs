@@ -34,54 +34,59 @@ fn judged(state: &State, work: &Work, store: &Bytes) -> Result<(), Unsound> {
 
 const CHAIN: &str = "begin none, begin 0, begin 1, begin none";
 
+const fn unsound(fault: Fault) -> Result<(), Unsound> {
+    Err(Unsound::Facts(fault))
+}
+
+const ODD: Result<(), Unsound> = Err(Unsound::Struct);
+const DEEP: &str = "begin none, begin 0, begin 1, begin 2, begin 3, begin 4, begin 5, begin 6";
+
+/// Events, a change by hand, and what is to be said to the state: each clause is broken, alone where
+/// that can be.
+type Row = (&'static str, fn(&mut State), Result<(), Unsound>);
+const ROWS: &[Row] = &[
+    (CHAIN, |_| (), Ok(())),
+    ("begin none", |s| (s.parent[0], s.line[0]) = (5, 1 | 1 << 5), unsound(Fault::Parent)),
+    ("begin none", |s| s.parent[0] = 5, unsound(Fault::Parent)),
+    ("begin none", |s| s.parent[0] = 24, unsound(Fault::Parent)),
+    ("begin none", |s| s.parent[0] = 30, unsound(Fault::Parent)),
+    ("begin none", |s| s.parent[0] = 0, unsound(Fault::Depth)),
+    (CHAIN, |s| s.depth[3] = 2, unsound(Fault::Depth)),
+    (CHAIN, |s| s.depth[2] = 2, unsound(Fault::Depth)),
+    (CHAIN, |s| (s.parent[0], s.depth[0]) = (1, 3), unsound(Fault::Depth)),
+    (DEEP, |_| (), Ok(())),
+    (DEEP, |s| (s.parent[8], s.depth[8], s.line[8]) = (7, 9, 0x1FF), unsound(Fault::TooDeep)),
+    (CHAIN, |s| s.held[3] = 1 << 7, unsound(Fault::Holder)),
+    (CHAIN, |s| s.held[3] = 1 << 24, unsound(Fault::Holder)),
+    (CHAIN, |s| s.retained[3] = 1 << 7, unsound(Fault::Retainer)),
+    (CHAIN, |s| s.retained[15] = 1 << 31, unsound(Fault::Retainer)),
+    (CHAIN, |s| s.retained[3] = 0b0111, Ok(())),
+    (CHAIN, |s| s.retained[3] = 0b1001, unsound(Fault::Line)),
+    (CHAIN, |s| (s.retained[3], s.held[3]) = (0b0101, 0b0100), Ok(())),
+    (CHAIN, |s| s.held[3] = 0b0011, unsound(Fault::TwoHolders)),
+    (CHAIN, |s| (s.retained[3], s.held[3]) = (0b0101, 0b0010), unsound(Fault::Beneath)),
+    (CHAIN, |s| (s.retained[3], s.held[3]) = (0b0010, 0b1000), unsound(Fault::Beneath)),
+    (CHAIN, |s| (s.retained[3], s.writers[3]) = (0b0001, 0b0010), unsound(Fault::Version)),
+    (CHAIN, |s| (s.held[3], s.writers[2]) = (0b0001, 0b0001), unsound(Fault::Version)),
+    (CHAIN, |s| s.writers[3] = 1 << 9, unsound(Fault::Version)),
+    (CHAIN, |s| (s.retained[3], s.held[3], s.writers[3]) = (0b0011, 0b0100, 0b0111), Ok(())),
+    ("begin none", |s| s.up = 0, unsound(Fault::Down)),
+    ("begin none, abort 0", |s| s.up = 0, Ok(())),
+    ("begin none", |s| s.up = 2, ODD),
+    ("crash", |s| s.up = 128, ODD),
+    (CHAIN, |s| s.line[2] = 0b0101, ODD),
+    (CHAIN, |s| s.line[3] = 0b1001, ODD),
+    (CHAIN, |s| s.line[0] = 1 | 1 << 31, ODD),
+    (CHAIN, |s| s.line[7] = 1 << 7, ODD),
+    (CHAIN, |s| s.parent[7] = 1, ODD),
+    (CHAIN, |s| s.parent[23] = 31, ODD),
+    (CHAIN, |s| s.spare[0] = 1, ODD),
+    (CHAIN, |s| s.spare[2] = 128, ODD),
+];
+
 #[test]
 fn each_clause_of_soundness_is_asked() {
-    let facts = |fault| Err(Unsound::Facts(fault));
-    let odd = Err(Unsound::Struct);
-    type Row = (&'static str, fn(&mut State), Result<(), Unsound>);
-    let rows: &[Row] = &[
-        (CHAIN, |_| (), Ok(())),
-        ("begin none", |s| (s.parent[0], s.line[0]) = (5, 1 | 1 << 5), facts(Fault::Parent)),
-        ("begin none", |s| s.parent[0] = 24, facts(Fault::Parent)),
-        ("begin none", |s| s.parent[0] = 30, facts(Fault::Parent)),
-        ("begin none", |s| s.parent[0] = 0, facts(Fault::Depth)),
-        (CHAIN, |s| s.depth[3] = 2, facts(Fault::Depth)),
-        (CHAIN, |s| s.depth[2] = 2, facts(Fault::Depth)),
-        (CHAIN, |s| (s.parent[0], s.depth[0]) = (1, 3), facts(Fault::Depth)),
-        ("begin none, begin 0, begin 1, begin 2, begin 3, begin 4, begin 5, begin 6", |_| (), Ok(())),
-        (
-            "begin none, begin 0, begin 1, begin 2, begin 3, begin 4, begin 5, begin 6",
-            |s| (s.parent[8], s.depth[8], s.line[8]) = (7, 9, 0x1FF),
-            facts(Fault::TooDeep),
-        ),
-        (CHAIN, |s| s.held[3] = 1 << 7, facts(Fault::Holder)),
-        (CHAIN, |s| s.held[3] = 1 << 24, facts(Fault::Holder)),
-        (CHAIN, |s| s.retained[3] = 1 << 7, facts(Fault::Retainer)),
-        (CHAIN, |s| s.retained[15] = 1 << 31, facts(Fault::Retainer)),
-        (CHAIN, |s| s.retained[3] = 0b0111, Ok(())),
-        (CHAIN, |s| s.retained[3] = 0b1001, facts(Fault::Line)),
-        (CHAIN, |s| (s.retained[3], s.held[3]) = (0b0101, 0b0100), Ok(())),
-        (CHAIN, |s| s.held[3] = 0b0011, facts(Fault::TwoHolders)),
-        (CHAIN, |s| (s.retained[3], s.held[3]) = (0b0101, 0b0010), facts(Fault::Beneath)),
-        (CHAIN, |s| (s.retained[3], s.held[3]) = (0b0010, 0b1000), facts(Fault::Beneath)),
-        (CHAIN, |s| (s.retained[3], s.writers[3]) = (0b0001, 0b0010), facts(Fault::Version)),
-        (CHAIN, |s| (s.held[3], s.writers[2]) = (0b0001, 0b0001), facts(Fault::Version)),
-        (CHAIN, |s| s.writers[3] = 1 << 9, facts(Fault::Version)),
-        (CHAIN, |s| (s.retained[3], s.held[3], s.writers[3]) = (0b0011, 0b0100, 0b0111), Ok(())),
-        ("begin none", |s| s.up = 0, facts(Fault::Down)),
-        ("begin none, abort 0", |s| s.up = 0, Ok(())),
-        ("begin none", |s| s.up = 2, odd),
-        ("crash", |s| s.up = 128, odd),
-        (CHAIN, |s| s.line[2] = 0b0101, odd),
-        (CHAIN, |s| s.line[3] = 0b1001, odd),
-        (CHAIN, |s| s.line[0] = 1 | 1 << 31, odd),
-        (CHAIN, |s| s.line[7] = 1 << 7, odd),
-        (CHAIN, |s| s.parent[7] = 1, odd),
-        (CHAIN, |s| s.parent[23] = 31, odd),
-        (CHAIN, |s| s.spare[0] = 1, odd),
-        (CHAIN, |s| s.spare[2] = 128, odd),
-    ];
-    for (at, (list, change, due)) in rows.iter().enumerate() {
+    for (at, (list, change, due)) in ROWS.iter().enumerate() {
         let (state, work) = after(list, *change);
         assert_eq!(judged(&state, &work, &stores::fresh()), *due, "row {at}");
     }
@@ -91,7 +96,7 @@ fn each_clause_of_soundness_is_asked() {
         let store =
             if way == stores::DAMAGES { stores::committed(&mut rng, 0x9000) } else { stores::damaged(&mut rng, way) };
         let up = after("begin none", |_| ());
-        assert_eq!(judged(&up.0, &up.1, &store), facts(Fault::Page));
+        assert_eq!(judged(&up.0, &up.1, &store), unsound(Fault::Page));
         let down = after("crash", |_| ());
         assert_eq!(judged(&down.0, &down.1, &store), Ok(()));
     }
