@@ -82,7 +82,7 @@ ok "in portions" "11 events: 10 done, 0 refused, 1 cut" "$run" play cut hex.txt 
 same "in portions: the answers" whole.bin cut.bin
 same "in portions: the store" whole cut
 cp cut.first cut
-ok "a first part" "6 events: 6 done.* 2 transactions: 0 survive, 0 lost, 2 still open" \
+ok "a first part" "6 events: 6 done.* 2 transactions: 0 survive, 0 lost, 2 undecided" \
     bash -c "head -4 hex.txt | '$run' play cut - --state desk --answers one.bin"
 holds "what is live is said" grep -qx "desk: up, live: 0" out
 holds "a state file has state and working buffer" test "$(stat -c %s desk)" = "$desk_bytes"

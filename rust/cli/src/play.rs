@@ -200,7 +200,7 @@ fn report(options: &Options, played: &Played) -> String {
         answers.len() - accepted,
         transactions - survive - open,
     );
-    let _ = if open == 0 { writeln!(text) } else { writeln!(text, ", {open} still open") };
+    let _ = if open == 0 { writeln!(text) } else { writeln!(text, ", {open} undecided") };
     if let (Some(path), Some(left)) = (&options.state, left) {
         let _ = writeln!(text, "{path}: {}", left.in_words());
     }

@@ -27,7 +27,7 @@ pub fn draw(svg: &mut Svg, told: &Told, scale: &Scale, layout: &Layout, top: f64
 
 fn draw_box(svg: &mut Svg, told: &Told, scale: &Scale, bar: &Bar, y: f64) {
     let transaction = &told.history.transactions[bar.transaction];
-    let fate = if transaction.survives { "survives" } else { "lost" };
+    let fate = told.fate(bar.transaction);
     let open = if transaction.end == End::Never { " open" } else { "" };
     let x = scale.left(bar.first) + 1.0;
     let width = scale.left(bar.last) + scale.step - 1.0 - x;
@@ -42,8 +42,7 @@ fn draw_box(svg: &mut Svg, told: &Told, scale: &Scale, bar: &Bar, y: f64) {
         Some(at) => format!("begun at event {}", at + 1),
         None => "begun before".to_string(),
     };
-    let outcome = if told.is_open(bar.transaction) { "open" } else { fate };
-    let tip = format!("transaction {}, {begun}, {ending}: {outcome}", transaction.number);
+    let tip = format!("transaction {}, {begun}, {ending}: {fate}", transaction.number);
     svg.rect(x, y, width.max(2.0), bar.height, &format!("{fate}{open}"), &tip);
 }
 
@@ -54,10 +53,10 @@ fn draw_badge(svg: &mut Svg, told: &Told, scale: &Scale, bar: &Bar, y: f64) {
         svg.text(scale.left(bar.first) + 3.0, y - 4.5, "small", &transaction.number.to_string());
         return;
     }
-    let class = if transaction.survives { "badge-survives" } else { "badge-lost" };
+    let class = format!("badge-{}", told.fate(bar.transaction));
     // One that was live before has an event of its own in its first column.
     let x = if transaction.begun.is_some() { scale.middle(bar.first) } else { scale.left(bar.first) };
-    svg.circle(x, y, 8.5, class);
+    svg.circle(x, y, 8.5, &class);
     svg.text(x, y + 3.5, "badge", &transaction.number.to_string());
 }
 

@@ -31,6 +31,15 @@ impl Told<'_> {
     pub fn is_open(&self, transaction: usize) -> bool {
         self.kept && self.history.is_open(transaction)
     }
+
+    /// Whether a transaction survives, in a word.
+    pub fn fate(&self, transaction: usize) -> &'static str {
+        match self.history.transactions[transaction].survives {
+            true => "survives",
+            false if self.is_open(transaction) => "undecided",
+            false => "lost",
+        }
+    }
 }
 
 const TITLE: f64 = 30.0;
@@ -56,7 +65,7 @@ pub fn draw(start: &Follower, words: &[u8], answers: &[Answer], history: &Histor
     bars::draw(&mut svg, &told, &scale, &bars, top_of_bars);
     locks.draw(&mut svg, &scale, top_of_locks);
     crashes(&mut svg, &told, &scale, bottom);
-    legend(&mut svg, &scale, bottom + CRASH_LABEL + 12.0);
+    legend(&mut svg, &told, &scale, bottom + CRASH_LABEL + 12.0);
     svg.finish()
 }
 
@@ -64,7 +73,7 @@ fn title(told: &Told) -> String {
     let survive = told.history.transactions.iter().filter(|t| t.survives).count();
     let open = (0..told.history.transactions.len()).filter(|t| told.is_open(*t)).count();
     let lost = told.history.transactions.len() - survive - open;
-    let open = if open == 0 { String::new() } else { format!(", {open} still open") };
+    let open = if open == 0 { String::new() } else { format!(", {open} undecided") };
     format!("{} events, {survive} transactions survive, {lost} lost{open}", told.answers.len())
 }
 
@@ -113,7 +122,7 @@ fn crashes(svg: &mut Svg, told: &Told, scale: &Scale, bottom: f64) {
     }
 }
 
-fn legend(svg: &mut Svg, scale: &Scale, top: f64) {
+fn legend(svg: &mut Svg, told: &Told, scale: &Scale, top: f64) {
     let mut x = 16.0;
     let mut entry = |svg: &mut Svg, class: &str, text: &str| {
         svg.rect(x, top, 22.0, 12.0, class, "");
@@ -122,6 +131,9 @@ fn legend(svg: &mut Svg, scale: &Scale, top: f64) {
     };
     entry(svg, "survives", "survives");
     entry(svg, "lost", "lost");
+    if told.kept {
+        entry(svg, "undecided", "undecided");
+    }
     entry(svg, "held", "lock held by");
     entry(svg, "retained", "lock retained by");
     entry(svg, "up", "store up");
