@@ -2,14 +2,15 @@
  *
  * Link target/staticlib/libnekahuiro.a, which `rt staticlib nekahuiro` makes. The library is for
  * x86-64. It allocates nothing, keeps nothing between calls, and calls at most memcpy, memmove, memset
- * and memcmp of the C library.
+ * and memcmp of the C library. `nekahuiro_run` plays a whole list; `nekahuiro_portion` plays events as
+ * they come, on a state that the caller keeps.
  *
  * What a caller owes to every function here:
  *   - Each pointer points to as many bytes as the size after it says. No pointer is null, not even
  *     where the size is 0.
  *   - No two buffers of one call overlap, and nobody else touches them while the call runs. Calls on
  *     different buffers may run at the same time.
- *   - Byte buffers need no alignment; `age` is aligned as an int64_t is.
+ *   - Byte buffers need no alignment; `age` is aligned as an int64_t is, `state` as its struct is.
  *   - At least NEKAHUIRO_STACK_BYTES of stack are free.
  * Buffers stay the caller's, and their contents may be anything. What each call answers and leaves in
  * every buffer is proved for all contents and all sizes: see docs/PROMISES.md.
@@ -40,10 +41,12 @@ extern "C" {
 #define NEKAHUIRO_DEPTH_LIMIT 8
 /* An event word. */
 #define NEKAHUIRO_EVENT_BYTES 4
-/* Events in the longest list. */
+/* Events in the longest list or portion. */
 #define NEKAHUIRO_EVENTS 4096
 /* An answer. */
 #define NEKAHUIRO_ANSWER_BYTES 2
+/* A lent state, see nekahuiro_state. */
+#define NEKAHUIRO_STATE_BYTES 340
 /* More stack than any call uses. */
 #define NEKAHUIRO_STACK_BYTES 16384
 
@@ -114,6 +117,7 @@ extern "C" {
 #define NEKAHUIRO_BAD_STORE 22     /* store_size isn't NEKAHUIRO_STORE_BYTES */
 #define NEKAHUIRO_BAD_RECORD 23    /* the record is above 15 */
 #define NEKAHUIRO_BAD_WORK 24      /* work_size isn't NEKAHUIRO_WORK_BYTES */
+#define NEKAHUIRO_BAD_STATE 25     /* the state isn't sound, or its bytes encode no state */
 
 /* Plays the events in order on the store and writes one answer each.
  *
@@ -132,6 +136,53 @@ uint8_t nekahuiro_run(uint8_t *store, size_t store_size,
                       const uint8_t *events, size_t events_size,
                       uint8_t *work, size_t work_size,
                       uint8_t *answers, size_t answers_size);
+
+/* The state between two portions of events: integers only, no padding.
+ *
+ * All zeros is the start: down, and nothing live. Nothing else has to be known to use it, since
+ * nekahuiro_portion keeps it. It may be copied and put away, together with the store and the working
+ * buffer that were left with it. A set of transactions has bit 1 << t for transaction t.
+ *
+ * A state is sound if, for every live transaction t (its depth isn't 0): its parent is live and its
+ * depth one more than the parent's, or its parent is NEKAHUIRO_NO_PARENT and its depth 1; the depth is
+ * at most NEKAHUIRO_DEPTH_LIMIT; its line is right. For every record: only live transactions hold,
+ * retain or have versions; at most one holds; of two retainers one is an ancestor of the other; the
+ * holder is each retainer or beneath it; who has a version holds or retains. While down nothing is
+ * live; while up page 0 is empty. Entries of free numbers and the spare bytes are 0.
+ */
+typedef struct nekahuiro_state {
+    uint32_t line[NEKAHUIRO_TRANSACTIONS];  /* of each transaction: itself and its ancestors */
+    uint32_t held[NEKAHUIRO_RECORDS];       /* of each record: who holds its lock */
+    uint32_t retained[NEKAHUIRO_RECORDS];   /* of each record: who retains its lock */
+    uint32_t writers[NEKAHUIRO_RECORDS];    /* of each record: who has a version of it */
+    uint8_t parent[NEKAHUIRO_TRANSACTIONS]; /* NEKAHUIRO_NO_PARENT for a top transaction */
+    uint8_t depth[NEKAHUIRO_TRANSACTIONS];  /* 1 for a top transaction, 0 for a free number */
+    uint8_t up;                             /* 1 while up, 0 while down */
+    uint8_t spare[3];                       /* 0 */
+} nekahuiro_state;
+
+/* Plays a portion of events: one event, a few or a whole list, on a state that is lent and changed in
+ * place. Answers, store and state are those of one run over the joined portions, as long as each gets
+ * the state, store and working buffer that the last one left and nobody else writes them between.
+ * Portions may follow each other without end. A refused portion adds no event.
+ *
+ *   state    read and written; all zeros before the first portion
+ *   store    read and written
+ *   events   read only; an empty portion is fine and changes nothing
+ *   work     read and written: it holds the versions of live transactions. The version of record r by
+ *            a writer of depth d is the page at ((r * NEKAHUIRO_DEPTH_LIMIT) + d - 1) *
+ *            NEKAHUIRO_PAGE_BYTES; what the other bytes held before has no effect, and what they hold
+ *            after has no meaning
+ *   answers  two bytes an event are written; bytes past the last event stay
+ *
+ * Answers 0 if the events were played, whatever their own answers are. Else, tried in this order and
+ * with nothing changed, the state included: 22, 24, 20, 21, 25.
+ */
+uint8_t nekahuiro_portion(nekahuiro_state *state,
+                          uint8_t *store, size_t store_size,
+                          const uint8_t *events, size_t events_size,
+                          uint8_t *work, size_t work_size,
+                          uint8_t *answers, size_t answers_size);
 
 /* Lays down a fresh store: an empty commit page and zeros elsewhere.
  * Answers 0, or 22 with nothing written. */

@@ -15,6 +15,7 @@
 
 static uint8_t store[NEKAHUIRO_STORE_BYTES], work[NEKAHUIRO_WORK_BYTES];
 static uint8_t events[NEKAHUIRO_EVENTS * NEKAHUIRO_EVENT_BYTES], answers[NEKAHUIRO_EVENTS * NEKAHUIRO_ANSWER_BYTES];
+static nekahuiro_state state;
 static int played = 0;
 
 static void put(size_t at, uint32_t bits)
@@ -60,6 +61,8 @@ static void *calls(void *unused)
     played = nekahuiro_fresh(store, sizeof store) == 0
              && nekahuiro_run(store, sizeof store, events, length * NEKAHUIRO_EVENT_BYTES, work, sizeof work, answers,
                               sizeof answers) == 0
+             && nekahuiro_portion(&state, store, sizeof store, events, length * NEKAHUIRO_EVENT_BYTES, work, sizeof work,
+                                  answers, sizeof answers) == 0
              && nekahuiro_age(store, sizeof store, 3, 5, 10, &age) <= NEKAHUIRO_STALE;
     return unused;
 }

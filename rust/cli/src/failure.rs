@@ -5,7 +5,7 @@ use std::fmt;
 /// The exit status of bad usage.
 const USAGE: u8 = 2;
 
-/// A command that did not succeed: nothing of the user's was changed.
+/// A command that did not succeed: nothing of the user's was changed, unless it says so.
 pub struct Failure {
     reason: String,
     mend: String,
@@ -20,6 +20,11 @@ impl Failure {
     /// Something went wrong; `mend` says what the user can do.
     pub fn new(reason: &str, mend: &str) -> Failure {
         Failure { reason: reason.to_string(), mend: mend.to_string(), status: 1 }
+    }
+
+    /// The same with another mend.
+    pub fn with_mend(self, mend: &str) -> Failure {
+        Failure { mend: mend.to_string(), ..self }
     }
 
     /// The command was not called as it should be.

@@ -46,7 +46,8 @@ pub fn read(path: &str) -> Outcome<Vec<u8>> {
     Ok(bytes)
 }
 
-fn cant_read(path: &str, error: &io::Error) -> Failure {
+/// The message for a file that can't be read.
+pub fn cant_read(path: &str, error: &io::Error) -> Failure {
     let mend = match error.kind() {
         io::ErrorKind::NotFound => "check the name; `./nekahuiro fresh STORE` makes a store",
         io::ErrorKind::PermissionDenied => "ask for the right to read it",
@@ -97,6 +98,25 @@ impl Staged {
             Failure::new(&format!("can't replace {}: {error}", self.name), mend_write(&error))
         })
     }
+}
+
+/// Replaces a store and the state file that goes with it. Two files can't be replaced in one step, so
+/// the old state goes first and the new one comes last: whatever stops this between leaves a store
+/// without a state, which is what a power cut leaves, and never a state with another's store.
+pub fn keep_both(store: Staged, state: Staged) -> Outcome {
+    let name = state.name.clone();
+    match fs::remove_file(&state.target) {
+        Err(error) if error.kind() != io::ErrorKind::NotFound => {
+            return Err(Failure::new(&format!("can't replace {name}: {error}"), mend_write(&error)));
+        }
+        _ => {}
+    }
+    let synced = sync_folder(&state.target).map_err(|error| Failure::new(&format!("{name}: {error}"), ""));
+    synced.and_then(|()| store.keep()).and_then(|()| state.keep()).map_err(|failure| {
+        let mend =
+            format!("{name} is gone, which is as a power cut: what was live is lost; play on with a recover first");
+        failure.with_mend(&mend)
+    })
 }
 
 impl Drop for Staged {

@@ -1,7 +1,7 @@
 //! Who is live, who holds and who retains, told from the events and the engine's answers.
 
 use nekahuiro::limits::RECORDS;
-use nekahuiro::{Answer, Event, Transaction};
+use nekahuiro::{Answer, Event, Record, State, Transaction};
 use std::collections::{BTreeMap, BTreeSet};
 
 /// What is known after some events.
@@ -25,6 +25,17 @@ pub struct Lock {
 }
 
 impl Follower {
+    /// What a state tells.
+    pub fn of(state: &State) -> Follower {
+        let mut follower = Follower { up: state.is_up(), ..Follower::default() };
+        follower.live = state.live().map(|t| (t.number(), state.parent(t).map(Transaction::number))).collect();
+        for (lock, record) in follower.locks.iter_mut().zip(Record::all()) {
+            lock.holder = state.holders(record).map(Transaction::number).next();
+            lock.retainers = state.retainers(record).map(Transaction::number).collect();
+        }
+        follower
+    }
+
     /// Takes note of an event and its answer.
     pub fn event(&mut self, event: Event, answer: Answer) {
         if !answer.is_accepted() {

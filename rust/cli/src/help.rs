@@ -12,7 +12,10 @@ nekahuiro: a record store with nested transactions, proved
       --answers FILE                        write the answers there, two bytes each
       --trace                               tell each event: who holds, who retains, what crashed
       --picture FILE.svg                    draw the run as a timeline
-      --dry                                 leave the store file as it is
+      --portions N                          play N events at a time; the list may then have any length
+      --state FILE                          go on from the state in FILE, and leave the new state there;
+                                            without the file, start down
+      --dry                                 leave store and state file as they are
   ./nekahuiro show STORE                  the commit page in words, each record and where it stands
   ./nekahuiro age STORE RECORD CLOCK LIMIT  how old a record is, in minutes: live, ahead or stale
   ./nekahuiro encode [EVENT]              words to event words and back; without EVENT each line of
@@ -35,6 +38,10 @@ line; # starts a comment. Any other file is taken as raw event words of 4 bytes.
 
 The store file is replaced only when all has gone well, in one step. The exit status is 0 only then:
 1 means that something failed, 2 that the command was called wrongly.
+
+A state file has what is live between two portions: the lent state, then the working buffer. It goes
+with its store, and nothing else may write the two between. If the power goes while they are replaced,
+the state file is gone: what was live is lost, and the next list starts down.
 ";
 
 /// Prints the help.

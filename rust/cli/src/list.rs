@@ -8,7 +8,7 @@ use nekahuiro::{BadWords, Event};
 /// Reads a list of events into raw words.
 pub fn read(path: &str) -> Outcome<Vec<u8>> {
     let bytes = files::read(path)?;
-    let name = if path == "-" { "standard input" } else { path };
+    let name = name_of(path);
     match text(&bytes) {
         Some(text) => parse(name, text),
         None => raw(name, bytes),
@@ -21,14 +21,14 @@ pub fn text(bytes: &[u8]) -> Option<&str> {
     std::str::from_utf8(bytes).ok().filter(printable)
 }
 
-/// Raw words, if they are whole and not too many.
+/// Raw words, if they are whole.
 pub fn raw(name: &str, bytes: Vec<u8>) -> Outcome<Vec<u8>> {
     if bytes.len() % EVENT_BYTES != 0 {
         let reason =
             format!("{name}: {} raw bytes are no whole number of 4-byte event words (refusal 20)", bytes.len());
         return Err(Failure::new(&reason, "check that the file is whole; a text list has printable characters only"));
     }
-    check_length(name, bytes)
+    Ok(bytes)
 }
 
 /// Reads a list from text; a message names the line.
@@ -38,17 +38,26 @@ fn parse(name: &str, text: &str) -> Outcome<Vec<u8>> {
         let line = without_comment(whole);
         words.extend(line_words(line).map_err(|bad| bad_line(name, number, line, &bad))?);
     }
-    check_length(name, words)
+    Ok(words)
 }
 
-fn check_length(name: &str, words: Vec<u8>) -> Outcome<Vec<u8>> {
+/// Whether the words are few enough for one run or portion.
+pub fn check_length(path: &str, words: &[u8]) -> Outcome {
     let events = words.len() / EVENT_BYTES;
     if events > EVENTS {
+        let name = name_of(path);
         let reason = format!("{name}: {events} events, but a run takes at most {EVENTS} (refusal 20)");
-        let mend = "split it where no transaction is live; each part is a run of its own and starts with a recover";
-        return Err(Failure::new(&reason, mend));
+        return Err(Failure::new(&reason, &format!("play it in portions, with `--portions {EVENTS}`")));
     }
-    Ok(words)
+    Ok(())
+}
+
+fn name_of(path: &str) -> &str {
+    if path == "-" {
+        "standard input"
+    } else {
+        path
+    }
 }
 
 /// A line without what comes after `#`.

@@ -12,6 +12,7 @@ mod list;
 mod picture;
 mod play;
 mod show;
+mod state_file;
 mod trace;
 
 use failure::{Failure, Outcome};

@@ -6,11 +6,16 @@ use nekahuiro::{describe, page_writes, why_bad, Answer, Event};
 use nekahuiro_history::{End, History};
 use std::fmt::Write;
 
-/// Tells a run, a line or two for each event.
-pub fn tell(words: &[u8], answers: &[Answer], history: &History) -> String {
+/// Tells a run, a line or two for each event, from what is known before it.
+pub fn tell(start: &Follower, words: &[u8], answers: &[Answer], history: &History) -> String {
     let mut text = String::from("event  word      answer  what happened\n");
-    let mut follower = Follower::default();
+    let mut follower = start.clone();
     let mut locks = follower.locks_in_words();
+    if follower.up {
+        let live: Vec<String> = follower.live.keys().map(u8::to_string).collect();
+        let live = if live.is_empty() { "nothing".to_string() } else { live.join(", ") };
+        let _ = writeln!(text, "{:27}before: the store is up, live: {live}; {locks}", "");
+    }
     for (at, (word, answer)) in words.chunks_exact(EVENT_BYTES).zip(answers).enumerate() {
         let word = [word[0], word[1], word[2], word[3]];
         let event = Event::of(word);

@@ -14,7 +14,7 @@ mod telling;
 mod word;
 
 pub use settled::{settled, Records};
-pub use telling::{tell, Absurd, End, History, Transaction, Write};
+pub use telling::{tell, tell_from, Absurd, Earlier, End, History, Transaction, Write};
 use word::{Kind, Word};
 
 /// What demand 3 forbids.

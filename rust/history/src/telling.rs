@@ -29,12 +29,23 @@ pub struct Transaction {
     pub number: u8,
     /// Its parent's place among the transactions; none for a top transaction.
     pub parent: Option<usize>,
-    /// The place of its begin in the list.
-    pub begun: usize,
+    /// The place of its begin in the list; none if it was live before.
+    pub begun: Option<usize>,
     /// How it ended.
     pub end: End,
     /// Whether it survives; every other transaction is lost.
     pub survives: bool,
+}
+
+/// A transaction that is live before the first event.
+#[derive(Clone, Debug)]
+pub struct Earlier {
+    /// The number it bears.
+    pub number: u8,
+    /// The number of its parent; none for a top transaction.
+    pub parent: Option<u8>,
+    /// The records that it has a version of.
+    pub changed: Vec<u8>,
 }
 
 /// An accepted write.
@@ -61,6 +72,8 @@ pub struct History {
     pub writes: Vec<Write>,
     /// For each event the transaction that it belongs to.
     pub owner: Vec<Option<usize>>,
+    /// Transactions and the records that they had changed before the first event.
+    carried: Vec<(usize, u8)>,
 }
 
 /// An answer that no right run gives, at this event.
@@ -74,7 +87,13 @@ pub struct Absurd {
 
 /// Tells the history of a run; the list has four bytes an event, the answers two.
 pub fn tell(events: &[u8], answers: &[u8]) -> Result<History, Absurd> {
+    tell_from(&[], events, answers)
+}
+
+/// Tells the history of a portion, before which these transactions are live, parents before children.
+pub fn tell_from(earlier: &[Earlier], events: &[u8], answers: &[u8]) -> Result<History, Absurd> {
     let mut teller = Teller { history: History::default(), bearers: [None; 32] };
+    earlier.iter().for_each(|transaction| teller.earlier(transaction));
     for (at, (word, answer)) in events.chunks_exact(4).zip(answers.chunks_exact(2)).enumerate() {
         teller.event(at, Word::of(word), answer[0], answer[1])?;
     }
@@ -90,6 +109,17 @@ struct Teller {
 }
 
 impl Teller {
+    fn earlier(&mut self, Earlier { number, parent, changed }: &Earlier) {
+        let place = self.history.transactions.len();
+        let parent = parent.and_then(|parent| self.bearers.get(usize::from(parent)).copied().flatten());
+        if let Some(bearer) = self.bearers.get_mut(usize::from(*number)) {
+            *bearer = Some(place);
+        }
+        let transaction = Transaction { number: *number, parent, begun: None, end: End::Never, survives: false };
+        self.history.transactions.push(transaction);
+        self.history.carried.extend(changed.iter().map(|record| (place, *record)));
+    }
+
     fn event(&mut self, at: usize, word: Word, number: u8, value: u8) -> Result<(), Absurd> {
         let cut = number == 11;
         let accepted = number == 0 || cut;
@@ -120,7 +150,13 @@ impl Teller {
             Some(bearer) if bearer.is_none() => *bearer = Some(place),
             _ => return absurd("gives a number that is taken or that there isn't"),
         }
-        self.history.transactions.push(Transaction { number, parent, begun: at, end: End::Never, survives: false });
+        self.history.transactions.push(Transaction {
+            number,
+            parent,
+            begun: Some(at),
+            end: End::Never,
+            survives: false,
+        });
         Ok(place)
     }
 
@@ -169,6 +205,13 @@ impl History {
         self.writes.iter().filter(|write| self.transactions[write.transaction].survives)
     }
 
+    /// Whether it is live after the last event, or committed to one that is: its fate is open, unless
+    /// the last event counts as a crash.
+    pub fn is_open(&self, transaction: usize) -> bool {
+        let last = self.line(transaction).find(|up| !self.committed(*up));
+        last.is_some_and(|last| self.transactions[last].end == End::Never)
+    }
+
     fn committed(&self, transaction: usize) -> bool {
         matches!(self.transactions[transaction].end, End::Committed { .. })
     }
@@ -176,12 +219,13 @@ impl History {
     /// The records with an accepted write by a transaction itself or by a descendant that
     /// committed, as did every transaction between.
     fn changed_records(&self, top: usize) -> u8 {
-        let reaches = |write: &&Write| {
-            let mut below = self.line(write.transaction).take_while(|up| *up != top);
-            self.line(write.transaction).any(|up| up == top) && below.all(|up| self.committed(up))
+        let reaches = |(writer, _): &(usize, u8)| {
+            let mut below = self.line(*writer).take_while(|up| *up != top);
+            self.line(*writer).any(|up| up == top) && below.all(|up| self.committed(up))
         };
-        let map = self.writes.iter().filter(reaches).fold(0u64, |map, write| map | 1 << write.record);
-        map.count_ones() as u8
+        let written = self.writes.iter().map(|write| (write.transaction, write.record));
+        let changed = self.carried.iter().copied().chain(written).filter(reaches);
+        changed.fold(0u64, |map, (_, record)| map | 1 << record).count_ones() as u8
     }
 
     /// Finds who survives. A parent begins before its children, so parents are judged first.

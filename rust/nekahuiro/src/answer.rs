@@ -98,6 +98,8 @@ pub enum Refusal {
     Record,
     /// 24: the working buffer has the wrong length.
     Work,
+    /// 25: the state isn't sound, or its bytes encode no state.
+    State,
     /// A number that this edition doesn't know.
     Other(u8),
 }
@@ -112,6 +114,7 @@ impl Refusal {
             22 => Refusal::Store,
             23 => Refusal::Record,
             24 => Refusal::Work,
+            25 => Refusal::State,
             other => Refusal::Other(other),
         }
     }
@@ -125,6 +128,7 @@ impl Refusal {
             Refusal::Store => 22,
             Refusal::Record => 23,
             Refusal::Work => 24,
+            Refusal::State => 25,
             Refusal::Other(number) => number,
         }
     }
@@ -140,6 +144,7 @@ impl fmt::Display for Refusal {
             Refusal::Store => write!(f, "a store has exactly {STORE_BYTES} bytes"),
             Refusal::Record => write!(f, "records are numbered from 0 to {}", RECORDS - 1),
             Refusal::Work => write!(f, "the working buffer has exactly {WORK_BYTES} bytes"),
+            Refusal::State => write!(f, "the state isn't one that the last portion left with this store"),
             Refusal::Other(_) => write!(f, "an unknown refusal"),
         }
     }

@@ -23,6 +23,9 @@
 //! assert_eq!(store.settled(record)[2], 0xA5);
 //! # Ok::<(), Box<dyn std::error::Error>>(())
 //! ```
+//!
+//! Events that come one by one are played in portions of any length: [`Store::portion`] takes a
+//! [`State`] and a [`Work`] that the caller keeps from one portion to the next.
 
 mod age;
 mod answer;
@@ -32,16 +35,20 @@ pub mod limits;
 mod numbers;
 #[allow(unsafe_code)] // the only module that calls the linked library
 pub mod raw;
+mod state;
 mod store;
 mod words;
+mod work;
 
 pub use age::{Age, Clock, Limit, Verdict};
 pub use answer::{page_writes, Answer, Refusal, CUT, DONE};
 pub use commit_page::{CommitPage, Map, Page};
 pub use event::{encode, Event, Fields};
 pub use numbers::{Record, Transaction};
+pub use state::State;
 pub use store::{Place, Store};
 pub use words::{describe, why_bad, BadWords};
+pub use work::Work;
 
 /// The README's examples are tested too.
 #[cfg(doctest)]

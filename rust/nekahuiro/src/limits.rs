@@ -18,9 +18,11 @@ pub const DEPTH_LIMIT: usize = 8;
 pub const WORK_BYTES: usize = RECORDS * DEPTH_LIMIT * PAGE_BYTES;
 /// Bytes of an event word.
 pub const EVENT_BYTES: usize = 4;
-/// Events in the longest list.
+/// Events in the longest list or portion.
 pub const EVENTS: usize = 4096;
 /// Bytes of an answer.
 pub const ANSWER_BYTES: usize = 2;
 /// The largest count of page writes that an event can carry; no power cut comes then.
 pub const COUNT_LIMIT: u8 = 63;
+/// Bytes of a lent state.
+pub const STATE_BYTES: usize = 340;

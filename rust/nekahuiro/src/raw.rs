@@ -1,12 +1,27 @@
-//! The three operations over plain byte slices, just as C sees them.
+//! The four operations over plain byte slices, just as C sees them.
 //!
 //! They take anything: a slice of a wrong length is refused with the number of the refusal.
 //! Slices can't be null and can't overlap, which is all that the C interface asks of its caller.
 
+use crate::State;
+
 /// The proved library's own symbols.
 mod linked {
+    use crate::State;
+
     extern "C" {
         pub fn nekahuiro_run(
+            store: *mut u8,
+            store_bytes: usize,
+            events: *const u8,
+            events_bytes: usize,
+            work: *mut u8,
+            work_bytes: usize,
+            answers: *mut u8,
+            answers_bytes: usize,
+        ) -> u8;
+        pub fn nekahuiro_portion(
+            state: *mut State,
             store: *mut u8,
             store_bytes: usize,
             events: *const u8,
@@ -33,6 +48,25 @@ pub fn run(store: &mut [u8], events: &[u8], work: &mut [u8], answers: &mut [u8])
     // SAFETY: four live slices with their own lengths; the three that are written are borrowed alone.
     unsafe {
         linked::nekahuiro_run(
+            store.as_mut_ptr(),
+            store.len(),
+            events.as_ptr(),
+            events.len(),
+            work.as_mut_ptr(),
+            work.len(),
+            answers.as_mut_ptr(),
+            answers.len(),
+        )
+    }
+}
+
+/// Plays a portion of event words on a lent state: 0, or a refusal's number with nothing changed.
+pub fn portion(state: &mut State, store: &mut [u8], events: &[u8], work: &mut [u8], answers: &mut [u8]) -> u8 {
+    // SAFETY: a live struct of integers, laid out as in C, and four live slices with their own lengths;
+    // the struct and the three slices that are written are borrowed alone.
+    unsafe {
+        linked::nekahuiro_portion(
+            state,
             store.as_mut_ptr(),
             store.len(),
             events.as_ptr(),

@@ -5,7 +5,7 @@ use crate::answer::{Answer, Refusal};
 use crate::commit_page::{CommitPage, Page};
 use crate::event::{encode, Event};
 use crate::limits::{ANSWER_BYTES, EVENT_BYTES, PAGE_BYTES, RECORDS, STORE_BYTES, WORK_BYTES};
-use crate::{raw, Record};
+use crate::{raw, Record, State, Work};
 
 /// The stable store, owned.
 ///
@@ -68,12 +68,59 @@ impl Store {
         let mut work = vec![0; WORK_BYTES];
         let mut answers = vec![0; words.len() / EVENT_BYTES * ANSWER_BYTES];
         self.play_lent(words, &mut work, &mut answers)?;
-        Ok(answers.chunks_exact(ANSWER_BYTES).map(|pair| Answer::of([pair[0], pair[1]])).collect())
+        Ok(answers_of(&answers))
     }
 
     /// As [`Store::play_words`], with buffers lent by the caller: no memory is asked for.
     pub fn play_lent(&mut self, words: &[u8], work: &mut [u8], answers: &mut [u8]) -> Result<(), Refusal> {
         match raw::run(&mut self.bytes, words, work, answers) {
+            0 => Ok(()),
+            number => Err(Refusal::of(number)),
+        }
+    }
+
+    /// Plays a portion of events, be it one: one answer each, as in one run over the joined portions.
+    /// State and working buffer are kept for the next portion, and nobody else may write them or the
+    /// store between. A refused portion changes nothing and adds no event.
+    ///
+    /// ```
+    /// use nekahuiro::{Event, State, Store, Work};
+    /// let (mut store, mut state, mut work) = (Store::fresh(), State::new(), Work::new());
+    /// for line in ["recover 63", "begin none", "lock 0 3", "write 0 3 2 A5", "commit 0 63"] {
+    ///     let event: Event = line.parse()?;
+    ///     let answers = store.portion(&mut state, &mut work, &[event])?;
+    ///     assert!(answers[0].is_accepted());
+    /// }
+    /// assert!(state.is_up() && state.live().next().is_none());
+    /// # Ok::<(), Box<dyn std::error::Error>>(())
+    /// ```
+    pub fn portion(&mut self, state: &mut State, work: &mut Work, events: &[Event]) -> Result<Vec<Answer>, Refusal> {
+        self.portion_words(state, work, &encode(events))
+    }
+
+    /// As [`Store::portion`], for event words in plain bytes, which may also be bad events.
+    ///
+    /// ```
+    /// use nekahuiro::{Refusal, State, Store, Work};
+    /// let (mut store, mut state, mut work) = (Store::fresh(), State::new(), Work::new());
+    /// state.parent[0] = 7; // number 0 is free, so it has no parent
+    /// assert_eq!(store.portion_words(&mut state, &mut work, &[0x80, 0, 0x3F, 0]), Err(Refusal::State));
+    /// ```
+    pub fn portion_words(&mut self, state: &mut State, work: &mut Work, words: &[u8]) -> Result<Vec<Answer>, Refusal> {
+        let mut answers = vec![0; words.len() / EVENT_BYTES * ANSWER_BYTES];
+        self.portion_lent(state, words, work.bytes_mut(), &mut answers)?;
+        Ok(answers_of(&answers))
+    }
+
+    /// As [`Store::portion_words`], with buffers lent by the caller: no memory is asked for.
+    pub fn portion_lent(
+        &mut self,
+        state: &mut State,
+        words: &[u8],
+        work: &mut [u8],
+        answers: &mut [u8],
+    ) -> Result<(), Refusal> {
+        match raw::portion(state, &mut self.bytes, words, work, answers) {
             0 => Ok(()),
             number => Err(Refusal::of(number)),
         }
@@ -116,4 +163,8 @@ impl Store {
         }
         page
     }
+}
+
+fn answers_of(bytes: &[u8]) -> Vec<Answer> {
+    bytes.chunks_exact(ANSWER_BYTES).map(|pair| Answer::of([pair[0], pair[1]])).collect()
 }

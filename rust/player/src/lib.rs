@@ -18,14 +18,17 @@
 //! assert_eq!(answers, [0, 0, 0, 0]);
 //! ```
 
+mod desk;
 pub mod event;
 pub mod limits;
 mod locks;
 pub mod planted;
 mod player;
+pub mod soundness;
 pub mod store;
 mod tree;
 
+pub use desk::Desk;
 use event::Record;
 use limits::{ANSWER_BYTES, EVENTS, EVENT_BYTES, PAGE_BYTES, RECORDS, STORE_BYTES, WORK_BYTES};
 pub use player::{Answer, Player};
@@ -43,11 +46,36 @@ pub const BAD_STORE: u8 = 22;
 pub const BAD_RECORD: u8 = 23;
 /// Refused: the working buffer has the wrong length.
 pub const BAD_WORK: u8 = 24;
+/// Refused: the state isn't sound.
+pub const BAD_STATE: u8 = 25;
 
 /// Plays a list of event words. The working buffer is only measured: versions live in maps.
 pub fn run(store: &mut [u8], events: &[u8], work: &mut [u8], answers: &mut [u8]) -> u8 {
     match open(store, events, work, answers) {
-        Ok(player) => play(player, events, answers),
+        Ok(store) => play(Player::new(store, &mut Desk::default()), events, answers),
+        Err(number) => number,
+    }
+}
+
+/// Plays a portion of event words from what the desk remembers, and leaves it to the next portion.
+/// All that can be wrong with a desk is the store that comes with it.
+///
+/// ```
+/// use nekahuiro_player::{fresh, limits, portion, Desk};
+///
+/// let (mut store, mut work) = ([0; limits::STORE_BYTES], [0; limits::WORK_BYTES]);
+/// fresh(&mut store);
+/// let (mut desk, mut answer) = (Desk::default(), [0; 2]);
+/// // recover with count 63, then begin: each is a portion
+/// for word in [[0x80, 0x00, 0x3F, 0x00], [0x1F, 0x80, 0x00, 0x00]] {
+///     assert_eq!(portion(&mut desk, &mut store, &word, &mut work, &mut answer), 0);
+///     assert_eq!(answer, [0, 0]);
+/// }
+/// ```
+pub fn portion(desk: &mut Desk, store: &mut [u8], events: &[u8], work: &mut [u8], answers: &mut [u8]) -> u8 {
+    match open(store, events, work, answers) {
+        Ok(store) if desk.up && store.commit_page() != store::CommitPage::Empty => BAD_STATE,
+        Ok(store) => play(Player::new(store, desk), events, answers),
         Err(number) => number,
     }
 }
@@ -56,7 +84,9 @@ pub fn run(store: &mut [u8], events: &[u8], work: &mut [u8], answers: &mut [u8])
 #[cfg(feature = "planted")]
 pub fn run_with_bug(bug: planted::Bug, store: &mut [u8], events: &[u8], work: &mut [u8], answers: &mut [u8]) -> u8 {
     match open(store, events, work, answers) {
-        Ok(mut player) => {
+        Ok(store) => {
+            let mut desk = Desk::default();
+            let mut player = Player::new(store, &mut desk);
             player.plant(Some(bug));
             play(player, events, answers)
         }
@@ -65,7 +95,7 @@ pub fn run_with_bug(bug: planted::Bug, store: &mut [u8], events: &[u8], work: &m
 }
 
 /// The refusals before the first event, in their order.
-fn open<'s>(store: &'s mut [u8], events: &[u8], work: &[u8], answers: &[u8]) -> Result<Player<'s>, u8> {
+fn open<'s>(store: &'s mut [u8], events: &[u8], work: &[u8], answers: &[u8]) -> Result<Store<'s>, u8> {
     let store = Store::over(store).ok_or(BAD_STORE)?;
     if work.len() != WORK_BYTES {
         return Err(BAD_WORK);
@@ -76,7 +106,7 @@ fn open<'s>(store: &'s mut [u8], events: &[u8], work: &[u8], answers: &[u8]) -> 
     if answers.len() < events.len() / EVENT_BYTES * ANSWER_BYTES {
         return Err(SHORT_ANSWERS);
     }
-    Ok(Player::new(store))
+    Ok(store)
 }
 
 fn play(mut player: Player, events: &[u8], answers: &mut [u8]) -> u8 {

@@ -34,6 +34,11 @@ impl Locks {
         self.table[usize::from(record.0)].holder = Some(transaction);
     }
 
+    /// The transaction retains the lock from now on.
+    pub fn retain(&mut self, transaction: Transaction, record: Record) {
+        self.table[usize::from(record.0)].retainers.push(transaction);
+    }
+
     /// The parent retains all that its child held or retained; the child has nothing left.
     pub fn pass_up(&mut self, child: Transaction, parent: Transaction) {
         for lock in &mut self.table {

@@ -51,7 +51,7 @@ impl Tree {
     }
 
     /// The numbers of live transactions, rising.
-    fn live(&self) -> impl Iterator<Item = Transaction> + '_ {
+    pub fn live(&self) -> impl Iterator<Item = Transaction> + '_ {
         (0..).zip(&self.slots).filter(|(_, slot)| slot.is_some()).map(|(number, _)| Transaction(number))
     }
 
@@ -73,6 +73,13 @@ impl Tree {
     /// What a transaction reads of a record where it or an ancestor has a version.
     pub fn version(&self, transaction: Transaction, record: Record) -> Option<&Page> {
         self.line(transaction).find_map(|t| self.get(t)?.versions.get(&record))
+    }
+
+    /// Puts a transaction in the slot of its number, if there is one.
+    pub fn put(&mut self, transaction: Transaction, node: Node) {
+        if let Some(slot) = self.slots.get_mut(usize::from(transaction.0)) {
+            *slot = Some(node);
+        }
     }
 
     /// Ends one transaction and hands out what it was.

@@ -3,8 +3,10 @@
 pub mod case;
 pub mod check;
 pub mod exhaustive;
+pub mod lent;
 pub mod listed;
 pub mod minimise;
+pub mod portions;
 pub mod random;
 pub mod report;
 pub mod settings;

@@ -68,7 +68,7 @@ fn renumbered(case: &Case, history: &History, gone: usize) -> Case {
     let mut numbers = vec![NO_PARENT; history.transactions.len()];
     for (at, (word, owner)) in case.events.chunks_exact(EVENT_BYTES).zip(&history.owner).enumerate() {
         let mut fields = Fields::of([word[0], word[1], word[2], word[3]]);
-        let begins = owner.filter(|owner| history.transactions[*owner].begun == at);
+        let begins = owner.filter(|owner| history.transactions[*owner].begun == Some(at));
         match (begins, owner) {
             (_, Some(owner)) if *owner == gone => continue,
             (Some(owner), _) => {

@@ -1,12 +1,16 @@
 //! The numbers of the rules stand in three places: the C header, the wrapper and the player.
 
-use nekahuiro::limits;
+use nekahuiro::{limits, State};
 use nekahuiro_player::limits as player;
+
+fn header() -> String {
+    let path = concat!(env!("CARGO_MANIFEST_DIR"), "/../../include/nekahuiro.h");
+    std::fs::read_to_string(path).expect("include/nekahuiro.h")
+}
 
 /// A number that the C header defines.
 fn defined(name: &str) -> usize {
-    let path = concat!(env!("CARGO_MANIFEST_DIR"), "/../../include/nekahuiro.h");
-    let header = std::fs::read_to_string(path).expect("include/nekahuiro.h");
+    let header = header();
     let start = format!("#define {name} ");
     let line = header.lines().find(|line| line.starts_with(&start)).unwrap_or_else(|| panic!("{name} isn't defined"));
     line[start.len()..].trim().parse().unwrap_or_else(|_| panic!("{name} isn't a number: {line}"))
@@ -24,8 +28,30 @@ fn header_wrapper_and_player_have_the_same_numbers() {
         ("NEKAHUIRO_EVENT_BYTES", limits::EVENT_BYTES, player::EVENT_BYTES),
         ("NEKAHUIRO_EVENTS", limits::EVENTS, player::EVENTS),
         ("NEKAHUIRO_ANSWER_BYTES", limits::ANSWER_BYTES, player::ANSWER_BYTES),
+        ("NEKAHUIRO_STATE_BYTES", limits::STATE_BYTES, size_of::<State>()),
     ];
     for (name, wrapper, player) in rows {
         assert_eq!((defined(name), player), (wrapper, wrapper), "{name}");
     }
+}
+
+#[test]
+fn header_and_wrapper_lay_out_the_state_alike() {
+    let header = header();
+    let (_, after) = header.split_once("typedef struct nekahuiro_state {").expect("the state's struct");
+    let (fields, _) = after.split_once("} nekahuiro_state;").expect("the end of the state's struct");
+    let mut at = 0;
+    let mut laid_out = Vec::new();
+    for line in fields.lines().filter(|line| !line.trim().is_empty()) {
+        let (declared, _) = line.split_once(';').expect("a field");
+        let (kind, named) = declared.trim().split_once(' ').expect("a type and a name");
+        let bytes = if kind == "uint32_t" { 4 } else { 1 };
+        let (name, length) = match named.trim_end_matches(']').split_once('[') {
+            Some((name, length)) => (name, length.parse().unwrap_or_else(|_| defined(length))),
+            None => (named, 1),
+        };
+        laid_out.push((name, at, bytes * length));
+        at += bytes * length;
+    }
+    assert_eq!((laid_out.as_slice(), at), (State::FIELDS, limits::STATE_BYTES));
 }

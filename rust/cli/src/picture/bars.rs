@@ -27,7 +27,7 @@ pub fn draw(svg: &mut Svg, told: &Told, scale: &Scale, layout: &Layout, top: f64
 
 fn draw_box(svg: &mut Svg, told: &Told, scale: &Scale, bar: &Bar, y: f64) {
     let transaction = &told.history.transactions[bar.transaction];
-    let fate = if transaction.survives { "survives" } else { "lost" };
+    let fate = told.fate(bar.transaction);
     let open = if transaction.end == End::Never { " open" } else { "" };
     let x = scale.left(bar.first) + 1.0;
     let width = scale.left(bar.last) + scale.step - 1.0 - x;
@@ -38,7 +38,11 @@ fn draw_box(svg: &mut Svg, told: &Told, scale: &Scale, bar: &Bar, y: f64) {
         End::Aborted(at) => format!("aborted at event {}", at + 1),
         End::Crashed(at) => format!("crashed at event {}", at + 1),
     };
-    let tip = format!("transaction {}, begun at event {}, {ending}: {fate}", transaction.number, bar.first + 1);
+    let begun = match transaction.begun {
+        Some(at) => format!("begun at event {}", at + 1),
+        None => "begun before".to_string(),
+    };
+    let tip = format!("transaction {}, {begun}, {ending}: {fate}", transaction.number);
     svg.rect(x, y, width.max(2.0), bar.height, &format!("{fate}{open}"), &tip);
 }
 
@@ -49,9 +53,11 @@ fn draw_badge(svg: &mut Svg, told: &Told, scale: &Scale, bar: &Bar, y: f64) {
         svg.text(scale.left(bar.first) + 3.0, y - 4.5, "small", &transaction.number.to_string());
         return;
     }
-    let class = if transaction.survives { "badge-survives" } else { "badge-lost" };
-    svg.circle(scale.middle(bar.first), y, 8.5, class);
-    svg.text(scale.middle(bar.first), y + 3.5, "badge", &transaction.number.to_string());
+    let class = format!("badge-{}", told.fate(bar.transaction));
+    // One that was live before has an event of its own in its first column.
+    let x = if transaction.begun.is_some() { scale.middle(bar.first) } else { scale.left(bar.first) };
+    svg.circle(x, y, 8.5, &class);
+    svg.text(x, y + 3.5, "badge", &transaction.number.to_string());
 }
 
 fn draw_event(svg: &mut Svg, told: &Told, scale: &Scale, at: usize, y: f64) {

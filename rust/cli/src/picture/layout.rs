@@ -114,7 +114,7 @@ impl Builder<'_> {
         let mut shelves: Vec<Shelf> = Vec::new();
         for place in siblings {
             let (first, last, height) =
-                (self.history.transactions[*place].begun, self.last(*place), self.heights[*place]);
+                (self.history.transactions[*place].begun.unwrap_or(0), self.last(*place), self.heights[*place]);
             match shelves.iter_mut().find(|shelf| shelf.last < first) {
                 Some(shelf) => {
                     shelf.last = last;
@@ -132,7 +132,7 @@ impl Builder<'_> {
         let mut y = top;
         for shelf in self.shelves(siblings) {
             for place in shelf.members {
-                let (first, last) = (self.history.transactions[place].begun, self.last(place));
+                let (first, last) = (self.history.transactions[place].begun.unwrap_or(0), self.last(place));
                 bars.push(Bar { transaction: place, first, last, top: y, height: self.heights[place] });
                 self.place(&self.children[place], y + ROW + GAP, bars);
             }

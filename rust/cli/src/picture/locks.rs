@@ -3,7 +3,6 @@
 use super::layout::Scale;
 use super::svg::Svg;
 use super::Told;
-use crate::follow::Follower;
 use nekahuiro::limits::RECORDS;
 
 const ROW: f64 = 30.0;
@@ -40,7 +39,7 @@ fn note(stretches: &mut Vec<Stretch>, at: usize, who: String) {
 impl Rows {
     /// Follows the locks through a run.
     pub fn of(told: &Told) -> Rows {
-        let mut follower = Follower::default();
+        let mut follower = told.start.clone();
         let mut rows: [Row; RECORDS] = Default::default();
         for (at, (event, answer)) in told.events.iter().zip(told.answers).enumerate() {
             if let Some(event) = event {
@@ -52,7 +51,7 @@ impl Rows {
                 note(&mut row.retained, at, retainers.join(" "));
             }
         }
-        let used = |row: &Row| row.held.iter().any(|stretch| !stretch.who.is_empty());
+        let used = |row: &Row| row.held.iter().chain(&row.retained).any(|stretch| !stretch.who.is_empty());
         Rows { rows: rows.into_iter().enumerate().filter(|(_, row)| used(row)).collect() }
     }
 

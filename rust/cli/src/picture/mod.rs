@@ -5,6 +5,7 @@ mod layout;
 mod locks;
 mod svg;
 
+use crate::follow::Follower;
 use layout::{Layout, Scale};
 use nekahuiro::limits::EVENT_BYTES;
 use nekahuiro::{Answer, Event};
@@ -19,6 +20,26 @@ pub struct Told<'t> {
     pub answers: &'t [Answer],
     /// What they tell.
     pub history: &'t History,
+    /// What is known before the first event.
+    pub start: &'t Follower,
+    /// Whether what is live at the end stays so; else it is lost.
+    pub kept: bool,
+}
+
+impl Told<'_> {
+    /// Whether it isn't decided yet if a transaction survives.
+    pub fn is_open(&self, transaction: usize) -> bool {
+        self.kept && self.history.is_open(transaction)
+    }
+
+    /// Whether a transaction survives, in a word.
+    pub fn fate(&self, transaction: usize) -> &'static str {
+        match self.history.transactions[transaction].survives {
+            true => "survives",
+            false if self.is_open(transaction) => "undecided",
+            false => "lost",
+        }
+    }
 }
 
 const TITLE: f64 = 30.0;
@@ -28,9 +49,9 @@ const LEGEND: f64 = 58.0;
 const LEAST_WIDTH: f64 = 900.0;
 
 /// Draws a run.
-pub fn draw(words: &[u8], answers: &[Answer], history: &History) -> String {
+pub fn draw(start: &Follower, words: &[u8], answers: &[Answer], history: &History, kept: bool) -> String {
     let events = words.chunks_exact(EVENT_BYTES).map(|w| Event::of([w[0], w[1], w[2], w[3]])).collect();
-    let told = Told { events, answers, history };
+    let told = Told { events, answers, history, start, kept };
     let scale = Scale::of(answers.len());
     let bars = Layout::of(history, answers.len());
     let locks = locks::Rows::of(&told);
@@ -44,14 +65,16 @@ pub fn draw(words: &[u8], answers: &[Answer], history: &History) -> String {
     bars::draw(&mut svg, &told, &scale, &bars, top_of_bars);
     locks.draw(&mut svg, &scale, top_of_locks);
     crashes(&mut svg, &told, &scale, bottom);
-    legend(&mut svg, &scale, bottom + CRASH_LABEL + 12.0);
+    legend(&mut svg, &told, &scale, bottom + CRASH_LABEL + 12.0);
     svg.finish()
 }
 
 fn title(told: &Told) -> String {
     let survive = told.history.transactions.iter().filter(|t| t.survives).count();
-    let lost = told.history.transactions.len() - survive;
-    format!("{} events, {survive} transactions survive, {lost} lost", told.answers.len())
+    let open = (0..told.history.transactions.len()).filter(|t| told.is_open(*t)).count();
+    let lost = told.history.transactions.len() - survive - open;
+    let open = if open == 0 { String::new() } else { format!(", {open} undecided") };
+    format!("{} events, {survive} transactions survive, {lost} lost{open}", told.answers.len())
 }
 
 /// Event numbers, the numbers of refusals, and a band that is green while the store is up.
@@ -61,7 +84,7 @@ fn axis(svg: &mut Svg, told: &Told, scale: &Scale) {
     svg.text(16.0, refusals, "label", "refused");
     svg.text(16.0, band + 6.0, "label", "store");
     let every = scale.number_every();
-    let mut up = false;
+    let mut up = told.start.up;
     for (at, answer) in told.answers.iter().enumerate() {
         if at == 0 || (at + 1) % every == 0 {
             svg.text(scale.middle(at), numbers, "number", &(at + 1).to_string());
@@ -99,7 +122,7 @@ fn crashes(svg: &mut Svg, told: &Told, scale: &Scale, bottom: f64) {
     }
 }
 
-fn legend(svg: &mut Svg, scale: &Scale, top: f64) {
+fn legend(svg: &mut Svg, told: &Told, scale: &Scale, top: f64) {
     let mut x = 16.0;
     let mut entry = |svg: &mut Svg, class: &str, text: &str| {
         svg.rect(x, top, 22.0, 12.0, class, "");
@@ -108,6 +131,9 @@ fn legend(svg: &mut Svg, scale: &Scale, top: f64) {
     };
     entry(svg, "survives", "survives");
     entry(svg, "lost", "lost");
+    if told.kept {
+        entry(svg, "undecided", "undecided");
+    }
     entry(svg, "held", "lock held by");
     entry(svg, "retained", "lock retained by");
     entry(svg, "up", "store up");

@@ -16,8 +16,9 @@ text { font-family: sans-serif; font-size: 11px; fill: #222 }
 .refused-tick { fill: #b3261e }
 .survives { fill: #d5efe2; stroke: #1b7f5c; stroke-width: 1.5 }
 .lost { fill: #fae3dc; stroke: #b8482f; stroke-width: 1.5 }
+.undecided { fill: #eef0f3; stroke: #5c6673; stroke-width: 1.5 }
 .open { stroke-dasharray: 4 3 }
-.badge-survives { fill: #1b7f5c } .badge-lost { fill: #b8482f }
+.badge-survives { fill: #1b7f5c } .badge-lost { fill: #b8482f } .badge-undecided { fill: #5c6673 }
 .badge { fill: #fff; font-weight: bold; font-size: 10px; text-anchor: middle }
 .small { font-size: 8px; font-weight: bold }
 .event { font-size: 10px; text-anchor: middle }

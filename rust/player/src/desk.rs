@@ -1,0 +1,49 @@
+//! What the player remembers between two events, and the same as plain facts.
+
+use crate::event::Record;
+use crate::limits::RECORDS;
+use crate::locks::Locks;
+use crate::soundness::{Begun, Facts};
+use crate::tree::{Node, Tree};
+
+/// What the player remembers; at the start it is down and nothing is live.
+#[derive(Default)]
+pub struct Desk {
+    pub(crate) up: bool,
+    pub(crate) tree: Tree,
+    pub(crate) locks: Locks,
+}
+
+impl Desk {
+    /// All that it remembers.
+    pub fn facts(&self) -> Facts {
+        let mut facts = Facts { up: self.up, ..Facts::default() };
+        for transaction in self.tree.live() {
+            let Some(node) = self.tree.get(transaction) else { continue };
+            facts.live.insert(transaction, Begun { parent: node.parent, depth: node.depth });
+            facts.versions.extend(node.versions.iter().map(|(record, page)| ((transaction, *record), *page)));
+        }
+        for record in (0..RECORDS as u8).map(Record) {
+            let lock = self.locks.get(record);
+            facts.holders.extend(lock.holder.map(|holder| (record, holder)));
+            facts.retainers.extend(lock.retainers.iter().map(|retainer| (record, *retainer)));
+        }
+        facts
+    }
+
+    /// A desk that remembers these facts, if they are sound over a store with this page 0.
+    pub fn of(facts: &Facts, page_is_empty: bool) -> Option<Desk> {
+        if facts.fault(page_is_empty).is_some() {
+            return None;
+        }
+        let mut desk = Desk { up: facts.up, ..Desk::default() };
+        for (transaction, Begun { parent, depth }) in &facts.live {
+            let own = facts.versions.iter().filter(|((writer, _), _)| writer == transaction);
+            let versions = own.map(|((_, record), page)| (*record, *page)).collect();
+            desk.tree.put(*transaction, Node { parent: *parent, depth: *depth, versions });
+        }
+        facts.holders.iter().for_each(|(record, holder)| desk.locks.grant(*holder, *record));
+        facts.retainers.iter().for_each(|(record, retainer)| desk.locks.retain(*retainer, *record));
+        Some(desk)
+    }
+}

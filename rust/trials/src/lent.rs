@@ -1,0 +1,96 @@
+//! The struct of a lent state and the facts it tells: an independent judge of what may be lent.
+
+use nekahuiro::limits::{PAGE_BYTES, RECORDS, TRANSACTIONS};
+use nekahuiro::{Record, State, Transaction, Work};
+use nekahuiro_lists::stores::{self, Bytes};
+use nekahuiro_player::event::{Record as PlayersRecord, Transaction as PlayersTransaction};
+use nekahuiro_player::soundness::{Begun, Facts, Fault};
+
+/// Why a struct may not be lent.
+#[derive(Clone, Copy, Debug, PartialEq, Eq, PartialOrd, Ord)]
+pub enum Unsound {
+    /// The facts it tells aren't sound.
+    Facts(Fault),
+    /// It isn't the struct of the facts it tells: a wrong line, a dead entry or a spare byte that isn't
+    /// 0, an `up` above 1.
+    Struct,
+}
+
+/// The facts that a struct tells with a working buffer, be they sound or not.
+pub fn facts(state: &State, work: &Work) -> Facts {
+    let mut facts = Facts { up: state.up != 0, ..Facts::default() };
+    for t in (0..TRANSACTIONS).filter(|t| state.depth[*t] != 0) {
+        let parent = state.parent[t];
+        let parent = (parent != Transaction::NONE.number()).then_some(PlayersTransaction(parent));
+        facts.live.insert(PlayersTransaction(t as u8), Begun { parent, depth: state.depth[t] });
+    }
+    for record in Record::all() {
+        let (r, named) = (usize::from(record.number()), PlayersRecord(record.number()));
+        facts.holders.extend(members(state.held[r]).map(|t| (named, t)));
+        facts.retainers.extend(members(state.retained[r]).map(|t| (named, t)));
+        for writer in members(state.writers[r]) {
+            let depth = state.depth.get(usize::from(writer.0)).copied().unwrap_or(0);
+            facts.versions.insert((writer, named), work.version(record, depth));
+        }
+    }
+    facts
+}
+
+/// The numbers in a set, also those that no transaction can bear.
+fn members(set: u32) -> impl Iterator<Item = PlayersTransaction> {
+    (0..32).filter(move |t| set & 1 << t != 0).map(PlayersTransaction)
+}
+
+/// The struct of facts, as far as there is one.
+pub fn encode(facts: &Facts) -> State {
+    let mut state = State { up: u8::from(facts.up), ..State::new() };
+    for (t, Begun { parent, depth }) in &facts.live {
+        let Some(at) = Some(usize::from(t.0)).filter(|at| *at < TRANSACTIONS) else { continue };
+        state.depth[at] = *depth;
+        state.parent[at] = parent.map_or(Transaction::NONE.number(), |parent| parent.0);
+        // A line has an end in sound facts; others may have rings.
+        let line = std::iter::successors(Some(*t), |t| facts.live.get(t)?.parent).take(TRANSACTIONS);
+        state.line[at] = line.fold(0, |set, t| set | bit(t));
+    }
+    for (record, t) in &facts.holders {
+        state.held[usize::from(record.0)] |= bit(*t);
+    }
+    for (record, t) in &facts.retainers {
+        state.retained[usize::from(record.0)] |= bit(*t);
+    }
+    for (t, record) in facts.versions.keys() {
+        state.writers[usize::from(record.0)] |= bit(*t);
+    }
+    state
+}
+
+fn bit(transaction: PlayersTransaction) -> u32 {
+    1u32.checked_shl(transaction.0.into()).unwrap_or(0)
+}
+
+/// The facts of a struct that may be lent with this store, or why it may not.
+pub fn judge(state: &State, work: &Work, store: &Bytes) -> Result<Facts, Unsound> {
+    let facts = facts(state, work);
+    match facts.fault(is_empty(store)) {
+        Some(fault) => Err(Unsound::Facts(fault)),
+        None if encode(&facts) != *state => Err(Unsound::Struct),
+        None => Ok(facts),
+    }
+}
+
+/// Whether the commit page is empty.
+pub fn is_empty(store: &Bytes) -> bool {
+    store[..PAGE_BYTES] == stores::fresh()[..PAGE_BYTES]
+}
+
+/// Which bytes of the working buffer hold versions.
+pub fn taken(state: &State) -> Vec<bool> {
+    let mut taken = vec![false; nekahuiro::limits::WORK_BYTES];
+    for (record, t) in (0..RECORDS).flat_map(|r| (0..TRANSACTIONS).map(move |t| (r, t))) {
+        let place = Record::new(record as u8).and_then(|record| Work::place(record, state.depth[t]));
+        if let Some(at) = place.filter(|_| state.writers[record] >> t & 1 == 1) {
+            taken[at..at + PAGE_BYTES].fill(true);
+        }
+    }
+    taken
+}

@@ -1,0 +1,247 @@
+//! Lists cut into portions: the library, on a state that is lent, against the player and whole runs.
+
+use crate::case::{Case, Program, TAIL, TAIL_BYTES};
+use crate::{lent, settings};
+use nekahuiro::limits::{ANSWER_BYTES, EVENT_BYTES, STATE_BYTES};
+use nekahuiro::{raw, State, Work};
+use nekahuiro_lists::stores::Bytes;
+use nekahuiro_lists::Rng;
+use nekahuiro_player::Desk;
+use std::sync::atomic::{AtomicU64, Ordering};
+use std::sync::Mutex;
+
+/// What a board keeps from one portion to the next, and what the player keeps beside it.
+pub struct Board {
+    /// The lent state.
+    pub state: State,
+    /// The store.
+    pub store: Bytes,
+    /// The working buffer.
+    pub work: Work,
+    desk: Desk,
+    players_store: Bytes,
+}
+
+impl Board {
+    /// A board at the start, with anything in its working buffer.
+    pub fn new(store: Bytes, rng: &mut Rng) -> Board {
+        let mut work = Work::new();
+        work.bytes_mut().fill_with(|| rng.byte());
+        Board { state: State::new(), store, work, desk: Desk::default(), players_store: store }
+    }
+
+    /// A board on which a state was put; none if it isn't sound.
+    pub fn with(state: State, store: Bytes, work: Work) -> Option<Board> {
+        let desk = Desk::of(&lent::facts(&state, &work), lent::is_empty(&store))?;
+        Some(Board { state, store, work, desk, players_store: store })
+    }
+
+    /// Plays a portion on library and player; the answers, or how they differ.
+    pub fn play(&mut self, events: &[u8]) -> Result<Vec<u8>, String> {
+        let end = events.len() / EVENT_BYTES * ANSWER_BYTES;
+        let mut answers = vec![TAIL; end + TAIL_BYTES];
+        let mut due = answers.clone();
+        let number = raw::portion(&mut self.state, &mut self.store, events, self.work.bytes_mut(), &mut answers);
+        let mut unused = Work::new();
+        let players =
+            nekahuiro_player::portion(&mut self.desk, &mut self.players_store, events, unused.bytes_mut(), &mut due);
+        if (number, players) != (0, 0) {
+            return Err(format!("the portion is answered {number}, by the player {players}"));
+        }
+        if answers != due {
+            return Err(format!("answers {answers:02X?}, the player's {due:02X?}"));
+        }
+        self.compare()?;
+        answers.truncate(end);
+        Ok(answers)
+    }
+
+    /// Store, struct and versions are the player's.
+    fn compare(&self) -> Result<(), String> {
+        let facts = self.desk.facts();
+        let due = lent::encode(&facts);
+        if self.store != self.players_store {
+            return Err("the store isn't the player's".to_string());
+        }
+        if self.state.bytes() != due.bytes() {
+            return Err(format!("the state is {:?}, the player's {due:?}", self.state));
+        }
+        if lent::facts(&self.state, &self.work) != facts {
+            return Err("a version isn't the player's".to_string());
+        }
+        match lent::judge(&self.state, &self.work, &self.store) {
+            Ok(_) => Ok(()),
+            Err(why) => Err(format!("the state isn't sound: {why:?}")),
+        }
+    }
+
+    /// Puts anything into the bytes of the working buffer that hold no version.
+    pub fn scramble(&mut self, rng: &mut Rng) {
+        let taken = lent::taken(&self.state);
+        for (byte, taken) in self.work.bytes_mut().iter_mut().zip(taken) {
+            if !taken {
+                *byte = rng.byte();
+            }
+        }
+    }
+
+    /// Lends what must be refused, in a random way; nothing may change.
+    pub fn refuse(&mut self, events: &[u8], rng: &mut Rng) -> Result<(), String> {
+        let mut answers = vec![TAIL; events.len() / EVENT_BYTES * ANSWER_BYTES + 1];
+        let mut work = self.work.bytes().to_vec();
+        let mut store = self.store.to_vec();
+        let mut list = events.to_vec();
+        let mut state = self.state.clone();
+        // Whatever is wrong behind the first wrong thing has no say.
+        let way = match rng.below(5) {
+            3 if events.is_empty() => 2, // no answers are due
+            way => way,
+        };
+        let wrong = |at: usize, rng: &mut Rng| at == way || (at > way && rng.percent(30));
+        if wrong(0, rng) {
+            store.pop();
+        }
+        if wrong(1, rng) {
+            work.push(0);
+        }
+        if wrong(2, rng) {
+            list.push(0);
+        }
+        if wrong(3, rng) {
+            answers.truncate((events.len() / EVENT_BYTES * ANSWER_BYTES).saturating_sub(1));
+        }
+        if wrong(4, rng) {
+            state.up = 2 + rng.below(254) as u8;
+        }
+        let before = (state.clone(), store.clone(), work.clone(), answers.clone());
+        let number = raw::portion(&mut state, &mut store, &list, &mut work, &mut answers);
+        let due = [22, 24, 20, 21, 25][way];
+        if number != due {
+            return Err(format!("refused with {number}, and {due} is due"));
+        }
+        match (state, store, work, answers) == before {
+            true => Ok(()),
+            false => Err(format!("refused with {number}, but something was changed")),
+        }
+    }
+}
+
+/// Plays a case in portions of random length, at most `longest` events, and compares with a whole run.
+pub fn check_cut(case: &Case, longest: usize, rng: &mut Rng) -> Result<u64, String> {
+    let whole = Program::Engine.play(case, 0x5A);
+    let mut board = Board::new(case.store, rng);
+    let (mut at, mut portions) = (0, 0);
+    while at < case.length() {
+        let end = case.length().min(at + rng.below(longest + 1));
+        let end = if longest == 1 { at + 1 } else { end };
+        let events = &case.events[at * EVENT_BYTES..end * EVENT_BYTES];
+        let place = |text: String| format!("events {at} to {end}: {text}");
+        if rng.percent(10) {
+            board.refuse(events, rng).map_err(place)?;
+        }
+        let answers = board.play(events).map_err(place)?;
+        if answers != whole.answers[at * ANSWER_BYTES..end * ANSWER_BYTES] {
+            return Err(place("the answers aren't those of the whole run".to_string()));
+        }
+        if rng.percent(30) {
+            board.scramble(rng);
+        }
+        at = end;
+        portions += 1;
+    }
+    match board.store == whole.store {
+        true => Ok(portions),
+        false => Err("the store isn't that of the whole run".to_string()),
+    }
+}
+
+/// A struct that differs from a sound one in something, at random.
+pub fn mutate(state: &mut State, rng: &mut Rng) {
+    let (t, r) = (rng.below(state.depth.len()), rng.below(state.held.len()));
+    let live: Vec<usize> = (0..state.depth.len()).filter(|t| state.depth[*t] != 0).collect();
+    let someone = rng.pick(&live).copied().unwrap_or(t);
+    let bit = 1 << someone;
+    match rng.below(15) {
+        0..=1 => {
+            let mut bytes = state.bytes();
+            // The last bytes are few and say much.
+            let at = if rng.percent(30) { STATE_BYTES - 1 - rng.below(4) } else { rng.below(STATE_BYTES) };
+            bytes[at] = if rng.percent(50) { bytes[at] ^ 1 << rng.below(8) } else { rng.byte() };
+            State::of(&bytes).into_iter().for_each(|changed| *state = changed);
+        }
+        2 => state.depth[someone] = state.depth[someone].wrapping_add(rng.one_of([1, 255])),
+        3 => state.depth[t] = rng.below(11) as u8,
+        4 => state.parent[someone] = rng.below(33) as u8,
+        5 => state.parent[someone] = rng.pick(&live).map_or(31, |parent| *parent as u8),
+        6 => state.held[r] ^= bit,
+        7 => state.held[r] = bit,
+        8 => state.retained[r] ^= bit,
+        9 => state.retained[r] |= state.line[someone] & rng.bits() as u32,
+        10 => state.writers[r] ^= bit,
+        11 => state.writers[r] |= (state.held[r] | state.retained[r]) & rng.bits() as u32,
+        12 => state.up = rng.one_of([0, 1, 1, 1, 2, 255]),
+        13 => state.line[someone] ^= 1 << rng.below(32),
+        _ => forget(state, someone),
+    }
+}
+
+/// A transaction is gone, with all that it held: sound if it was a leaf.
+fn forget(state: &mut State, transaction: usize) {
+    state.depth[transaction] = 0;
+    state.parent[transaction] = 0;
+    state.line[transaction] = 0;
+    for set in state.held.iter_mut().chain(&mut state.retained).chain(&mut state.writers) {
+        *set &= !(1 << transaction);
+    }
+}
+
+/// A struct made at random, mostly a sound one that no list leads to.
+pub fn any_state(rng: &mut Rng) -> State {
+    let mut state = State { up: 1, ..State::new() };
+    for t in 0..rng.below(state.depth.len() + 1) {
+        if rng.percent(15) {
+            continue;
+        }
+        let live: Vec<usize> = (0..t).filter(|t| (1..8).contains(&state.depth[*t])).collect();
+        let parent = if rng.percent(75) { rng.pick(&live).copied() } else { None };
+        state.parent[t] = parent.map_or(31, |parent| parent as u8);
+        state.depth[t] = 1 + parent.map_or(0, |parent| state.depth[parent]);
+        state.line[t] = 1 << t | parent.map_or(0, |parent| state.line[parent]);
+    }
+    let live: Vec<usize> = (0..state.depth.len()).filter(|t| state.depth[*t] != 0).collect();
+    for r in 0..state.held.len() {
+        let Some(low) = rng.pick(&live).copied().filter(|_| rng.percent(60)) else { continue };
+        state.retained[r] = state.line[low] & rng.bits() as u32;
+        if rng.percent(50) {
+            state.held[r] = 1 << low;
+        }
+        state.writers[r] = (state.held[r] | state.retained[r]) & rng.bits() as u32;
+    }
+    state
+}
+
+/// The random source for a number of a test, which its salt tells from other tests.
+pub fn rng(salt: u64, number: u64) -> Rng {
+    Rng::new(settings::seed() ^ salt.rotate_left(40) ^ number.wrapping_mul(0xA24B_AED4_963E_E407))
+}
+
+/// Does `work` for each number below `count`, shared among threads; the first failure.
+pub fn share(count: u64, work: impl Fn(u64) -> Result<(), String> + Sync) -> Option<String> {
+    let (next, found) = (AtomicU64::new(0), Mutex::new(None));
+    let worker = || loop {
+        let number = next.fetch_add(1, Ordering::Relaxed);
+        if number >= count {
+            return;
+        }
+        if let Err(text) = work(number) {
+            next.store(count, Ordering::Relaxed);
+            found.lock().map(|mut found| found.get_or_insert(format!("number {number}: {text}")).clone()).ok();
+        }
+    };
+    std::thread::scope(|scope| {
+        for _ in 0..settings::threads() {
+            scope.spawn(worker);
+        }
+    });
+    found.into_inner().ok().flatten()
+}
