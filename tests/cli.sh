@@ -75,7 +75,7 @@ same "a dry run leaves the store" store before
 # Portions and state files: as one run over the joined lists.
 number() { awk -v name="NEKAHUIRO_$1" '$2 == name { print $3 }' "$root/include/nekahuiro.h"; }
 state_bytes=$(number STATE_BYTES)
-desk_bytes=$((state_bytes + $(number WORK_BYTES)))
+kept_bytes=$((state_bytes + $(number WORK_BYTES)))
 "$run" fresh whole >out && "$run" fresh cut >out && cp cut cut.first
 ok "the whole list" "11 events: 10 done, 0 refused, 1 cut" "$run" play whole hex.txt --answers whole.bin
 ok "in portions" "11 events: 10 done, 0 refused, 1 cut" "$run" play cut hex.txt --portions 2 --answers cut.bin
@@ -83,49 +83,49 @@ same "in portions: the answers" whole.bin cut.bin
 same "in portions: the store" whole cut
 cp cut.first cut
 ok "a first part" "6 events: 6 done.* 2 transactions: 0 survive, 0 lost, 2 undecided" \
-    bash -c "head -4 hex.txt | '$run' play cut - --state desk --answers one.bin"
-holds "what is live is said" grep -qx "desk: up, live: 0" out
-holds "a state file has state and working buffer" test "$(stat -c %s desk)" = "$desk_bytes"
-cp desk desk.first
-ok "a dry run from a state" "desk: down" "$run" play cut rest.txt --state desk --dry
-same "a dry run leaves the state" desk desk.first
+    bash -c "head -4 hex.txt | '$run' play cut - --state kept --answers one.bin"
+holds "what is live is said" grep -qx "kept: up, live: 0" out
+holds "a state file has state and working buffer" test "$(stat -c %s kept)" = "$kept_bytes"
+cp kept kept.first
+ok "a dry run from a state" "kept: down" "$run" play cut rest.txt --state kept --dry
+same "a dry run leaves the state" kept kept.first
 ok "a trace from a state" "before: the store is up, live: 0; record 3 retained by 0" \
-    "$run" play cut rest.txt --state desk --dry --trace
+    "$run" play cut rest.txt --state kept --dry --trace
 ok "a picture from a state" "transaction 0, begun before, its commit was cut at event 5: survives" \
-    bash -c "'$run' play cut rest.txt --state desk --dry --picture late.svg && cat late.svg"
-ok "the second part" "2 transactions: 1 survive, 1 lost$" "$run" play cut rest.txt --state desk --answers two.bin
-ok "one event at a time" "desk.one: up, live: 0" bash -c "cp cut.first one && head -4 hex.txt | '$run' play one - --state desk.one --portions 1"
-same "one event at a time: the state" desk.one desk.first
+    bash -c "'$run' play cut rest.txt --state kept --dry --picture late.svg && cat late.svg"
+ok "the second part" "2 transactions: 1 survive, 1 lost$" "$run" play cut rest.txt --state kept --answers two.bin
+ok "one event at a time" "kept.one: up, live: 0" bash -c "cp cut.first one && head -4 hex.txt | '$run' play one - --state kept.one --portions 1"
+same "one event at a time: the state" kept.one kept.first
 cat one.bin two.bin >joined.bin
 same "in two parts: the answers" whole.bin joined.bin
 same "in two parts: the store" whole cut
 ok "more events than a run takes" "^5000 events: 5000 done" \
     bash -c "yes crash | head -5000 | '$run' play cut - --portions 4096 --answers long.bin"
 same "more events leave the store" whole cut
-ok "an empty list on a state" "^0 events" bash -c "'$run' play cut - --state desk </dev/null"
-cp cut cut.before; cp desk desk.before; cp desk.first odd
+ok "an empty list on a state" "^0 events" bash -c "'$run' play cut - --state kept </dev/null"
+cp cut cut.before; cp kept kept.before; cp kept.first odd
 printf '\x01' | dd of=odd bs=1 seek=$((state_bytes - 1)) conv=notrunc 2>err
 fails "a state that isn't sound" 1 "the state in odd is refused .25.*cut isn't the store" "$run" play cut words.txt --state odd
-fails "a state of another store" 1 "refused .25." "$run" play cut words.txt --state desk.first
-head -c $((desk_bytes - 1)) desk >short.desk
-fails "a short state file" 1 "no state file: it has $((desk_bytes - 1)) bytes, and a state file has $desk_bytes" \
-    "$run" play cut words.txt --state short.desk
+fails "a state of another store" 1 "refused .25." "$run" play cut words.txt --state kept.first
+head -c $((kept_bytes - 1)) kept >short.kept
+fails "a short state file" 1 "no state file: it has $((kept_bytes - 1)) bytes, and a state file has $kept_bytes" \
+    "$run" play cut words.txt --state short.kept
 fails "a folder for a state" 1 "can't read" "$run" play cut words.txt --state .
-fails "a state in a missing folder" 1 "can't write missing/desk" "$run" play cut words.txt --state missing/desk
+fails "a state in a missing folder" 1 "can't write missing/kept" "$run" play cut words.txt --state missing/kept
 fails "the store for a state" 2 "cut is named twice" "$run" play cut words.txt --state cut
-fails "too many events on a state" 1 "4097 events.*refusal 20" bash -c "yes crash | head -4097 | '$run' play cut - --state desk"
+fails "too many events on a state" 1 "4097 events.*refusal 20" bash -c "yes crash | head -4097 | '$run' play cut - --state kept"
 fails "portions of nothing" 2 "from 1 to 4096, and .0. was given" "$run" play cut words.txt --portions 0
 fails "portions too long" 2 "from 1 to 4096" "$run" play cut words.txt --portions 4097
 fails "portions without a number" 2 "nothing was given" "$run" play cut words.txt --portions
-chmod 444 desk
-fails "read-only state" 1 "desk: it is read-only" "$run" play cut words.txt --state desk
-chmod 644 desk
-fails "no room for the state" 1 "can't write desk: File too large" \
-    bash -c "trap '' XFSZ; ulimit -f 3; '$binary' play cut words.txt --state desk"
+chmod 444 kept
+fails "read-only state" 1 "kept: it is read-only" "$run" play cut words.txt --state kept
+chmod 644 kept
+fails "no room for the state" 1 "can't write kept: File too large" \
+    bash -c "trap '' XFSZ; ulimit -f 3; '$binary' play cut words.txt --state kept"
 fails "output to a full device, with a state" 1 "standard output: No space left" \
-    bash -c "'$run' play cut words.txt --state desk >/dev/full"
+    bash -c "'$run' play cut words.txt --state kept >/dev/full"
 same "all refused: the store stays" cut cut.before
-same "all refused: the state stays" desk desk.before
+same "all refused: the state stays" kept kept.before
 no_leftovers .
 
 # Bad input: the line, the reason and the mend; the store stays.
@@ -192,7 +192,7 @@ if [ "$(id -u)" = 0 ] && mkdir disk && mount -t tmpfs -o size=8k tmpfs disk 2>/d
     no_leftovers disk
     umount disk; mounted=
     # A store that can't be replaced in the end: its state must not be used with it any more.
-    cp cut.first bound; cp cut.first fixed; cp desk.first late
+    cp cut.first bound; cp cut.first fixed; cp kept.first late
     if mount --bind bound fixed 2>/dev/null; then
         mounted=$folder/fixed
         fails "stopped between store and state" 1 "late is gone, which is as a power cut" "$run" play fixed rest.txt --state late

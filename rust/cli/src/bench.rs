@@ -5,7 +5,7 @@ use crate::say;
 use nekahuiro::limits::{ANSWER_BYTES, EVENTS, EVENT_BYTES, WORK_BYTES};
 use nekahuiro::{raw, State, Store};
 use nekahuiro_lists::timing;
-use nekahuiro_player::Desk;
+use nekahuiro_player::Volatile;
 use std::fmt::Write;
 use std::hint::black_box;
 use std::process::Command;
@@ -82,10 +82,10 @@ impl Bench {
     }
 
     fn player_one_by_one(&mut self, events: &[u8]) -> u8 {
-        let mut desk = Desk::default();
+        let mut volatile = Volatile::default();
         let Bench { store, work, answers, .. } = self;
         one_by_one(events, answers, |word, answer| {
-            nekahuiro_player::portion(&mut desk, store.bytes_mut(), word, work, answer)
+            nekahuiro_player::portion(&mut volatile, store.bytes_mut(), word, work, answer)
         })
     }
 

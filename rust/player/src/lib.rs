@@ -18,7 +18,7 @@
 //! assert_eq!(answers, [0, 0, 0, 0]);
 //! ```
 
-mod desk;
+mod volatile;
 pub mod event;
 pub mod limits;
 mod locks;
@@ -28,7 +28,7 @@ pub mod soundness;
 pub mod store;
 mod tree;
 
-pub use desk::Desk;
+pub use volatile::Volatile;
 use event::Record;
 use limits::{ANSWER_BYTES, EVENTS, EVENT_BYTES, PAGE_BYTES, RECORDS, STORE_BYTES, WORK_BYTES};
 pub use player::{Answer, Player};
@@ -52,30 +52,30 @@ pub const BAD_STATE: u8 = 25;
 /// Plays a list of event words. The working buffer is only measured: versions live in maps.
 pub fn run(store: &mut [u8], events: &[u8], work: &mut [u8], answers: &mut [u8]) -> u8 {
     match open(store, events, work, answers) {
-        Ok(store) => play(Player::new(store, &mut Desk::default()), events, answers),
+        Ok(store) => play(Player::new(store, &mut Volatile::default()), events, answers),
         Err(number) => number,
     }
 }
 
-/// Plays a portion of event words from what the desk remembers, and leaves it to the next portion.
-/// All that can be wrong with a desk is the store that comes with it.
+/// Plays a portion of event words from what the volatile remembers, and leaves it to the next portion.
+/// All that can be wrong with a volatile is the store that comes with it.
 ///
 /// ```
-/// use nekahuiro_player::{fresh, limits, portion, Desk};
+/// use nekahuiro_player::{fresh, limits, portion, Volatile};
 ///
 /// let (mut store, mut work) = ([0; limits::STORE_BYTES], [0; limits::WORK_BYTES]);
 /// fresh(&mut store);
-/// let (mut desk, mut answer) = (Desk::default(), [0; 2]);
+/// let (mut volatile, mut answer) = (Volatile::default(), [0; 2]);
 /// // recover with count 63, then begin: each is a portion
 /// for word in [[0x80, 0x00, 0x3F, 0x00], [0x1F, 0x80, 0x00, 0x00]] {
-///     assert_eq!(portion(&mut desk, &mut store, &word, &mut work, &mut answer), 0);
+///     assert_eq!(portion(&mut volatile, &mut store, &word, &mut work, &mut answer), 0);
 ///     assert_eq!(answer, [0, 0]);
 /// }
 /// ```
-pub fn portion(desk: &mut Desk, store: &mut [u8], events: &[u8], work: &mut [u8], answers: &mut [u8]) -> u8 {
+pub fn portion(volatile: &mut Volatile, store: &mut [u8], events: &[u8], work: &mut [u8], answers: &mut [u8]) -> u8 {
     match open(store, events, work, answers) {
-        Ok(store) if desk.up && store.commit_page() != store::CommitPage::Empty => BAD_STATE,
-        Ok(store) => play(Player::new(store, desk), events, answers),
+        Ok(store) if volatile.up && store.commit_page() != store::CommitPage::Empty => BAD_STATE,
+        Ok(store) => play(Player::new(store, volatile), events, answers),
         Err(number) => number,
     }
 }
@@ -85,8 +85,8 @@ pub fn portion(desk: &mut Desk, store: &mut [u8], events: &[u8], work: &mut [u8]
 pub fn run_with_bug(bug: planted::Bug, store: &mut [u8], events: &[u8], work: &mut [u8], answers: &mut [u8]) -> u8 {
     match open(store, events, work, answers) {
         Ok(store) => {
-            let mut desk = Desk::default();
-            let mut player = Player::new(store, &mut desk);
+            let mut volatile = Volatile::default();
+            let mut player = Player::new(store, &mut volatile);
             player.plant(Some(bug));
             play(player, events, answers)
         }

@@ -1,6 +1,6 @@
 //! One event at a time: the refusals in the order of the table, then the effect.
 
-use crate::desk::Desk;
+use crate::volatile::Volatile;
 use crate::event::{decode, Event, Record, Transaction};
 use crate::limits::EVENT_BYTES;
 use crate::planted::Bug;
@@ -30,20 +30,20 @@ enum Refusal {
 
 type Outcome = Result<Answer, Refusal>;
 
-/// A run under way: a store, and a desk that outlasts the run.
+/// A run under way: a store, and a volatile that outlasts the run.
 pub struct Player<'s> {
     store: Store<'s>,
-    desk: &'s mut Desk,
+    volatile: &'s mut Volatile,
     #[cfg(feature = "planted")]
     bug: Option<Bug>,
 }
 
 impl<'s> Player<'s> {
-    /// A run on a store, from what the desk remembers.
-    pub fn new(store: Store<'s>, desk: &'s mut Desk) -> Self {
+    /// A run on a store, from what the volatile remembers.
+    pub fn new(store: Store<'s>, volatile: &'s mut Volatile) -> Self {
         Player {
             store,
-            desk,
+            volatile,
             #[cfg(feature = "planted")]
             bug: None,
         }
@@ -74,7 +74,7 @@ impl<'s> Player<'s> {
         match decode(word).ok_or(Refusal::Bad)? {
             Event::Crash => Ok(self.crash()),
             Event::Recover(count) => self.recover(count),
-            _ if !self.desk.up => Err(Refusal::Down),
+            _ if !self.volatile.up => Err(Refusal::Down),
             Event::Begin(parent) => self.begin(parent),
             Event::Lock(transaction, record) => self.lock(transaction, record),
             Event::Write(transaction, record, offset, value) => self.write(transaction, record, offset, value),
@@ -87,11 +87,11 @@ impl<'s> Player<'s> {
     fn begin(&mut self, parent: Option<Transaction>) -> Outcome {
         if let Some(parent) = parent {
             self.live(parent)?;
-            if self.desk.tree.is_deepest(parent) {
+            if self.volatile.tree.is_deepest(parent) {
                 return Err(Refusal::TooDeep);
             }
         }
-        let number = self.desk.tree.begin(parent).ok_or(Refusal::Full)?;
+        let number = self.volatile.tree.begin(parent).ok_or(Refusal::Full)?;
         Ok(Answer(DONE, number.0))
     }
 
@@ -100,14 +100,14 @@ impl<'s> Player<'s> {
         if !self.grantable(transaction, record) {
             return Err(Refusal::NotGrantable);
         }
-        self.desk.locks.grant(transaction, record);
+        self.volatile.locks.grant(transaction, record);
         Ok(Answer(DONE, 0))
     }
 
     /// No other transaction holds the lock and every retainer is the asker or its ancestor.
     fn grantable(&self, asker: Transaction, record: Record) -> bool {
-        let lock = self.desk.locks.get(record);
-        let on_line = |retainer: &Transaction| self.desk.tree.line(asker).any(|t| t == *retainer);
+        let lock = self.volatile.locks.get(record);
+        let on_line = |retainer: &Transaction| self.volatile.tree.line(asker).any(|t| t == *retainer);
         lock.holder.is_none_or(|holder| holder == asker)
             && (self.planted(Bug::GrantBlindToRetainers) || lock.retainers.iter().all(on_line))
     }
@@ -115,9 +115,9 @@ impl<'s> Player<'s> {
     fn write(&mut self, transaction: Transaction, record: Record, offset: u8, value: u8) -> Outcome {
         self.live(transaction)?;
         self.held(transaction, record)?;
-        let seen = self.desk.tree.version(transaction, record).copied();
+        let seen = self.volatile.tree.version(transaction, record).copied();
         let page = seen.unwrap_or_else(|| self.store.page(Place::Home(record)));
-        if let Some(node) = self.desk.tree.get_mut(transaction) {
+        if let Some(node) = self.volatile.tree.get_mut(transaction) {
             node.versions.entry(record).or_insert(page)[offset as usize] = value;
         }
         Ok(Answer(DONE, 0))
@@ -126,7 +126,7 @@ impl<'s> Player<'s> {
     fn read(&mut self, transaction: Transaction, record: Record, offset: u8) -> Outcome {
         self.live(transaction)?;
         self.held(transaction, record)?;
-        let byte = match self.desk.tree.version(transaction, record) {
+        let byte = match self.volatile.tree.version(transaction, record) {
             Some(version) => version[offset as usize],
             None => self.store.home_byte(record, offset),
         };
@@ -135,20 +135,20 @@ impl<'s> Player<'s> {
 
     fn commit(&mut self, transaction: Transaction, count: u8) -> Outcome {
         self.live(transaction)?;
-        if self.desk.tree.has_child(transaction) {
+        if self.volatile.tree.has_child(transaction) {
             return Err(Refusal::LiveChild);
         }
-        let Some(ended) = self.desk.tree.remove(transaction) else { return Err(Refusal::NotLive) };
+        let Some(ended) = self.volatile.tree.remove(transaction) else { return Err(Refusal::NotLive) };
         let Some(parent) = ended.parent else {
-            self.desk.locks.discard(&[transaction]);
+            self.volatile.locks.discard(&[transaction]);
             return Ok(self.write_pages(&self.commit_script(ended.versions), count));
         };
         if self.planted(Bug::ChildCommitFreesLocks) {
-            self.desk.locks.discard(&[transaction]);
+            self.volatile.locks.discard(&[transaction]);
         }
-        self.desk.locks.pass_up(transaction, parent);
+        self.volatile.locks.pass_up(transaction, parent);
         let keeps = self.planted(Bug::ParentKeepsItsVersion);
-        if let Some(parent) = self.desk.tree.get_mut(parent) {
+        if let Some(parent) = self.volatile.tree.get_mut(parent) {
             if keeps {
                 let own = std::mem::take(&mut parent.versions);
                 parent.versions = ended.versions;
@@ -201,35 +201,35 @@ impl<'s> Player<'s> {
         if self.planted(Bug::AbortRestoresHome) {
             self.forget_ancestors_versions(transaction);
         }
-        let ended = self.desk.tree.with_descendants(transaction);
+        let ended = self.volatile.tree.with_descendants(transaction);
         for transaction in &ended {
-            self.desk.tree.remove(*transaction);
+            self.volatile.tree.remove(*transaction);
         }
-        self.desk.locks.discard(&ended);
+        self.volatile.locks.discard(&ended);
         Ok(Answer(DONE, 0))
     }
 
     /// Only a planted bug does this.
     fn forget_ancestors_versions(&mut self, transaction: Transaction) {
-        let Some(node) = self.desk.tree.get(transaction) else { return };
+        let Some(node) = self.volatile.tree.get(transaction) else { return };
         let written: Vec<Record> = node.versions.keys().copied().collect();
-        let ancestors: Vec<Transaction> = self.desk.tree.line(transaction).skip(1).collect();
+        let ancestors: Vec<Transaction> = self.volatile.tree.line(transaction).skip(1).collect();
         for ancestor in ancestors {
-            if let Some(node) = self.desk.tree.get_mut(ancestor) {
+            if let Some(node) = self.volatile.tree.get_mut(ancestor) {
                 node.versions.retain(|record, _| !written.contains(record));
             }
         }
     }
 
     fn crash(&mut self) -> Answer {
-        self.desk.tree.clear();
-        self.desk.locks.clear();
-        self.desk.up = false;
+        self.volatile.tree.clear();
+        self.volatile.locks.clear();
+        self.volatile.up = false;
         Answer(DONE, 0)
     }
 
     fn recover(&mut self, count: u8) -> Outcome {
-        if self.desk.up {
+        if self.volatile.up {
             return Err(Refusal::Up);
         }
         let script = match self.store.commit_page() {
@@ -242,18 +242,18 @@ impl<'s> Player<'s> {
                 script
             }
         };
-        self.desk.up = true;
+        self.volatile.up = true;
         Ok(self.write_pages(&script, count))
     }
 
     fn live(&self, transaction: Transaction) -> Result<(), Refusal> {
-        self.desk.tree.is_live(transaction).then_some(()).ok_or(Refusal::NotLive)
+        self.volatile.tree.is_live(transaction).then_some(()).ok_or(Refusal::NotLive)
     }
 
     fn held(&self, transaction: Transaction, record: Record) -> Result<(), Refusal> {
-        let retains = || self.desk.locks.get(record).retainers.contains(&transaction);
+        let retains = || self.volatile.locks.get(record).retainers.contains(&transaction);
         let enough =
-            self.desk.locks.holds(transaction, record) || (self.planted(Bug::RetainerNeedsNoLock) && retains());
+            self.volatile.locks.holds(transaction, record) || (self.planted(Bug::RetainerNeedsNoLock) && retains());
         enough.then_some(()).ok_or(Refusal::NotHeld)
     }
 }

@@ -6,7 +6,7 @@ use nekahuiro::limits::{ANSWER_BYTES, EVENT_BYTES, STATE_BYTES};
 use nekahuiro::{raw, State, Work};
 use nekahuiro_lists::stores::Bytes;
 use nekahuiro_lists::Rng;
-use nekahuiro_player::Desk;
+use nekahuiro_player::Volatile;
 use std::sync::atomic::{AtomicU64, Ordering};
 use std::sync::Mutex;
 
@@ -18,7 +18,7 @@ pub struct Board {
     pub store: Bytes,
     /// The working buffer.
     pub work: Work,
-    desk: Desk,
+    volatile: Volatile,
     players_store: Bytes,
 }
 
@@ -27,13 +27,13 @@ impl Board {
     pub fn new(store: Bytes, rng: &mut Rng) -> Board {
         let mut work = Work::new();
         work.bytes_mut().fill_with(|| rng.byte());
-        Board { state: State::new(), store, work, desk: Desk::default(), players_store: store }
+        Board { state: State::new(), store, work, volatile: Volatile::default(), players_store: store }
     }
 
     /// A board on which a state was put; none if it isn't sound.
     pub fn with(state: State, store: Bytes, work: Work) -> Option<Board> {
-        let desk = Desk::of(&lent::facts(&state, &work), lent::is_empty(&store))?;
-        Some(Board { state, store, work, desk, players_store: store })
+        let volatile = Volatile::of(&lent::facts(&state, &work), lent::is_empty(&store))?;
+        Some(Board { state, store, work, volatile, players_store: store })
     }
 
     /// Plays a portion on library and player; the answers, or how they differ.
@@ -44,7 +44,7 @@ impl Board {
         let number = raw::portion(&mut self.state, &mut self.store, events, self.work.bytes_mut(), &mut answers);
         let mut unused = Work::new();
         let players =
-            nekahuiro_player::portion(&mut self.desk, &mut self.players_store, events, unused.bytes_mut(), &mut due);
+            nekahuiro_player::portion(&mut self.volatile, &mut self.players_store, events, unused.bytes_mut(), &mut due);
         if (number, players) != (0, 0) {
             return Err(format!("the portion is answered {number}, by the player {players}"));
         }
@@ -58,7 +58,7 @@ impl Board {
 
     /// Store, struct and versions are the player's.
     fn compare(&self) -> Result<(), String> {
-        let facts = self.desk.facts();
+        let facts = self.volatile.facts();
         let due = lent::encode(&facts);
         if self.store != self.players_store {
             return Err("the store isn't the player's".to_string());

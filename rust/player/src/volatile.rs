@@ -8,13 +8,13 @@ use crate::tree::{Node, Tree};
 
 /// What the player remembers; at the start it is down and nothing is live.
 #[derive(Default)]
-pub struct Desk {
+pub struct Volatile {
     pub(crate) up: bool,
     pub(crate) tree: Tree,
     pub(crate) locks: Locks,
 }
 
-impl Desk {
+impl Volatile {
     /// All that it remembers.
     pub fn facts(&self) -> Facts {
         let mut facts = Facts { up: self.up, ..Facts::default() };
@@ -31,19 +31,19 @@ impl Desk {
         facts
     }
 
-    /// A desk that remembers these facts, if they are sound over a store with this page 0.
-    pub fn of(facts: &Facts, page_is_empty: bool) -> Option<Desk> {
+    /// A volatile that remembers these facts, if they are sound over a store with this page 0.
+    pub fn of(facts: &Facts, page_is_empty: bool) -> Option<Volatile> {
         if facts.fault(page_is_empty).is_some() {
             return None;
         }
-        let mut desk = Desk { up: facts.up, ..Desk::default() };
+        let mut volatile = Volatile { up: facts.up, ..Volatile::default() };
         for (transaction, Begun { parent, depth }) in &facts.live {
             let own = facts.versions.iter().filter(|((writer, _), _)| writer == transaction);
             let versions = own.map(|((_, record), page)| (*record, *page)).collect();
-            desk.tree.put(*transaction, Node { parent: *parent, depth: *depth, versions });
+            volatile.tree.put(*transaction, Node { parent: *parent, depth: *depth, versions });
         }
-        facts.holders.iter().for_each(|(record, holder)| desk.locks.grant(*holder, *record));
-        facts.retainers.iter().for_each(|(record, retainer)| desk.locks.retain(*retainer, *record));
-        Some(desk)
+        facts.holders.iter().for_each(|(record, holder)| volatile.locks.grant(*holder, *record));
+        facts.retainers.iter().for_each(|(record, retainer)| volatile.locks.retain(*retainer, *record));
+        Some(volatile)
     }
 }
