@@ -18,7 +18,7 @@ ghost use Rattle.age.specs.Meaning.{meaning};
 
 const STORE: usize = 1056;
 
-const WORK: usize = 4096;
+pub const WORK: usize = page::WORK;
 
 // The bytes of the longest list: 4,096 events.
 const EVENTS: usize = 16384;
