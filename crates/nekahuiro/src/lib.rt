@@ -24,7 +24,7 @@ use engine::Engine;
 
 const STORE: usize = 1056;
 
-const WORK: usize = 4096;
+pub const WORK: usize = page::WORK;
 
 // The bytes of the longest list: 4,096 events.
 const EVENTS: usize = 16384;
