@@ -10,28 +10,26 @@ use native.Mathlib.Omega.{arith}
 use lib.ListN.{length}
 use Rattle.laws.specs.Tests.{same}
 use Rattle.laws.proofs.Tests.{same-refl}
-use Rattle.rules.specs.Geometry.{workSize, pageCount, records, open-geometry}
+use Rattle.rules.specs.Geometry.{pageCount, records, open-geometry}
 use Rattle.rules.specs.State.{down, mem}
-use Rattle.rules.specs.Store.{pagesOf}
 use Rattle.rules.specs.Step.{StateOf, firstOf}
-use Rattle.rules.specs.Run.{runRefusals}
+use Rattle.rules.specs.Run.{eventsIn, runRefusals}
 use Rattle.rules.specs.Sound.{Sound}
-use Rattle.rules.specs.Portion.{Lent, allEvents, allZero, Fits, AllFit, Portion, portionAll, portion, Chain, chain, chainFrom, As-whole}
-use Rattle.rules.specs.Calls.{Call, lents, results, left, Promised, AllPromised}
-use Rattle.rules.specs.Editions.{geometry1, edition1}
+use Rattle.rules.specs.Portion.{Lent, allEvents, allZero, Fits, AllFit, Portion, portionAll, portion, chain, chainFrom, As-whole}
+use Rattle.rules.specs.Calls.{Call, lents, left, Promised, AllPromised}
+use Rattle.rules.specs.Editions.{edition1}
 use Rattle.rules.proofs.Portions.{first-lacks, Case, plays, refuses, case?, finds-one, lengths-first, lengths-only, unsound-refused, Carried, carried-start, sound-portion, chain-whole}
 use Rattle.rules.proofs.Portions as portions
-use Rattle.rules.proofs.CutLists.{fits-passes, portions-whole-edition1}
+use Rattle.rules.proofs.CutLists.{empty-portion, fits-passes, portions-whole-edition1}
 use Rattle.rules.proofs.Calls.{AsChain, calls-chain}
-use Rattle.history.specs.Called.{Starts, Demand-3-called, Demand-3-called-holds}
+use Rattle.history.specs.Called.{Starts, Demand-3-called-holds}
 use Rattle.history.proofs.Called.{demand-3-called}
 use Rattle.events.specs.Whole as events
 use Rattle.events.proofs.Falls.{zeros-down, zeros-formed}
-use Rattle.engine.specs.Portion.{whole}
 use Rattle.engine.proofs.ByKind.{laws1, shaped-of}
 use Rattle.soundness.proofs.Unique.{encoding-unique}
 use Rattle.nekahuiro.specs.Portions.{Kept, kept, view, bytes, Proper, zeros}
-use Rattle.nekahuiro.specs.Chained.{Alike-calls, Singled-out, FromStart, Called-well, Calls-hold, As-run, Cut-anywhere}
+use Rattle.nekahuiro.specs.Chained.{Singled-out, Left-alone, Empty-taken, FromStart, Called-well, Calls-hold, As-run, Cut-anywhere}
 use Rattle.nekahuiro.proofs.Portions.{encoded-of, sizes-of}
 
 abbrev Promise : Kept → Call Kept → Type 0
@@ -115,6 +113,46 @@ singled-out x c d e P Q = record {
   answers = P .1 .told ∙ ap (λ (p : Portion edition1). p .answers) (same-portion x c d e P Q) ∙ sym (Q .1 .told);
   state = states-same x c d e P Q;
 }
+
+module _ (x : Kept) (c : Call Kept) (W : Proper x) (S : Sound edition1 (view x)) (empty : c .lent .events ≡ []) (long : length (c .lent .work) ≡ 4096) (P : Promise x c) where
+  abbrev none-lent : Lent
+  none-lent = record { events = []; work = c .lent .work; answers = c .lent .answers }
+
+  lent-none : c .lent ≡ none-lent
+  lent-none = λ i. record { events = empty i; work = c .lent .work; answers = c .lent .answers }
+
+  empty-fits : Fits edition1 none-lent
+  unfolding open-geometry eventsIn
+  empty-fits = record { slots = long; whole = refl; short = omega arith; room = omega arith }
+
+  empty-passes : first x none-lent ≡ none
+  unfolding pageCount records
+  empty-passes = fits-passes edition1 (x .store) none-lent (W .form .stores) empty-fits
+
+  empty-sound : P .0 ≡ true
+  empty-sound = P .1 .found (subst⁻¹ (λ (l : Lent). first x l ≡ none) lent-none empty-passes) .every-sound (view x) (refl, W) S
+
+  empty-is : on x (c .lent) (P .0) ≡ record { answer = 0; state = view x; store = x .store; answers = c .lent .answers }
+  empty-is =
+      ap (on x (c .lent)) empty-sound ∙ ap (λ (l : Lent). on x l true) lent-none
+      ∙ empty-portion edition1 laws1 (view x) (x .store) (c .lent .work) (c .lent .answers) (carried-of x W S) empty-passes
+
+  empty-state : view (c .after) ≡ view x
+  empty-state = P .1 .state ∙ ap (λ (p : Portion edition1). p .state) empty-is
+
+  empty-left : Left-alone x c
+  empty-left = record {
+    answer = P .1 .answered ∙ ap (λ (p : Portion edition1). p .answer) empty-is;
+    engine = engine-one (c .after) x (P .1 .written W) W (subst⁻¹ (Sound edition1) empty-state S) empty-state;
+    store = P .1 .stored ∙ ap (λ (p : Portion edition1). p .store) empty-is;
+    answers = P .1 .told ∙ ap (λ (p : Portion edition1). p .answers) empty-is;
+    state = empty-state;
+  }
+
+-- AN EMPTY PORTION
+pub empty-taken : Empty-taken
+unfolding Empty-taken
+empty-taken x c W S e long P = empty-left x c W S e long P
 
 -- zeros are a start
 starts : (work store : List ℕ) → length work ≡ 4096 → length store ≡ 1056 → Starts edition1 view bytes Proper (kept zeros work store)

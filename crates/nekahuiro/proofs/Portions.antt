@@ -1,7 +1,7 @@
 -- A portion that is refused leaves all as it was; one that is played leaves what the rules say. What is lent is a state exactly if the gate finds so.
-use mathlib.Core.Path.{_≡_, refl, sym, ap, subst, subst⁻¹, _∙_}
+use mathlib.Core.Path.{_≡_, refl, sym, ap, subst⁻¹, _∙_}
 use mathlib.Core.Bool.{Bool, true, false, _&&_, true≢false}
-use mathlib.Core.List.{List, [], _∷_}
+use mathlib.Core.List.{List}
 use mathlib.Core.Logic.{_≢_}
 use mathlib.Core.Option.{Option, none, some}
 use Prim.Native.Nat.{ℕ, zero, suc, _<_}
@@ -9,7 +9,7 @@ use native.Mathlib.Omega.{arith}
 use lib.ListN.{length, getD, replicate}
 use lib.Seq.{ext-getD}
 use Rattle.laws.specs.Tests.{same}
-use Rattle.rules.specs.Step.{StateOf, firstOf}
+use Rattle.rules.specs.Step.{firstOf}
 use Rattle.rules.specs.Run.{runRefusals}
 use Rattle.rules.specs.Sound.{Sound}
 use Rattle.rules.specs.Portion.{Finds, Portion, portionAll, portion, wordsIn}
@@ -24,9 +24,9 @@ use Rattle.soundness.specs.Decides.{Decides}
 use Rattle.soundness.specs.Encoded.{Encoded, Sized}
 use Rattle.soundness.proofs.Decides.{decides-as, decides-and, decides-same}
 use Rattle.nekahuiro.specs.Running.{lengthsRefused, refusalNumber}
-use Rattle.nekahuiro.specs.Portions.{Kept, kept, view, Proper, call, Portioned-as}
+use Rattle.nekahuiro.specs.Portions.{Kept, kept, view, Proper, Portioned-as}
 use Rattle.nekahuiro.specs.declared.Portioned.{Portioned}
-use Rattle.nekahuiro.proofs.Running.{by-lengths, Lengths, lengths-of}
+use Rattle.nekahuiro.proofs.Running.{by-lengths, lengths-of}
 
 -- three bytes are zeros
 pub bare-decided : (l : List ℕ) → length l ≡ 3 → Decides ((same (getD l 0 0) 0 && same (getD l 1 0) 0) && same (getD l 2 0) 0) (l ≡ replicate 3 0)

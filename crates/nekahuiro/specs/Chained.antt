@@ -1,12 +1,13 @@
 -- Calls of a portion, each on what the last one left, from the start.
 use mathlib.Core.Path.{_≡_}
 use mathlib.Core.Bool.{true, false}
-use mathlib.Core.List.{List}
+use mathlib.Core.List.{List, []}
 use Prim.Native.Nat.{ℕ, _*_}
 use lib.ListN.{length, take}
 use Rattle.rules.specs.State.{mem}
 use Rattle.rules.specs.Run.{eventsIn, run}
-use Rattle.rules.specs.Portion.{Lent, allEvents, allZero, AllFit, Fits}
+use Rattle.rules.specs.Sound.{Sound}
+use Rattle.rules.specs.Portion.{allEvents, allZero, AllFit, Fits}
 use Rattle.rules.specs.Calls.{Call, lents, results, left, answersOf, Promised, AllPromised}
 use Rattle.rules.specs.Editions.{edition1}
 use Rattle.history.specs.Called.{Demand-3-called}
@@ -23,6 +24,18 @@ pub record Alike-calls (c d : Call Kept) : Type 0 where
 
 unfoldable pub Singled-out : Type 0
 Singled-out = (x : Kept) (c d : Call Kept) → c .lent ≡ d .lent → Promised edition1 view bytes Proper x c → Promised edition1 view bytes Proper x d → Alike-calls c d
+
+-- AN EMPTY PORTION of a sound state answers 0, and all but the working buffer stays; of that the live versions stay.
+pub record Left-alone (x : Kept) (c : Call Kept) : Type 0 where
+  pub answer : c .answer ≡ 0
+  pub engine : c .after .engine ≡ x .engine
+  pub store : c .after .store ≡ x .store
+  pub answers : c .answers ≡ c .lent .answers
+  pub state : view (c .after) ≡ view x
+
+unfoldable pub Empty-taken : Type 0
+Empty-taken = (x : Kept) (c : Call Kept) → Proper x → Sound edition1 (view x) → c .lent .events ≡ [] → length (c .lent .work) ≡ 4096
+    → Promised edition1 view bytes Proper x c → Left-alone x c
 
 -- calls from all zeros, over a store and a working buffer of the right length
 pub record FromStart (work store : List ℕ) (cs : List (Call Kept)) : Type 0 where

@@ -4,7 +4,6 @@ use mathlib.Core.List.{List}
 use Prim.Native.Nat.{ℕ}
 use lib.ListN.{replicate}
 use Rattle.rules.specs.Step.{StateOf}
-use Rattle.rules.specs.Portion.{Lent}
 use Rattle.rules.specs.Calls.{Call, Promised}
 use Rattle.rules.specs.Editions.{edition1}
 use Rattle.events.specs.Whole as events

@@ -260,9 +260,9 @@ fn portion_of(
 ) -> Portioned
     ensures { λ r. ⌜ Portioned-as (kept e (now (work .entry)) (now (store .entry))) (now (events .entry)) (now (answers .entry)) (r .number) (kept (r .engine) (now (work .exit)) (now (store .exit))) (now (answers .exit)) ⌝ }
 {
-    let n = refusal(store.len(), events.len(), work.len(), answers.len());
-    if n != 0 {
-        return refused(e, n);
+    let m = refusal(store.len(), events.len(), work.len(), answers.len());
+    if m != 0 {
+        return refused(e, m);
     }
     if is_state(e, &store[..]) {
         let after = engine::portion(e, store, events, work, answers);
