@@ -34,11 +34,11 @@ extern "C" {
 /* A store: 33 pages. */
 #define NEKAHUIRO_STORE_BYTES 1056
 /* The working buffer. */
-#define NEKAHUIRO_WORK_BYTES 4096
+#define NEKAHUIRO_WORK_BYTES 8192
 /* Transactions live at a time, numbered from 0. */
 #define NEKAHUIRO_TRANSACTIONS 24
 /* The deepest nesting; a top transaction has depth 1. */
-#define NEKAHUIRO_DEPTH_LIMIT 8
+#define NEKAHUIRO_DEPTH_LIMIT 16
 /* An event word. */
 #define NEKAHUIRO_EVENT_BYTES 4
 /* Events in the longest list or portion. */

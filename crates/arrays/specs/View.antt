@@ -7,7 +7,7 @@ use lib.ListN.{getD}
 use Rattle.rules.specs.Store.{Page, pagesOf, home}
 use Rattle.rules.specs.State.{Bearer, Bearers, free, active, lineOf, Mode, nothing, writing, Modes, Versions}
 use Rattle.rules.specs.Versions.{nearest}
-use Rattle.rules.specs.Editions.{geometry1}
+use Rattle.rules.specs.Editions.{geometry1, depths}
 use Rattle.sets.specs.Sets.{sets}
 
 -- by record and transaction: who is in the record's set
@@ -32,7 +32,7 @@ modesOf o r t = modeOf (o r t)
 
 -- the slot of a record at a depth
 unfoldable pub slot : ℕ → ℕ → ℕ
-slot r d = r * 8 + (d - 1)
+slot r d = r * depths + (d - 1)
 
 -- the version of a writer is in the slot at its depth
 unfoldable pub versionsOf : List ℕ → List ℕ → List ℕ → Versions

@@ -9,7 +9,7 @@ use Rattle.laws.specs.Tests.{under}
 use Rattle.laws.specs.Counting.{those}
 use Rattle.rules.specs.Store.{Page, Pages, pagesOf, named}
 use Rattle.rules.specs.Commit.{PageWrite, sets, applied, Cut}
-use Rattle.rules.specs.Editions.{geometry1}
+use Rattle.rules.specs.Editions.{geometry1, depths}
 
 -- Of these page writes the first k happen: the store after them, and what they leave of k.
 pub record Phase (k : ℕ) (ws : List PageWrite) (before after : Pages) (left : ℕ) : Type 0 where
@@ -29,7 +29,7 @@ copies first new r = sets (first + r) (new r)
 
 -- the working buffer's page of a record at depth 1
 unfoldable pub topSlot : List ℕ → ℕ → Page
-topSlot work r = pagesOf work (r * 8)
+topSlot work r = pagesOf work (r * depths)
 
 -- the versions that a top transaction has of the records that a map names
 unfoldable pub versionsIn : ℕ → List ℕ → ℕ → Option Page

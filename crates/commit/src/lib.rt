@@ -6,7 +6,7 @@ ghost use Prim.Native.Nat.{ℕ, _+_, _≤_, _<_};
 ghost use lib.ListN.{length};
 ghost use Rattle.rules.specs.Store.{pagesOf, named, commitPage, readCommit};
 ghost use Rattle.rules.specs.Commit.{sets, commitAt, recoverAt};
-ghost use Rattle.rules.specs.Editions.{geometry1};
+ghost use Rattle.rules.specs.Editions.{geometry1, workBytes};
 ghost use Rattle.commitpage.specs.Heard.{heard};
 ghost use Rattle.commit.specs.Phase.{Phase, Leaves, due, sweep, copies, topSlot, versionsIn};
 
@@ -38,12 +38,12 @@ fn mark(store: &mut [u8], map: u16, left: u8) -> u8
 
 // Record r's version goes to page first + r, if the map names r and anything is left of the count.
 fn write_version(store: &mut [u8], work: &[u8], map: u16, first: usize, r: u8, left: u8) -> u8
-    requires { ⌜ (r < 16) × (first + 16 ≤ 33) × (length (now store) ≡ 1056) × (length (now work) ≡ 4096) ⌝ }
+    requires { ⌜ (r < 16) × (first + 16 ≤ 33) × (length (now store) ≡ 1056) × (length (now work) ≡ workBytes) ⌝ }
     ensures { λ x. ⌜ Phase left (due (named geometry1 map) (copies first (topSlot (now (work .entry)))) r) (pagesOf (now (store .entry))) (pagesOf (now (store .exit))) x ⌝ }
 {
     if commitpage::names(map, r) & (0 < left) {
         let n = r as usize;
-        page::copy_across(store, first + n, work, n * 8);
+        page::copy_across(store, first + n, work, n * page::DEPTHS);
         return left - 1;
     }
     left
@@ -51,7 +51,7 @@ fn write_version(store: &mut [u8], work: &[u8], map: u16, first: usize, r: u8, l
 
 // The versions of the records that the map names go to the pages from `first` on, by rising record.
 fn write_versions(store: &mut [u8], work: &[u8], map: u16, first: usize, left: u8) -> u8
-    requires { ⌜ (first + 16 ≤ 33) × (length (now store) ≡ 1056) × (length (now work) ≡ 4096) ⌝ }
+    requires { ⌜ (first + 16 ≤ 33) × (length (now store) ≡ 1056) × (length (now work) ≡ workBytes) ⌝ }
     ensures { λ x. ⌜ Phase left (sweep (named geometry1 map) (copies first (topSlot (now (work .entry)))) 16) (pagesOf (now (store .entry))) (pagesOf (now (store .exit))) x ⌝ }
 {
     let mut rest = left;
@@ -89,7 +89,7 @@ fn bring_all_home(store: &mut [u8], map: u16, left: u8) -> u8
 // A top transaction that has versions of the records of a map commits: intention pages, the commit page as committed, home pages, the commit page
 // as empty; the first k of these page writes happen.
 pub fn commit_pages(store: &mut [u8], work: &[u8], map: u16, k: u8) -> Made
-    requires { ⌜ (length (now store) ≡ 1056) × (length (now work) ≡ 4096) ⌝ }
+    requires { ⌜ (length (now store) ≡ 1056) × (length (now work) ≡ workBytes) ⌝ }
     ensures { λ r. ⌜ Leaves (commitAt geometry1 (pagesOf (now (store .entry))) (versionsIn map (now (work .entry))) k) (pagesOf (now (store .exit))) (r .made) (r .crashed) ⌝ }
 {
     if map == 0 {

@@ -5,6 +5,7 @@ ghost use Prim.Native.Nat.{ℕ, _+_, _*_, _<_, _≤_};
 ghost use lib.ListN.{length, getD, set};
 ghost use Rattle.rules.specs.Store.{pagesOf};
 ghost use Rattle.rules.specs.State.{down};
+ghost use Rattle.rules.specs.Editions.{workBytes};
 ghost use Rattle.numbers.specs.Named.{transactionOf, recordOf};
 ghost use Rattle.event.specs.Meaning.{meaning, InRange};
 ghost use Rattle.events.specs.Whole.{Arrays, arrays, view, Intact, Stepped, Ready};
@@ -243,7 +244,7 @@ pub fn portion(
 
 // The start: down, and nothing live, held, retained or written. All zeros.
 pub fn start() -> Engine
-    ensures { λ e. ⌜ ((work store : List ℕ) → length work ≡ 4096 → length store ≡ 1056 → Intact (whole e work store) × (view (whole e work store) ≡ down (pagesOf store))) ⌝ }
+    ensures { λ e. ⌜ ((work store : List ℕ) → length work ≡ workBytes → length store ≡ 1056 → Intact (whole e work store) × (view (whole e work store) ≡ down (pagesOf store))) ⌝ }
 {
     Engine {
         line: [0; 24],

@@ -21,7 +21,7 @@ use Rattle.rules.specs.Store.{pagesOf}
 use Rattle.rules.specs.Event.{Event, begin}
 use Rattle.rules.specs.State.{Bearers, active, isActive, depthIn, lineOf, mem, live}
 use Rattle.rules.specs.Step.{firstFree, begun, finished}
-use Rattle.rules.specs.Editions.{edition1}
+use Rattle.rules.specs.Editions.{edition1, depths}
 use Rattle.rules.proofs.Bearers.{begunIn, begun-line}
 use Rattle.rules.proofs.Locks.{rooted-of, version-live}
 use Rattle.sets.specs.Sets.{sets}
@@ -44,12 +44,12 @@ or-swap true false = refl
 or-swap false true = refl
 or-swap false false = refl
 
-module _ (x : Arrays) (I : Intact x) (u : x .up ≡ 1) (p f above : ℕ) (room : getD (x .depth) p 0 < 8) (named : (same p nobody || live (view x) p) ≡ true)
+module _ (x : Arrays) (I : Intact x) (u : x .up ≡ 1) (p f above : ℕ) (room : getD (x .depth) p 0 < depths) (named : (same p nobody || live (view x) p) ≡ true)
     (first : f ≡ lowest 24 (λ u. same (getD (x .depth) u 0) 0)) (aboves : bits above ≡ sets (x .line) p) where
   abbrev b : Bearers
   b = bearersOf (x .parent) (x .depth)
 
-  low : same (depthIn (view x .bearer p)) 8 ≡ false
+  low : same (depthIn (view x .bearer p)) depths ≡ false
   unfolding view
   low = ne-false _ _ (λ e. let k = depth-is (x .parent) (x .depth) p in absurd (omega arith))
 
@@ -158,7 +158,7 @@ free-place f depth e n = let k = lowest-small (lowest-is 24 (λ u. same (getD de
     lowest-small (missing q k) = omega arith
 
 -- a transaction has its place
-pub begin-placed : (x : Arrays) → Intact x → x .up ≡ 1 → (p d f above : ℕ) → d < 8 → d ≡ getD (x .depth) p 0 → (d ≡ 0 → p ≡ 31)
+pub begin-placed : (x : Arrays) → Intact x → x .up ≡ 1 → (p d f above : ℕ) → d < depths → d ≡ getD (x .depth) p 0 → (d ≡ 0 → p ≡ 31)
     → f ≡ lowest 24 (λ u. same (getD (x .depth) u 0) 0) → bits above ≡ sets (x .line) p → f ≢ 24
     → (parent depth line : List ℕ) → parent ≡ set (x .parent) f p → depth ≡ set (x .depth) f (d + 1) → Row f (λ k. bits above k || same k f) (x .line) line
     → Stepped x (some (begin p)) (answer 0 f) (arrays (x .up) parent depth line (x .held) (x .retained) (x .writers) (x .work) (x .store))
@@ -171,7 +171,7 @@ begin-placed x I u p d f above room e h first aboves n parent depth line P D L =
 pub begin-refuses-5 : (x : Arrays) → Intact x → x .up ≡ 1 → (p : ℕ) → p ≢ 31 → getD (x .depth) p 0 ≡ 0 → Stepped x (some (begin p)) (answer 5 0) x
 begin-refuses-5 x I u p n e = unmoved x (some (begin p)) 5 (I .form) (begin-unknown edition1 (view x) p (up-is x u) (ne-false p 31 n) (not-live x p e))
 
-pub begin-refuses-6 : (x : Arrays) → Intact x → x .up ≡ 1 → (p : ℕ) → getD (x .depth) p 0 ≡ 8 → Stepped x (some (begin p)) (answer 6 0) x
+pub begin-refuses-6 : (x : Arrays) → Intact x → x .up ≡ 1 → (p : ℕ) → getD (x .depth) p 0 ≡ depths → Stepped x (some (begin p)) (answer 6 0) x
 unfolding view
 begin-refuses-6 x I u p e =
-    unmoved x (some (begin p)) 6 (I .form) (begin-deep edition1 (view x) p (up-is x u) (named-of x p 8 (sym e) (λ q. absurd (omega arith))) (ap (λ (n : ℕ). same n 8) (depth-is (x .parent) (x .depth) p ∙ e) ∙ same-refl 8))
+    unmoved x (some (begin p)) 6 (I .form) (begin-deep edition1 (view x) p (up-is x u) (named-of x p depths (sym e) (λ q. absurd (omega arith))) (ap (λ (n : ℕ). same n depths) (depth-is (x .parent) (x .depth) p ∙ e) ∙ same-refl depths))

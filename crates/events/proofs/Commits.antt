@@ -20,7 +20,7 @@ use Rattle.rules.specs.Versions.{also, handedUp, dropped}
 use Rattle.rules.specs.Commit.{Cut, commitAt}
 use Rattle.rules.specs.Step.{done, refused, cut, hasChild, ended, passed, concluded, finished, numberOf, valueOf, commitsTop, commitsChild, commits, step}
 use Rattle.rules.specs.Sound.{inLine}
-use Rattle.rules.specs.Editions.{geometry1, edition1}
+use Rattle.rules.specs.Editions.{geometry1, edition1, depths, workBytes}
 use Rattle.rules.proofs.Bearers.{up-one}
 use Rattle.rules.proofs.Acceptance.{CommitOk}
 use Rattle.rules.proofs.Locks.{rooted-of, no-child, versions-in-line, line-apart}
@@ -75,7 +75,7 @@ module _ (x : Arrays) (I : Intact x) (t k : ℕ) (R : Ready x t) (childless : ha
     version-at : (r : ℕ) → Is (under r 16) → cond (sets (x .writers) r t) (some (pagesOf (x .work) (slot r (d t)))) none ≡ versionsIn m (x .work) r
     unfolding versionsIn topSlot slot records
     version-at r (yes′ e) =
-        let s : r * 8 + (d t - 1) ≡ r * 8 = omega arith in
+        let s : r * depths + (d t - 1) ≡ r * depths = omega arith in
         rw e (ap₂ (λ (c : Bool) (n : ℕ). cond c (some (pagesOf (x .work) n)) none)
         (sym (ap (λ (m : ℕ). named geometry1 m r) mapped ∙ named-mapOf geometry1 (λ r. sets (x .writers) r t) r (under-lt r 16 e))) s)
     version-at r (no′ e) =
@@ -158,22 +158,22 @@ module _ (x : Arrays) (I : Intact x) (t k : ℕ) (R : Ready x t) (childless : ha
     abbrev up : ℕ → Page
     up = lifted w t (suc (suc n)) (pagesOf (x .work))
 
-    small : suc (suc n) ≤ 8
+    small : suc (suc n) ≤ depths
     small = let k = shallow x I t in omega arith
 
     hit-up : (r j : ℕ) → d j ≡ suc n → w r t ≡ true → up (slot r (d j)) ≡ pagesOf (x .work) (slot r (suc (suc n)))
     unfolding slot
-    hit-up r j e a = let k = small in hit w t (suc (suc n)) (pagesOf (x .work)) (omega arith) small (r * 8 + (d j - 1)) r (omega arith) (omega arith) a
+    hit-up r j e a = let k = small in hit w t (suc (suc n)) (pagesOf (x .work)) (omega arith) small (r * depths + (d j - 1)) r (omega arith) (omega arith) a
 
     not-up : (r j : ℕ) → w r t ≡ false → up (slot r (d j)) ≡ pagesOf (x .work) (slot r (d j))
     unfolding slot
-    not-up r j a = let k = shallow x I j in let m = small in miss-row w t (suc (suc n)) (pagesOf (x .work)) (omega arith) small (r * 8 + (d j - 1)) r (omega arith) a
+    not-up r j a = let k = shallow x I j in let m = small in miss-row w t (suc (suc n)) (pagesOf (x .work)) (omega arith) small (r * depths + (d j - 1)) r (omega arith) a
 
     not-here : (r j : ℕ) → w r j ≡ true → d j ≢ suc n → up (slot r (d j)) ≡ pagesOf (x .work) (slot r (d j))
     unfolding slot
     not-here r j c e =
         let k = shallow x I j in let h = writer-deep x I r j c in let m = small in
-        miss-depth w t (suc (suc n)) (pagesOf (x .work)) (omega arith) small (r * 8 + (d j - 1)) (λ q. e (omega arith))
+        miss-depth w t (suc (suc n)) (pagesOf (x .work)) (omega arith) small (r * depths + (d j - 1)) (λ q. e (omega arith))
 
     abbrev v : ℕ → ℕ → Option Page
     v = versionsOf (x .depth) (x .writers) (x .work)
@@ -195,7 +195,7 @@ module _ (x : Arrays) (I : Intact x) (t k : ℕ) (R : Ready x t) (childless : ha
         (P : Cleared (λ k. same k t) (x .parent) parent) (D : Cleared (λ k. same k t) (x .depth) depth) (N : Cleared (λ k. same k t) (x .line) line)
         (H : Rows (λ r. heirsOf false (sets (x .held) r) t p) held)
         (M : Rows (λ r. heirsOf (sets (x .held) r t || sets (x .retained) r t) (sets (x .retained) r) t p) retained)
-        (W : Rows (λ r. heirsOf (w r t) (w r) t p) writers) (K : pagesOf work ≡ up) (size : length work ≡ 4096) where
+        (W : Rows (λ r. heirsOf (w r t) (w r) t p) writers) (K : pagesOf work ≡ up) (size : length work ≡ workBytes) where
       versions-up : versionsOf depth writers work ≡ dropped alone (handedUp t p v)
       unfolding versionsOf places cleared
       versions-up = fun-ext (λ j. fun-ext (λ r.

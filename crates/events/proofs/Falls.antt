@@ -20,7 +20,7 @@ use Rattle.rules.specs.Commit.{Cut, recoverAt}
 use Rattle.rules.specs.Form.{Form}
 use Rattle.rules.specs.Step.{done, refused, cut, StateOf, numberOf, valueOf, raised, concluded, recovers, step}
 use Rattle.rules.specs.Sound.{Sound}
-use Rattle.rules.specs.Editions.{geometry1, edition1}
+use Rattle.rules.specs.Editions.{geometry1, edition1, depths, workBytes}
 use Rattle.rules.proofs.Parts.{sound-down}
 use Rattle.rules.proofs.Locks.{no-version}
 use Rattle.sets.specs.Sets.{sets}
@@ -58,7 +58,7 @@ module _ (work store : List ℕ) where
   zeros-down = state-eq (ne-false 0 1 (λ e. omega arith)) bearers-free (ap modesOf (none-in 16)) (ap modesOf (none-in 16))
       (fun-ext (λ j. fun-ext (λ r. ap (λ (f : Owners). cond (f r j) (some (pagesOf work (slot r (getD (z 24) j 0)))) none) (none-in 16)))) refl
 
-  pub zeros-formed : length work ≡ 4096 → length store ≡ 1056 → Formed zeros
+  pub zeros-formed : length work ≡ workBytes → length store ≡ 1056 → Formed zeros
   unfolding lineIn lineOf depthIn chain mem
   zeros-formed w s = record {
     lines = none-in 24 ∙ sym (ap lineIn bearers-free);
@@ -74,7 +74,7 @@ module _ (work store : List ℕ) where
     stores = s;
   }
 
-  pub zeros-intact : length work ≡ 4096 → length store ≡ 1056 → Intact zeros
+  pub zeros-intact : length work ≡ workBytes → length store ≡ 1056 → Intact zeros
   zeros-intact w s = record { sound = subst⁻¹ (Sound edition1) zeros-down (sound-down edition1 (pagesOf store)); form = zeros-formed w s }
 
 -- arrays that are all zeros

@@ -19,7 +19,7 @@ use Rattle.rules.specs.Versions.{isSome, withVersion}
 use Rattle.rules.specs.Step as rules
 use Rattle.rules.specs.Step.{done, refused, StateOf, OutcomeOf, numberOf, valueOf, locked, wrote, finished, visible, step}
 use Rattle.rules.specs.Sound.{Sound}
-use Rattle.rules.specs.Editions.{edition1}
+use Rattle.rules.specs.Editions.{edition1, depths, workBytes}
 use Rattle.rules.proofs.Locks.{rooted-of, owned-of, version-live, line-apart}
 use Rattle.sets.specs.Sets.{sets}
 use Rattle.arrays.specs.View.{Owners, bearersOf, modesOf, slot, versionsOf, seen}
@@ -96,7 +96,7 @@ module _ (x : Arrays) where
   depth-of t = depth-is (x .parent) (x .depth) t
 
 module _ (x : Arrays) (I : Intact x) where
-  pub shallow : (u : ℕ) → getD (x .depth) u 0 ≤ 8
+  pub shallow : (u : ℕ) → getD (x .depth) u 0 ≤ depths
   shallow u = let k = I .sound .shallow u in let e = depth-of x u in omega arith
 
   pub sources : Sources (x .parent) (x .depth)
@@ -192,7 +192,7 @@ module _ (x : Arrays) (I : Intact x) where
     versions-are = fun-ext (λ j. fun-ext (λ q.
         ap₂ (λ (f : Owners) (g : ℕ → Page). cond (f q j) (some (g (slot q (d j)))) none) (W .has) (W .page) ∙ versions-at j q (same? j t) (same? q r) (is? (sets (x .writers) q j))))
 
-  pub write-steps : (t r o v : ℕ) → Ready x t → sets (x .held) r t ≡ true → (writers′ work′ : List ℕ) → length work′ ≡ 4096
+  pub write-steps : (t r o v : ℕ) → Ready x t → sets (x .held) r t ≡ true → (writers′ work′ : List ℕ) → length work′ ≡ workBytes
       → Written (slot r (getD (x .depth) t 0)) t r (set (seen (x .parent) (x .depth) (x .writers) (x .work) (x .store) t r) o v) (x .writers) (x .work) writers′ work′
       → Stepped x (some (write t r o v)) (answer 0 0) (arrays (x .up) (x .parent) (x .depth) (x .line) (x .held) (x .retained) writers′ work′ (x .store))
   unfolding view seen visible wrote

@@ -12,7 +12,7 @@ use Rattle.rules.specs.State.{Bearers, State, lineOf, mem}
 use Rattle.rules.specs.Step as rules
 use Rattle.rules.specs.Step.{Outcome, StateOf, numberOf, valueOf, step}
 use Rattle.rules.specs.Sound.{Sound}
-use Rattle.rules.specs.Editions.{edition1}
+use Rattle.rules.specs.Editions.{edition1, depths, workBytes}
 use Rattle.sets.specs.Sets.{sets}
 use Rattle.arrays.specs.View.{bearersOf, modesOf, versionsOf}
 use Rattle.events.specs.declared.Answer.{Answer}
@@ -59,7 +59,7 @@ pub record Formed (x : Arrays) : Type 0 where
   pub helds : length (x .held) ≡ 16
   pub retaineds : length (x .retained) ≡ 16
   pub writerss : length (x .writers) ≡ 16
-  pub works : length (x .work) ≡ 4096
+  pub works : length (x .work) ≡ workBytes
   pub stores : length (x .store) ≡ 1056
 
 -- what holds between two events

@@ -4,7 +4,7 @@
 //   line            of each transaction: the set of itself and its ancestors; empty where the number is free
 //   held, retained  of each record: the set of transactions that hold or retain its lock
 //   writers         of each record: the set of transactions that have a version of it
-//   work            slot r * 8 + depth - 1 holds the version of record r of the writer at that depth
+//   work            slot r * DEPTHS + depth - 1 holds the version of record r of the writer at that depth
 ghost use mathlib.Core.Path.{_≡_};
 ghost use mathlib.Core.Bool.{false};
 ghost use mathlib.Core.List.{List};
@@ -14,12 +14,15 @@ ghost use lib.ListN.{length, getD, set, replicate};
 ghost use Rattle.laws.specs.Bits.{bits};
 ghost use Rattle.rules.specs.Event.{begin, lock, write, read, commit, abort, crash, recover};
 ghost use Rattle.rules.specs.Step.{hasChild};
+ghost use Rattle.rules.specs.Editions.{depths, workBytes};
 ghost use Rattle.sets.specs.Sets.{sets};
 ghost use Rattle.slots.specs.Parts.{Sources};
 ghost use Rattle.numbers.specs.Named.{transactionOf, recordOf};
 ghost use Rattle.events.specs.Whole.{Arrays, arrays, view, Intact, Stepped, Ready};
 use numbers::RecordNumber;
 use numbers::TransactionNumber;
+
+const DEPTH_LIMIT: u8 = page::DEPTHS as u8;
 
 // An answer's two bytes.
 pub struct Answer {
@@ -67,7 +70,7 @@ pub fn read_event(
     r: RecordNumber,
     o: usize,
 ) -> Answer
-    requires { ⌜ (o < 32) × (length (now work) ≡ 4096) × (length (now store) ≡ 1056) × Sources (now parent) (now depth) ⌝ }
+    requires { ⌜ (o < 32) × (length (now work) ≡ workBytes) × (length (now store) ≡ 1056) × Sources (now parent) (now depth) ⌝ }
     ensures { λ a. ⌜ ((up : ℕ) (line retained : List ℕ) → Intact (arrays up (now (parent .entry)) (now (depth .entry)) line (now (held .entry)) retained (now (writers .entry)) (now (work .entry)) (now (store .entry))) → Ready (arrays up (now (parent .entry)) (now (depth .entry)) line (now (held .entry)) retained (now (writers .entry)) (now (work .entry)) (now (store .entry))) (transactionOf t) → Stepped (arrays up (now (parent .entry)) (now (depth .entry)) line (now (held .entry)) retained (now (writers .entry)) (now (work .entry)) (now (store .entry))) (some (read (transactionOf t) (recordOf r) o)) a (arrays up (now (parent .entry)) (now (depth .entry)) line (now (held .entry)) retained (now (writers .entry)) (now (work .entry)) (now (store .entry)))) ⌝ }
 {
     let n = t.number();
@@ -97,7 +100,7 @@ pub fn write_event(
     o: usize,
     v: u8,
 ) -> Answer
-    requires { ⌜ (o < 32) × (length (now work) ≡ 4096) × (length (now store) ≡ 1056) × (length (now writers) ≡ 16) × (0 < getD (now depth) (transactionOf t) 0) × Sources (now parent) (now depth) ⌝ }
+    requires { ⌜ (o < 32) × (length (now work) ≡ workBytes) × (length (now store) ≡ 1056) × (length (now writers) ≡ 16) × (0 < getD (now depth) (transactionOf t) 0) × Sources (now parent) (now depth) ⌝ }
     ensures { λ a. ⌜ ((up : ℕ) (line retained : List ℕ) → Intact (arrays up (now (parent .entry)) (now (depth .entry)) line (now (held .entry)) retained (now (writers .entry)) (now (work .entry)) (now (store .entry))) → Ready (arrays up (now (parent .entry)) (now (depth .entry)) line (now (held .entry)) retained (now (writers .entry)) (now (work .entry)) (now (store .entry))) (transactionOf t) → Stepped (arrays up (now (parent .entry)) (now (depth .entry)) line (now (held .entry)) retained (now (writers .entry)) (now (work .entry)) (now (store .entry))) (some (write (transactionOf t) (recordOf r) o v)) a (arrays up (now (parent .entry)) (now (depth .entry)) line (now (held .entry)) retained (now (writers .exit)) (now (work .exit)) (now (store .entry)))) ⌝ }
 {
     let n = t.number();
@@ -124,7 +127,7 @@ fn begin_under(
     d: u8,
     above: u32,
 ) -> Answer
-    requires { ⌜ (d < 8) × (d ≡ getD (now depth) p 0) × (bits above ≡ sets (now line) p) × ((d ≡ 0) → p ≡ 31) ⌝ }
+    requires { ⌜ (d < depths) × (d ≡ getD (now depth) p 0) × (bits above ≡ sets (now line) p) × ((d ≡ 0) → p ≡ 31) ⌝ }
     ensures { λ a. ⌜ ((up : ℕ) (held retained writers work store : List ℕ) → Intact (arrays up (now (parent .entry)) (now (depth .entry)) (now (line .entry)) held retained writers work store) → up ≡ 1 → Stepped (arrays up (now (parent .entry)) (now (depth .entry)) (now (line .entry)) held retained writers work store) (some (begin p)) a (arrays up (now (parent .exit)) (now (depth .exit)) (now (line .exit)) held retained writers work store)) ⌝ }
 {
     let f = transactions::first_free(depth);
@@ -148,7 +151,7 @@ pub fn begin_event(
     line: &mut [u32; 24],
     p: u8,
 ) -> Answer
-    requires { ⌜ (p < 32) × (length (now depth) ≡ 24) × (length (now line) ≡ 24) × ((k : ℕ) → getD (now depth) k 0 ≤ 8) ⌝ }
+    requires { ⌜ (p < 32) × (length (now depth) ≡ 24) × (length (now line) ≡ 24) × ((k : ℕ) → getD (now depth) k 0 ≤ depths) ⌝ }
     ensures { λ a. ⌜ ((up : ℕ) (held retained writers work store : List ℕ) → Intact (arrays up (now (parent .entry)) (now (depth .entry)) (now (line .entry)) held retained writers work store) → up ≡ 1 → Stepped (arrays up (now (parent .entry)) (now (depth .entry)) (now (line .entry)) held retained writers work store) (some (begin p)) a (arrays up (now (parent .exit)) (now (depth .exit)) (now (line .exit)) held retained writers work store)) ⌝ }
 {
     if p == 31 {
@@ -168,7 +171,7 @@ pub fn begin_event(
             value: 0,
         };
     }
-    if d == 8 {
+    if d == DEPTH_LIMIT {
         return Answer {
             number: 6,
             value: 0,
@@ -232,7 +235,7 @@ fn commit_top(
     t: u8,
     k: u8,
 ) -> Answer
-    requires { ⌜ (t < 24) × (length (now parent) ≡ 24) × (length (now depth) ≡ 24) × (length (now line) ≡ 24) × (length (now held) ≡ 16) × (length (now retained) ≡ 16) × (length (now writers) ≡ 16) × (length (now work) ≡ 4096) × (length (now store) ≡ 1056) ⌝ }
+    requires { ⌜ (t < 24) × (length (now parent) ≡ 24) × (length (now depth) ≡ 24) × (length (now line) ≡ 24) × (length (now held) ≡ 16) × (length (now retained) ≡ 16) × (length (now writers) ≡ 16) × (length (now work) ≡ workBytes) × (length (now store) ≡ 1056) ⌝ }
     ensures { λ a. ⌜ (Intact (arrays (now (up .entry)) (now (parent .entry)) (now (depth .entry)) (now (line .entry)) (now (held .entry)) (now (retained .entry)) (now (writers .entry)) (now (work .entry)) (now (store .entry))) → Ready (arrays (now (up .entry)) (now (parent .entry)) (now (depth .entry)) (now (line .entry)) (now (held .entry)) (now (retained .entry)) (now (writers .entry)) (now (work .entry)) (now (store .entry))) t → hasChild (view (arrays (now (up .entry)) (now (parent .entry)) (now (depth .entry)) (now (line .entry)) (now (held .entry)) (now (retained .entry)) (now (writers .entry)) (now (work .entry)) (now (store .entry)))) t ≡ false → getD (now (depth .entry)) t 0 ≡ 1 → Stepped (arrays (now (up .entry)) (now (parent .entry)) (now (depth .entry)) (now (line .entry)) (now (held .entry)) (now (retained .entry)) (now (writers .entry)) (now (work .entry)) (now (store .entry))) (some (commit t k)) a (arrays (now (up .exit)) (now (parent .exit)) (now (depth .exit)) (now (line .exit)) (now (held .exit)) (now (retained .exit)) (now (writers .exit)) (now (work .entry)) (now (store .exit)))) ⌝ }
 {
     let map = commitpage::map_of(writers, t);
@@ -265,7 +268,7 @@ fn commit_child(
     t: u8,
     d: u8,
 ) -> Answer
-    requires { ⌜ (t < 24) × (length (now parent) ≡ 24) × (length (now depth) ≡ 24) × (length (now line) ≡ 24) × (length (now held) ≡ 16) × (length (now retained) ≡ 16) × (length (now writers) ≡ 16) × (length (now work) ≡ 4096) × (1 < d) × (d ≡ getD (now depth) t 0) × Sources (now parent) (now depth) ⌝ }
+    requires { ⌜ (t < 24) × (length (now parent) ≡ 24) × (length (now depth) ≡ 24) × (length (now line) ≡ 24) × (length (now held) ≡ 16) × (length (now retained) ≡ 16) × (length (now writers) ≡ 16) × (length (now work) ≡ workBytes) × (1 < d) × (d ≡ getD (now depth) t 0) × Sources (now parent) (now depth) ⌝ }
     ensures { λ a. ⌜ ((up : ℕ) (k : ℕ) (store : List ℕ) → Intact (arrays up (now (parent .entry)) (now (depth .entry)) (now (line .entry)) (now (held .entry)) (now (retained .entry)) (now (writers .entry)) (now (work .entry)) store) → Ready (arrays up (now (parent .entry)) (now (depth .entry)) (now (line .entry)) (now (held .entry)) (now (retained .entry)) (now (writers .entry)) (now (work .entry)) store) t → hasChild (view (arrays up (now (parent .entry)) (now (depth .entry)) (now (line .entry)) (now (held .entry)) (now (retained .entry)) (now (writers .entry)) (now (work .entry)) store)) t ≡ false → Stepped (arrays up (now (parent .entry)) (now (depth .entry)) (now (line .entry)) (now (held .entry)) (now (retained .entry)) (now (writers .entry)) (now (work .entry)) store) (some (commit t k)) a (arrays up (now (parent .exit)) (now (depth .exit)) (now (line .exit)) (now (held .exit)) (now (retained .exit)) (now (writers .exit)) (now (work .exit)) store)) ⌝ }
 {
     let p = parent[t as usize];
@@ -292,7 +295,7 @@ pub fn commit_event(
     t: TransactionNumber,
     k: u8,
 ) -> Answer
-    requires { ⌜ (length (now parent) ≡ 24) × (length (now depth) ≡ 24) × (length (now line) ≡ 24) × (length (now held) ≡ 16) × (length (now retained) ≡ 16) × (length (now writers) ≡ 16) × (length (now work) ≡ 4096) × (length (now store) ≡ 1056) × (0 < getD (now depth) (transactionOf t) 0) × Sources (now parent) (now depth) ⌝ }
+    requires { ⌜ (length (now parent) ≡ 24) × (length (now depth) ≡ 24) × (length (now line) ≡ 24) × (length (now held) ≡ 16) × (length (now retained) ≡ 16) × (length (now writers) ≡ 16) × (length (now work) ≡ workBytes) × (length (now store) ≡ 1056) × (0 < getD (now depth) (transactionOf t) 0) × Sources (now parent) (now depth) ⌝ }
     ensures { λ a. ⌜ (Intact (arrays (now (up .entry)) (now (parent .entry)) (now (depth .entry)) (now (line .entry)) (now (held .entry)) (now (retained .entry)) (now (writers .entry)) (now (work .entry)) (now (store .entry))) → Ready (arrays (now (up .entry)) (now (parent .entry)) (now (depth .entry)) (now (line .entry)) (now (held .entry)) (now (retained .entry)) (now (writers .entry)) (now (work .entry)) (now (store .entry))) (transactionOf t) → Stepped (arrays (now (up .entry)) (now (parent .entry)) (now (depth .entry)) (now (line .entry)) (now (held .entry)) (now (retained .entry)) (now (writers .entry)) (now (work .entry)) (now (store .entry))) (some (commit (transactionOf t) k)) a (arrays (now (up .exit)) (now (parent .exit)) (now (depth .exit)) (now (line .exit)) (now (held .exit)) (now (retained .exit)) (now (writers .exit)) (now (work .exit)) (now (store .exit)))) ⌝ }
 {
     let n = t.number();

@@ -18,7 +18,7 @@ use Rattle.rules.specs.Commit.{open-commit}
 use Rattle.rules.specs.Step.{open-step}
 use Rattle.rules.specs.Run.{open-run}
 use Rattle.rules.specs.Portion.{Lent, open-portion}
-use Rattle.rules.specs.Editions.{geometry1, edition1}
+use Rattle.rules.specs.Editions.{geometry1, edition1, workBytes}
 use Rattle.history.specs.History.{nothingYet, survives, open-history}
 use Rattle.history.specs.Demand3.{Along, SameEvent, same-word, other-value, Plays, rowsOf, historyOf, open-demand}
 use Rattle.history.specs.Joined.{rowsJoined, historyJoined, open-joined}
@@ -36,8 +36,8 @@ events v = spelled (
 abbrev store : List ℕ
 store = edition1 .medium .toBytes (edition1 .medium .fresh)
 
-pub example : Along geometry1 (SameEvent geometry1 (survives (historyOf edition1 store (events 0x30988011) (replicate 4096 0) (replicate 32 0)))) nothingYet
-    (rowsOf edition1 store (events 0x30988011) (replicate 4096 0) (replicate 32 0)) (rowsOf edition1 store (events 0x309880EE) (replicate 4096 0) (replicate 32 0))
+pub example : Along geometry1 (SameEvent geometry1 (survives (historyOf edition1 store (events 0x30988011) (replicate workBytes 0) (replicate 32 0)))) nothingYet
+    (rowsOf edition1 store (events 0x30988011) (replicate workBytes 0) (replicate 32 0)) (rowsOf edition1 store (events 0x309880EE) (replicate workBytes 0) (replicate 32 0))
 unfolding open-tests open-counting open-functions open-bytes open-geometry open-store open-event open-state open-locks open-versions open-commit open-step open-run open-history open-demand
 example = (
   same-word refl,
@@ -69,13 +69,13 @@ example = (
 )
 
 -- both runs are played
-pub example-plays : Plays edition1 store (events 0x30988011) (replicate 4096 0) (replicate 32 0) × Plays edition1 store (events 0x309880EE) (replicate 4096 0) (replicate 32 0)
+pub example-plays : Plays edition1 store (events 0x30988011) (replicate workBytes 0) (replicate 32 0) × Plays edition1 store (events 0x309880EE) (replicate workBytes 0) (replicate 32 0)
 unfolding open-tests open-counting open-functions open-bytes open-geometry open-store open-event open-state open-locks open-versions open-commit open-step open-run open-demand
 example-plays = (refl, refl)
 
 -- the same of portions: a list in two portions beside another byte written, in one; the transaction is live at the end, so lost
 abbrev lent : List ℕ → Lent
-lent ws = record { events = spelled ws; work = replicate 4096 0; answers = replicate 8 0 }
+lent ws = record { events = spelled ws; work = replicate workBytes 0; answers = replicate 8 0 }
 
 abbrev inTwo : List Lent
 inTwo = lent (0x80003F00 ∷ 0x1F800000 ∷ []) ∷ lent (0x20180000 ∷ 0x30188011 ∷ []) ∷ []

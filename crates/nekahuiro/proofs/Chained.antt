@@ -17,7 +17,7 @@ use Rattle.rules.specs.Run.{eventsIn, runRefusals}
 use Rattle.rules.specs.Sound.{Sound}
 use Rattle.rules.specs.Portion.{Lent, allEvents, allZero, Fits, AllFit, Portion, portionAll, portion, chain, chainFrom, As-whole}
 use Rattle.rules.specs.Calls.{Call, lents, left, Promised, AllPromised}
-use Rattle.rules.specs.Editions.{edition1}
+use Rattle.rules.specs.Editions.{edition1, workBytes}
 use Rattle.rules.proofs.Portions.{first-lacks, Case, plays, refuses, case?, finds-one, lengths-first, lengths-only, unsound-refused, Carried, carried-start, sound-portion, chain-whole}
 use Rattle.rules.proofs.Portions as portions
 use Rattle.rules.proofs.CutLists.{empty-portion, fits-passes, portions-whole-edition1}
@@ -114,7 +114,7 @@ singled-out x c d e P Q = record {
   state = states-same x c d e P Q;
 }
 
-module _ (x : Kept) (c : Call Kept) (W : Proper x) (S : Sound edition1 (view x)) (empty : c .lent .events ≡ []) (long : length (c .lent .work) ≡ 4096) (P : Promise x c) where
+module _ (x : Kept) (c : Call Kept) (W : Proper x) (S : Sound edition1 (view x)) (empty : c .lent .events ≡ []) (long : length (c .lent .work) ≡ workBytes) (P : Promise x c) where
   abbrev none-lent : Lent
   none-lent = record { events = []; work = c .lent .work; answers = c .lent .answers }
 
@@ -155,7 +155,7 @@ unfolding Empty-taken
 empty-taken x c W S e long P = empty-left x c W S e long P
 
 -- zeros are a start
-starts : (work store : List ℕ) → length work ≡ 4096 → length store ≡ 1056 → Starts edition1 view bytes Proper (kept zeros work store)
+starts : (work store : List ℕ) → length work ≡ workBytes → length store ≡ 1056 → Starts edition1 view bytes Proper (kept zeros work store)
 unfolding view pageCount records
 starts work store w s = record { at-start = zeros-down work store; written = record { form = zeros-formed work store w s; bare = refl }; sized = s }
 
@@ -206,7 +206,7 @@ module _ (work store : List ℕ) (cs : List (Call Kept)) (F : FromStart work sto
     fits₁ : Fits edition1 l
     fits₁ = subst (Fits edition1) lent-is fits
 
-    work-long : length (one .lent .work) ≡ 4096
+    work-long : length (one .lent .work) ≡ workBytes
     unfolding open-geometry
     work-long = fits .slots
 

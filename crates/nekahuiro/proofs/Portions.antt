@@ -13,7 +13,7 @@ use Rattle.rules.specs.Step.{firstOf}
 use Rattle.rules.specs.Run.{runRefusals}
 use Rattle.rules.specs.Sound.{Sound}
 use Rattle.rules.specs.Portion.{Finds, Portion, portionAll, portion, wordsIn}
-use Rattle.rules.specs.Editions.{edition1}
+use Rattle.rules.specs.Editions.{edition1, workBytes}
 use Rattle.rules.proofs.Portions.{Case, plays, refuses, case?, lengths-first, unsound-refused, sound-played}
 use Rattle.events.specs.Whole as events
 use Rattle.events.specs.Whole.{Formed, Intact, lineIn}
@@ -49,7 +49,7 @@ module _ (e : Engine) (work store : List ℕ) where
   abbrev pub Sizes : Type 0
   Sizes = Sized (e .parent) (e .depth) (e .line) (e .held) (e .retained) (e .writers) store
 
-  pub intact-of : Sizes → length work ≡ 4096 → Encodes → Intact (whole e work store)
+  pub intact-of : Sizes → length work ≡ workBytes → Encodes → Intact (whole e work store)
   unfolding events.view lineIn
   intact-of Z long N = record {
     sound = N .sound;
@@ -75,7 +75,7 @@ module _ (e : Engine) (work store : List ℕ) where
   pub sizes-of : Formed (whole e work store) → Sizes
   sizes-of F = record { parents = F .parents; depths = F .depths; lines = F .long; helds = F .helds; retaineds = F .retaineds; writerss = F .writerss; stores = F .stores }
 
-  pub state-decided : (a b : Bool) → Sizes → length work ≡ 4096 → Decides a Encodes → Decides b (e .spare ≡ replicate 3 0)
+  pub state-decided : (a b : Bool) → Sizes → length work ≡ workBytes → Decides a Encodes → Decides b (e .spare ≡ replicate 3 0)
       → Decides (a && b) (Intact (whole e work store) × (e .spare ≡ replicate 3 0))
   state-decided a b Z long A B = decides-and (decides-as (intact-of Z long) encoded-of A) B
 

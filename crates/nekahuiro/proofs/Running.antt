@@ -15,7 +15,7 @@ use Rattle.rules.specs.Step.{firstOf, StateOf}
 use Rattle.rules.specs.Store.{pagesOf, flat}
 use Rattle.rules.specs.State.{down}
 use Rattle.rules.specs.Run.{Result, runRefusals, runAll, runBy, run, eventsIn, words, play, answerBytes}
-use Rattle.rules.specs.Editions.{geometry1, edition1}
+use Rattle.rules.specs.Editions.{geometry1, edition1, workBytes}
 use Rattle.rules.proofs.Cuts.{not-lt-under}
 use Rattle.history.specs.Demand3.{Demand-3, Demand-3-holds, Plays}
 use Rattle.history.proofs.Demand3.{demand-3-edition1}
@@ -28,25 +28,25 @@ pub refused-store : (s e w a : ℕ) → s ≢ 1056 → 22 ≡ refusalNumber (len
 unfolding lengthsRefused refusalNumber firstOf
 refused-store s e w a h = rw (ne-false s 1056 h)
 
-pub refused-work : (e w a : ℕ) → w ≢ 4096 → 24 ≡ refusalNumber (lengthsRefused 1056 e w a)
+pub refused-work : (e w a : ℕ) → w ≢ workBytes → 24 ≡ refusalNumber (lengthsRefused 1056 e w a)
 unfolding lengthsRefused refusalNumber firstOf
-refused-work e w a h = rw (same-refl 1056, ne-false w 4096 h)
+refused-work e w a h = rw (same-refl 1056, ne-false w workBytes h)
 
-pub refused-part : (e a : ℕ) → e % 4 ≢ 0 → 20 ≡ refusalNumber (lengthsRefused 1056 e 4096 a)
+pub refused-part : (e a : ℕ) → e % 4 ≢ 0 → 20 ≡ refusalNumber (lengthsRefused 1056 e workBytes a)
 unfolding lengthsRefused refusalNumber firstOf
-refused-part e a h = rw (same-refl 1056, same-refl 4096, ne-false (e % 4) 0 h)
+refused-part e a h = rw (same-refl 1056, same-refl workBytes, ne-false (e % 4) 0 h)
 
-pub refused-long : (e a : ℕ) → e % 4 ≡ 0 → 16384 < e → 20 ≡ refusalNumber (lengthsRefused 1056 e 4096 a)
+pub refused-long : (e a : ℕ) → e % 4 ≡ 0 → 16384 < e → 20 ≡ refusalNumber (lengthsRefused 1056 e workBytes a)
 unfolding lengthsRefused refusalNumber firstOf
-refused-long e a h k = rw (same-refl 1056, same-refl 4096, h, same-refl 0, lt-under 16384 e k)
+refused-long e a h k = rw (same-refl 1056, same-refl workBytes, h, same-refl 0, lt-under 16384 e k)
 
-pub refused-answers : (e a : ℕ) → e % 4 ≡ 0 → e ≤ 16384 → a < e / 4 * 2 → 21 ≡ refusalNumber (lengthsRefused 1056 e 4096 a)
+pub refused-answers : (e a : ℕ) → e % 4 ≡ 0 → e ≤ 16384 → a < e / 4 * 2 → 21 ≡ refusalNumber (lengthsRefused 1056 e workBytes a)
 unfolding lengthsRefused refusalNumber firstOf
-refused-answers e a h k m = rw (same-refl 1056, same-refl 4096, h, same-refl 0, not-lt-under 16384 e k, lt-under a (2 * (e / 4)) (omega (arith, m)))
+refused-answers e a h k m = rw (same-refl 1056, same-refl workBytes, h, same-refl 0, not-lt-under 16384 e k, lt-under a (2 * (e / 4)) (omega (arith, m)))
 
-pub refused-not : (e a : ℕ) → e % 4 ≡ 0 → e ≤ 16384 → e / 4 * 2 ≤ a → 0 ≡ refusalNumber (lengthsRefused 1056 e 4096 a)
+pub refused-not : (e a : ℕ) → e % 4 ≡ 0 → e ≤ 16384 → e / 4 * 2 ≤ a → 0 ≡ refusalNumber (lengthsRefused 1056 e workBytes a)
 unfolding lengthsRefused refusalNumber firstOf
-refused-not e a h k m = rw (same-refl 1056, same-refl 4096, h, same-refl 0, not-lt-under 16384 e k, not-lt-under a (2 * (e / 4)) (omega (arith, m)))
+refused-not e a h k m = rw (same-refl 1056, same-refl workBytes, h, same-refl 0, not-lt-under 16384 e k, not-lt-under a (2 * (e / 4)) (omega (arith, m)))
 
 -- the lengths decide the run's refusal
 pub by-lengths : (store events work answers : List ℕ) → firstOf (runRefusals edition1 store events work answers) ≡ lengthsRefused (length store) (length events) (length work) (length answers)
@@ -57,7 +57,7 @@ by-lengths store events work answers = refl
 pub record Lengths (s e w a : ℕ) : Type 0 where
   pub none-is : lengthsRefused s e w a ≡ none
   pub store : s ≡ 1056
-  pub work : w ≡ 4096
+  pub work : w ≡ workBytes
   pub whole : e % 4 ≡ 0
   pub short : e ≤ 16384
   pub room : e ≤ 2 * a
@@ -78,13 +78,13 @@ pass-all false false false false e = passed refl refl refl refl
 
 pub lengths-of : (s e w a : ℕ) → refusalNumber (lengthsRefused s e w a) ≡ 0 → Lengths s e w a
 unfolding lengthsRefused firstOf tests
-lengths-of s e w a z = go (pass-all (not (same s 1056)) (not (same w 4096)) (not (same (e % 4) 0) || under 16384 e) (under a (2 * (e / 4))) z)
+lengths-of s e w a z = go (pass-all (not (same s 1056)) (not (same w workBytes)) (not (same (e % 4) 0) || under 16384 e) (under a (2 * (e / 4))) z)
   where
-    go : Passed (not (same s 1056)) (not (same w 4096)) (not (same (e % 4) 0) || under 16384 e) (under a (2 * (e / 4))) → Lengths s e w a
+    go : Passed (not (same s 1056)) (not (same w workBytes)) (not (same (e % 4) 0) || under 16384 e) (under a (2 * (e / 4))) → Lengths s e w a
     go (passed p q r t) = record {
       none-is = rw (p, q, r, t);
       store = same-eq s 1056 (not-false _ p);
-      work = same-eq w 4096 (not-false _ q);
+      work = same-eq w workBytes (not-false _ q);
       whole = same-eq (e % 4) 0 (not-false _ (or-false-left _ _ r));
       short = not-under 16384 e (or-false-right (not (same (e % 4) 0)) _ r);
       room = let w : e % 4 ≡ 0 = same-eq (e % 4) 0 (not-false _ (or-false-left _ _ r)) in let m : 2 * (e / 4) ≤ a = not-under a (2 * (e / 4)) t in omega arith;

@@ -9,7 +9,7 @@ use Rattle.rules.specs.Run.{eventsIn, run}
 use Rattle.rules.specs.Sound.{Sound}
 use Rattle.rules.specs.Portion.{allEvents, allZero, AllFit, Fits}
 use Rattle.rules.specs.Calls.{Call, lents, results, left, answersOf, Promised, AllPromised}
-use Rattle.rules.specs.Editions.{edition1}
+use Rattle.rules.specs.Editions.{edition1, workBytes}
 use Rattle.history.specs.Called.{Demand-3-called}
 use Rattle.nekahuiro.specs.Portions.{Kept, kept, view, bytes, Proper, zeros}
 
@@ -34,13 +34,13 @@ pub record Left-alone (x : Kept) (c : Call Kept) : Type 0 where
   pub state : view (c .after) ≡ view x
 
 unfoldable pub Empty-taken : Type 0
-Empty-taken = (x : Kept) (c : Call Kept) → Proper x → Sound edition1 (view x) → c .lent .events ≡ [] → length (c .lent .work) ≡ 4096
+Empty-taken = (x : Kept) (c : Call Kept) → Proper x → Sound edition1 (view x) → c .lent .events ≡ [] → length (c .lent .work) ≡ workBytes
     → Promised edition1 view bytes Proper x c → Left-alone x c
 
 -- calls from all zeros, over a store and a working buffer of the right length
 pub record FromStart (work store : List ℕ) (cs : List (Call Kept)) : Type 0 where
   pub stores : length store ≡ 1056
-  pub works : length work ≡ 4096
+  pub works : length work ≡ workBytes
   pub calls : AllPromised edition1 view bytes Proper (kept zeros work store) cs
 
 -- what holds of them: none is refused with 25, and demand 3 over the joined list

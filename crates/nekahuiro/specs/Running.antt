@@ -9,14 +9,14 @@ use lib.ListN.{length}
 use Rattle.laws.specs.Tests.{same, under}
 use Rattle.rules.specs.Step.{firstOf}
 use Rattle.rules.specs.Run.{Result, run}
-use Rattle.rules.specs.Editions.{edition1}
+use Rattle.rules.specs.Editions.{edition1, workBytes}
 
 -- the refusals before the first event, by the lengths of store, events, working buffer and answer buffer
 unfoldable pub lengthsRefused : ℕ → ℕ → ℕ → ℕ → Option ℕ
 lengthsRefused store events work answers =
     firstOf (
     (22, not (same store 1056)) ∷
-    (24, not (same work 4096)) ∷
+    (24, not (same work workBytes)) ∷
     (20, not (same (events % 4) 0) || under 16384 events) ∷
     (21, under answers (2 * (events / 4))) ∷
     [])

@@ -9,7 +9,7 @@ ghost use Rattle.laws.specs.Bytes.{number as spelled};
 ghost use Rattle.rules.specs.Store.{pagesOf, named, fresh};
 ghost use Rattle.rules.specs.Run.{layFresh};
 ghost use Rattle.rules.specs.Age.{ageOf};
-ghost use Rattle.rules.specs.Editions.{geometry1, edition1};
+ghost use Rattle.rules.specs.Editions.{geometry1, edition1, workBytes};
 ghost use Rattle.numbers.specs.Named.{recordOf};
 ghost use Rattle.history.specs.Demand3.{Demand-3};
 ghost use Rattle.nekahuiro.specs.Ages.{toldAs, ageIn, ageNumber, ageLeft};
@@ -24,7 +24,7 @@ use engine::Engine;
 
 const STORE: usize = 1056;
 
-const WORK: usize = 4096;
+pub const WORK: usize = page::WORK;
 
 // The bytes of the longest list: 4,096 events.
 const EVENTS: usize = 16384;
@@ -211,7 +211,7 @@ fn is_bare(spare: [u8; 3]) -> bool
 // What is lent as a state is one, and sound.
 fn is_state(e: Engine, store: &[u8]) -> bool
     requires { ⌜ length (now store) ≡ 1056 ⌝ }
-    ensures { λ r. ⌜ ((work : List ℕ) → length work ≡ 4096 → Decides r (Intact (whole e work (now (store .entry))) × (e .spare ≡ replicate 3 0))) ⌝ }
+    ensures { λ r. ⌜ ((work : List ℕ) → length work ≡ workBytes → Decides r (Intact (whole e work (now (store .entry))) × (e .spare ≡ replicate 3 0))) ⌝ }
 {
     let parent = e.parent;
     let depth = e.depth;

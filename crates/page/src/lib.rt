@@ -5,6 +5,12 @@ ghost use lib.ListN.{length, take, drop, getD, set};
 ghost use Rattle.laws.specs.Functions.{updated};
 ghost use Rattle.rules.specs.Store.{pagesOf};
 
+// How deep transactions nest: the working buffer has a page for each record at each depth, and a record's pages lie side by side.
+pub const DEPTHS: usize = 16;
+
+// The bytes of the working buffer.
+pub const WORK: usize = 16 * DEPTHS * 32;
+
 // The one page-writing leaf: a page that is lent from the middle of a store takes these bytes. Every page write goes through it.
 pub fn write_page(part: &mut [u8], page: [u8; 32])
     requires { ⌜ length (now part) ≡ 32 ⌝ }
@@ -29,7 +35,7 @@ fn read_page(bytes: &[u8], at: usize) -> [u8; 32]
 
 // Page n becomes `page`, and no other page changes.
 pub fn put_page(bytes: &mut [u8], n: usize, page: [u8; 32])
-    requires { ⌜ (n < 128) × (32 * n + 32 ≤ length (now bytes)) ⌝ }
+    requires { ⌜ (n < 4096) × (32 * n + 32 ≤ length (now bytes)) ⌝ }
     ensures { λ _. ⌜ pagesOf (now (bytes .exit)) ≡ updated n page (pagesOf (now (bytes .entry))) ⌝ }
 {
     let at = 32 * n;
@@ -39,7 +45,7 @@ pub fn put_page(bytes: &mut [u8], n: usize, page: [u8; 32])
 
 // Page n.
 pub fn get_page(bytes: &[u8], n: usize) -> [u8; 32]
-    requires { ⌜ (n < 128) × (32 * n + 32 ≤ length (now bytes)) ⌝ }
+    requires { ⌜ (n < 4096) × (32 * n + 32 ≤ length (now bytes)) ⌝ }
     ensures { λ r. ⌜ r ≡ pagesOf (now (bytes .entry)) n ⌝ }
 {
     read_page(bytes, 32 * n)
@@ -47,7 +53,7 @@ pub fn get_page(bytes: &[u8], n: usize) -> [u8; 32]
 
 // Page `from` is copied to page `to` of the same bytes.
 pub fn copy_page(bytes: &mut [u8], from: usize, to: usize)
-    requires { ⌜ (from < 128) × (to < 128) × (32 * from + 32 ≤ length (now bytes)) × (32 * to + 32 ≤ length (now bytes)) ⌝ }
+    requires { ⌜ (from < 4096) × (to < 4096) × (32 * from + 32 ≤ length (now bytes)) × (32 * to + 32 ≤ length (now bytes)) ⌝ }
     ensures { λ _. ⌜ pagesOf (now (bytes .exit)) ≡ updated to (pagesOf (now (bytes .entry)) from) (pagesOf (now (bytes .entry))) ⌝ }
 {
     let page = get_page(&bytes[..], from);
@@ -56,7 +62,7 @@ pub fn copy_page(bytes: &mut [u8], from: usize, to: usize)
 
 // Page `from` of some bytes is copied to page `to` of others: from the store to the working buffer, or back.
 pub fn copy_across(bytes: &mut [u8], to: usize, source: &[u8], from: usize)
-    requires { ⌜ (to < 128) × (from < 128) × (32 * to + 32 ≤ length (now bytes)) × (32 * from + 32 ≤ length (now source)) ⌝ }
+    requires { ⌜ (to < 4096) × (from < 4096) × (32 * to + 32 ≤ length (now bytes)) × (32 * from + 32 ≤ length (now source)) ⌝ }
     ensures { λ _. ⌜ pagesOf (now (bytes .exit)) ≡ updated to (pagesOf (now (source .entry)) from) (pagesOf (now (bytes .entry))) ⌝ }
 {
     let page = get_page(source, from);
@@ -65,7 +71,7 @@ pub fn copy_across(bytes: &mut [u8], to: usize, source: &[u8], from: usize)
 
 // The byte of page n at an offset.
 pub fn get_byte(bytes: &[u8], n: usize, offset: usize) -> u8
-    requires { ⌜ (n < 128) × (offset < 32) × (32 * n + 32 ≤ length (now bytes)) ⌝ }
+    requires { ⌜ (n < 4096) × (offset < 32) × (32 * n + 32 ≤ length (now bytes)) ⌝ }
     ensures { λ r. ⌜ r ≡ getD (pagesOf (now (bytes .entry)) n) offset 0 ⌝ }
 {
     bytes[32 * n + offset]
@@ -73,7 +79,7 @@ pub fn get_byte(bytes: &[u8], n: usize, offset: usize) -> u8
 
 // The byte of page n at an offset becomes `value`. For versions in the working buffer: the store is written by whole pages.
 pub fn put_byte(bytes: &mut [u8], n: usize, offset: usize, value: u8)
-    requires { ⌜ (n < 128) × (offset < 32) × (32 * n + 32 ≤ length (now bytes)) ⌝ }
+    requires { ⌜ (n < 4096) × (offset < 32) × (32 * n + 32 ≤ length (now bytes)) ⌝ }
     ensures { λ _. ⌜ pagesOf (now (bytes .exit)) ≡ updated n (set (pagesOf (now (bytes .entry)) n) offset value) (pagesOf (now (bytes .entry))) ⌝ }
 {
     bytes[32 * n + offset] = value;

@@ -1,5 +1,5 @@
 -- Trials of portions: document 01's worked list with one event a portion, and rows at the edges of a portion.
-use Prim.Native.Nat.{ℕ, _*_}
+use Prim.Native.Nat.{ℕ, _*_, _-_}
 use mathlib.Core.Bool.{Bool, true, false, _&&_}
 use mathlib.Core.List.{List, [], _∷_, _++_}
 use lib.ListN.{length, take, replicate}
@@ -71,6 +71,6 @@ portionTrials =
     -- a refused portion adds no event, nor does an empty one
     lends (lent recovers 2 ∷ lent (begins ++ (0x1F ∷ [])) 4 ∷ lent begins 1 ∷ lent [] 0 ∷ lent begins 2 ∷ []) (0 ∷ 20 ∷ 21 ∷ 0 ∷ 0 ∷ []) (0 ∷ 0 ∷ 0 ∷ 0 ∷ []) ∷
     -- in the order 22, 24, 20, 21, 25, with nothing touched
-    turned false 1055 5 4095 0 22 ∷ turned false 1056 5 4095 0 24 ∷ turned false 1056 5 4096 0 20 ∷ turned false 1056 8 4096 3 21 ∷
-    turned false 1056 8 4096 4 25 ∷ turned false 1056 0 4096 0 25 ∷
+    turned false 1055 5 (workSize geometry1 - 1) 0 22 ∷ turned false 1056 5 (workSize geometry1 - 1) 0 24 ∷ turned false 1056 5 (workSize geometry1) 0 20 ∷ turned false 1056 8 (workSize geometry1) 3 21 ∷
+    turned false 1056 8 (workSize geometry1) 4 25 ∷ turned false 1056 0 (workSize geometry1) 0 25 ∷
     []

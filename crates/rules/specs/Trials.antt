@@ -207,5 +207,6 @@ trials =
     on (begin 24) 0x0500 ∷ on (begin 30) 0x0500 ∷ on (lock 31 3) 0x0500 ∷ (0x70000001, 0x0100) ∷ (0x90000000, 0x0100) ∷ (0x00000000, 0x0100) ∷
     (0x20000002, 0x0100) ∷ on (recover 63) 0x0300 ∷ []) [] ∷
     -- Refused before the first event, in the order 22, 24, 20, 21, with nothing touched.
-    refuses 1055 5 4095 0 22 ∷ refuses 1056 5 4095 0 24 ∷ refuses 1056 5 4096 0 20 ∷ refuses 1056 16388 4096 8194 20 ∷ refuses 1056 8 4096 3 21 ∷
+    refuses 1055 5 (workSize geometry1 - 1) 0 22 ∷ refuses 1056 5 (workSize geometry1 - 1) 0 24 ∷ refuses 1056 5 (workSize geometry1) 0 20 ∷
+    refuses 1056 16388 (workSize geometry1) 8194 20 ∷ refuses 1056 8 (workSize geometry1) 3 21 ∷
     []

@@ -11,6 +11,7 @@ use Rattle.laws.specs.Bits.{bits}
 use Rattle.rules.specs.Store.{Page}
 use Rattle.rules.specs.State.{parentIn, depthIn, chain, lineOf, Versions}
 use Rattle.rules.specs.Versions.{isSome, else, nearest}
+use Rattle.rules.specs.Editions.{depths}
 use Rattle.rules.proofs.Bearers.{Rooted, up-one}
 use Rattle.arrays.specs.View.{bearersOf}
 use Rattle.arrays.proofs.View.{depth-is, parent-is, deep-below}
@@ -19,7 +20,7 @@ use Rattle.slots.specs.declared.Climb.{Climb}
 
 -- a walk from t after n steps
 pub record Walk (parent depth : List ℕ) (w t : ℕ) (c : Climb) (n : ℕ) : Type 0 where
-  pub going : (c .left + n ≤ 8) ⊎ (bits w (c .at) ≡ true)
+  pub going : (c .left + n ≤ depths) ⊎ (bits w (c .at) ≡ true)
   pub level : getD depth (c .at) 0 ≡ c .left
   pub reads : (ver : Versions) (base : Page) (r : ℕ) → ((j : ℕ) → isSome (ver j r) ≡ bits w j)
       → nearest ver base r (lineOf (bearersOf parent depth) t) ≡ nearest ver base r (chain (bearersOf parent depth) (c .left) (c .at))
@@ -38,7 +39,7 @@ module _ (parent depth : List ℕ) (S : Sources parent depth) (w t : ℕ) where
     reads = λ ver base r h. ap₂ (λ (n j : ℕ). nearest ver base r (chain (bearersOf parent depth) n j)) (depth-is parent depth t ∙ sym f) (sym e);
   }
 
-  pub walk-more : (c d : Climb) (n : ℕ) → Walk parent depth w t c n → n < 8 → Climbing parent w c d → Walk parent depth w t d (n + 1)
+  pub walk-more : (c d : Climb) (n : ℕ) → Walk parent depth w t c n → n < depths → Climbing parent w c d → Walk parent depth w t d (n + 1)
   unfolding nearest chain
   walk-more c d n W b (ended z e) = record {
     going = inl (let k = ap (λ (x : Climb). x .left) e in omega arith);
@@ -63,14 +64,14 @@ module _ (parent depth : List ℕ) (S : Sources parent depth) (w t : ℕ) where
       over : parentIn (bearersOf parent depth (c .at)) ≡ d .at
       over = parent-is parent depth (c .at) (d .left) (W .level ∙ g) ∙ sym e
 
-      go : (c .left + n ≤ 8) ⊎ (bits w (c .at) ≡ true) → d .left + (n + 1) ≤ 8
+      go : (c .left + n ≤ depths) ⊎ (bits w (c .at) ≡ true) → d .left + (n + 1) ≤ depths
       go (inl h) = omega arith
       go (inr h) = absurd (true≢false (sym h ∙ f))
 
-  pub walk-all : (c : Climb) (n : ℕ) → 8 ≤ n → Walk parent depth w t c n → Climbed parent depth w t c
+  pub walk-all : (c : Climb) (n : ℕ) → depths ≤ n → Walk parent depth w t c n → Climbed parent depth w t c
   walk-all c n b W = record { stops = go (W .going); level = W .level; reads = W .reads }
     where
-      go : (c .left + n ≤ 8) ⊎ (bits w (c .at) ≡ true) → (c .left ≡ 0) ⊎ (bits w (c .at) ≡ true)
+      go : (c .left + n ≤ depths) ⊎ (bits w (c .at) ≡ true) → (c .left ≡ 0) ⊎ (bits w (c .at) ≡ true)
       go (inl h) = inl (omega arith)
       go (inr h) = inr h
 

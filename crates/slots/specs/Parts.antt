@@ -13,6 +13,7 @@ use Rattle.rules.specs.Geometry.{transactions, nobody}
 use Rattle.rules.specs.Store.{Page, pagesOf}
 use Rattle.rules.specs.State.{chain, lineOf, Versions}
 use Rattle.rules.specs.Versions.{isSome, nearest}
+use Rattle.rules.specs.Editions.{depths}
 use Rattle.rules.proofs.Bearers.{Rooted}
 use Rattle.sets.specs.Sets.{sets}
 use Rattle.arrays.specs.View.{Owners, bearersOf}
@@ -23,7 +24,7 @@ use Rattle.slots.specs.declared.Climb.{Climb}
 pub record Sources (parent depth : List ℕ) : Type 0 where
   pub tree : Rooted transactions nobody (bearersOf parent depth)
   pub long : length depth ≡ 24
-  pub shallow : (t : ℕ) → getD depth t 0 ≤ 8
+  pub shallow : (t : ℕ) → getD depth t 0 ≤ depths
 
 -- the walk stands still where nobody is left or a member of w stands, else it goes one up
 pub data Climbing (parent : List ℕ) (w : ℕ) (c d : Climb) : Type 0 where
@@ -46,4 +47,4 @@ pub record Written (n t r : ℕ) (p : Page) (writers work writers′ work′ : L
 
 -- the versions of t at depth d, in the slots one up
 unfoldable pub lifted : Owners → ℕ → ℕ → (ℕ → Page) → ℕ → Page
-lifted writers t d slots n = cond (same (n % 8) (d - 2) && writers (n / 8) t) (slots (n / 8 * 8 + (d - 1))) (slots n)
+lifted writers t d slots n = cond (same (n % depths) (d - 2) && writers (n / depths) t) (slots (n / depths * depths + (d - 1))) (slots n)

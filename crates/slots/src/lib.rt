@@ -1,4 +1,4 @@
-// Versions of records in the working buffer: slot r * 8 + d - 1 holds the version of record r of the writer at depth d.
+// Versions of records in the working buffer: slot r * DEPTHS + d - 1 holds the version of record r of the writer at depth d.
 ghost use mathlib.Core.Path.{_≡_};
 ghost use mathlib.Core.Bool.{Bool, true, false, cond};
 ghost use Prim.Native.Nat.{ℕ, _+_, _*_, _-_, _<_, _≤_};
@@ -6,6 +6,7 @@ ghost use lib.ListN.{length, getD, set};
 ghost use Rattle.laws.specs.Functions.{updated};
 ghost use Rattle.laws.specs.Bits.{bits};
 ghost use Rattle.rules.specs.Store.{pagesOf};
+ghost use Rattle.rules.specs.Editions.{depths, slotCount, workBytes};
 ghost use Rattle.sets.specs.Sets.{sets};
 ghost use Rattle.arrays.specs.View.{slot, seen};
 ghost use Rattle.slots.specs.Parts.{Sources, Climbing, Climbed, Written, lifted};
@@ -44,7 +45,7 @@ fn source(parent: &[u8; 24], depth: &[u8; 24], w: u32, t: u8) -> Climb
         at: t,
         left: depth[t as usize],
     };
-    for n in 0..8usize {
+    for n in 0..page::DEPTHS {
         c = one_up(parent, w, c);
     }
     c
@@ -52,10 +53,10 @@ fn source(parent: &[u8; 24], depth: &[u8; 24], w: u32, t: u8) -> Climb
 
 // The slot of record r at depth d.
 fn slot_of(r: usize, d: u8) -> usize
-    requires { ⌜ (r < 16) × (0 < d) × (d ≤ 8) ⌝ }
-    ensures { λ n. ⌜ (n ≡ slot r d) × (n < 128) ⌝ }
+    requires { ⌜ (r < 16) × (0 < d) × (d ≤ depths) ⌝ }
+    ensures { λ n. ⌜ (n ≡ slot r d) × (n < slotCount) ⌝ }
 {
-    r * 8 + ((d - 1) as usize)
+    r * page::DEPTHS + ((d - 1) as usize)
 }
 
 // What t reads of record r at an offset: its own version, else the nearest ancestor's, else the home page.
@@ -69,7 +70,7 @@ pub fn read(
     r: usize,
     o: usize,
 ) -> u8
-    requires { ⌜ (t < 24) × (r < 16) × (o < 32) × (length (now work) ≡ 4096) × (length (now store) ≡ 1056) × Sources (now parent) (now depth) ⌝ }
+    requires { ⌜ (t < 24) × (r < 16) × (o < 32) × (length (now work) ≡ workBytes) × (length (now store) ≡ 1056) × Sources (now parent) (now depth) ⌝ }
     ensures { λ v. ⌜ v ≡ getD (seen (now (parent .entry)) (now (depth .entry)) (now (writers .entry)) (now (work .entry)) (now (store .entry)) t r) o 0 ⌝ }
 {
     let c = source(parent, depth, writers[r], t);
@@ -90,7 +91,7 @@ fn make_version(
     t: u8,
     r: usize,
 )
-    requires { ⌜ (t < 24) × (r < 16) × (length (now work) ≡ 4096) × (length (now store) ≡ 1056) × (length (now writers) ≡ 16) × (0 < getD (now depth) t 0) × Sources (now parent) (now depth) ⌝ }
+    requires { ⌜ (t < 24) × (r < 16) × (length (now work) ≡ workBytes) × (length (now store) ≡ 1056) × (length (now writers) ≡ 16) × (0 < getD (now depth) t 0) × Sources (now parent) (now depth) ⌝ }
     ensures { λ _. ⌜ Written (slot r (getD (now (depth .entry)) t 0)) t r (seen (now (parent .entry)) (now (depth .entry)) (now (writers .entry)) (now (work .entry)) (now (store .entry)) t r) (now (writers .entry)) (now (work .entry)) (now (writers .exit)) (now (work .exit)) ⌝ }
 {
     let w = writers[r];
@@ -120,7 +121,7 @@ pub fn write(
     o: usize,
     v: u8,
 )
-    requires { ⌜ (t < 24) × (r < 16) × (o < 32) × (length (now work) ≡ 4096) × (length (now store) ≡ 1056) × (length (now writers) ≡ 16) × (0 < getD (now depth) t 0) × Sources (now parent) (now depth) ⌝ }
+    requires { ⌜ (t < 24) × (r < 16) × (o < 32) × (length (now work) ≡ workBytes) × (length (now store) ≡ 1056) × (length (now writers) ≡ 16) × (0 < getD (now depth) t 0) × Sources (now parent) (now depth) ⌝ }
     ensures { λ _. ⌜ Written (slot r (getD (now (depth .entry)) t 0)) t r (set (seen (now (parent .entry)) (now (depth .entry)) (now (writers .entry)) (now (work .entry)) (now (store .entry)) t r) o v) (now (writers .entry)) (now (work .entry)) (now (writers .exit)) (now (work .exit)) ⌝ }
 {
     make_version(parent, depth, writers, work, store, t, r);
@@ -129,7 +130,7 @@ pub fn write(
 
 // The version of record r at depth d, if t has one, takes the place of that one up.
 fn lift_row(writers: &[u32; 16], work: &mut [u8], t: u8, d: u8, r: usize)
-    requires { ⌜ (t < 24) × (1 < d) × (d ≤ 8) × (r < 16) × (length (now work) ≡ 4096) ⌝ }
+    requires { ⌜ (t < 24) × (1 < d) × (d ≤ depths) × (r < 16) × (length (now work) ≡ workBytes) ⌝ }
     ensures { λ _. ⌜ pagesOf (now (work .exit)) ≡ cond (sets (now (writers .entry)) r t) (updated (slot r (d - 1)) (pagesOf (now (work .entry)) (slot r d)) (pagesOf (now (work .entry)))) (pagesOf (now (work .entry))) ⌝ }
 {
     if sets::contains(writers[r], t) {
@@ -139,7 +140,7 @@ fn lift_row(writers: &[u32; 16], work: &mut [u8], t: u8, d: u8, r: usize)
 
 // The same for all records.
 pub fn lift(writers: &[u32; 16], work: &mut [u8], t: u8, d: u8)
-    requires { ⌜ (t < 24) × (1 < d) × (d ≤ 8) × (length (now work) ≡ 4096) × (length (now writers) ≡ 16) ⌝ }
+    requires { ⌜ (t < 24) × (1 < d) × (d ≤ depths) × (length (now work) ≡ workBytes) × (length (now writers) ≡ 16) ⌝ }
     ensures { λ _. ⌜ pagesOf (now (work .exit)) ≡ lifted (sets (now (writers .entry))) t d (pagesOf (now (work .entry))) ⌝ }
 {
     for r in 0..16 {

@@ -11,7 +11,7 @@ use Rattle.laws.specs.Tests.{same}
 use Rattle.laws.specs.Counting.{all}
 use Rattle.laws.specs.Bits.{bits}
 use Rattle.rules.specs.Store.{pagesOf, readCommit, isEmptied, emptied}
-use Rattle.rules.specs.Editions.{geometry1}
+use Rattle.rules.specs.Editions.{geometry1, depths}
 use Rattle.sets.specs.Sets.{sets}
 use Rattle.commitpage.specs.Heard.{heard}
 use Rattle.soundness.specs.Decides.{Decides}
@@ -27,7 +27,7 @@ vacant-decided parent line t =
 
 pub seated-decided : (parent depth line : List ℕ) (t d above own low due : ℕ) → d ≡ getD depth t 0 → above ≡ getD depth (getD parent t 0) 0
     → own ≡ getD line t 0 → low ≡ getD line (getD parent t 0) 0 → bits due ≡ (λ u. bits low u || same u t)
-    → Decides ((((same (getD parent t 0) 31 || ltb 0 above) && same d (above + 1)) && leb d 8) && same own due) (Seated parent depth line t)
+    → Decides ((((same (getD parent t 0) 31 || ltb 0 above) && same d (above + 1)) && leb d depths) && same own due) (Seated parent depth line t)
 unfolding sets
 seated-decided parent depth line t d above own low due e f g h k =
     rw (e, f, g)
@@ -37,7 +37,7 @@ seated-decided parent depth line t d above own low due e f g h k =
     (decides-and
     (decides-and
     (decides-and (decides-or (decides-same (getD parent t 0) 31) (decides-less 0 (getD depth (getD parent t 0) 0))) (decides-same (getD depth t 0) (getD depth (getD parent t 0) 0 + 1)))
-    (decides-most (getD depth t 0) 8))
+    (decides-most (getD depth t 0) depths))
     (decides-bits (getD line t 0) due)))
   where
     due-is : bits due ≡ (λ u. bits (getD line (getD parent t 0) 0) u || same u t)

@@ -11,7 +11,7 @@ use Rattle.laws.specs.Tests.{same}
 use Rattle.laws.specs.Bits.{bits}
 use Rattle.rules.specs.State.{Bearers, active, isActive, chain, lineOf, mem, live, open-state}
 use Rattle.rules.specs.Sound.{Sound}
-use Rattle.rules.specs.Editions.{edition1}
+use Rattle.rules.specs.Editions.{edition1, depths}
 use Rattle.rules.proofs.Bearers.{Rooted, parent-line}
 use Rattle.rules.proofs.Locks.{rooted-of}
 use Rattle.sets.specs.Sets.{sets}
@@ -101,7 +101,7 @@ module _ (parent depth line : List ℕ) (long : length depth ≡ 24) (E : (t : �
       go q (inl h) = inl (sym q ∙ h)
       go q (inr h) = inr (active-is parent depth p (rw q at h))
 
-  pub tree-shallow : (t : ℕ) → getD depth t 0 ≤ 8
+  pub tree-shallow : (t : ℕ) → getD depth t 0 ≤ depths
   tree-shallow t = dite (decLt 0 (getD depth t 0)) (λ lt. E t .seated lt .shallow) (λ ge. omega arith)
 
 -- and back

@@ -14,7 +14,7 @@ use Rattle.rules.specs.Geometry.{records}
 use Rattle.rules.specs.Store.{Page, pagesOf}
 use Rattle.rules.specs.State.{isActive, live, holds, retains}
 use Rattle.rules.specs.Sound.{Sound}
-use Rattle.rules.specs.Editions.{edition1}
+use Rattle.rules.specs.Editions.{edition1, depths, workBytes}
 use Rattle.sets.specs.Sets.{sets}
 use Rattle.arrays.specs.View.{bearersOf, slot, versionsOf}
 use Rattle.arrays.proofs.View.{depth-is, deep-is, active-is, idle-is, some-is}
@@ -35,7 +35,7 @@ page-long : (work : List ℕ) (n : ℕ) → 32 * n + 32 ≤ length work → leng
 unfolding pagesOf
 page-long work n h = simp (length-take, length-drop) (omega arith)
 
-slot-low : (r d : ℕ) → r < 16 → 0 < d → d ≤ 8 → 32 * slot r d + 32 ≤ 4096
+slot-low : (r d : ℕ) → r < 16 → 0 < d → d ≤ depths → 32 * slot r d + 32 ≤ workBytes
 unfolding slot
 slot-low r d h k l = omega arith
 
@@ -44,7 +44,7 @@ version-is : (b : Bool) (q p : Page) → cond b (some q) none ≡ some p → (b 
 version-is true q p e = (refl, cc)
 version-is false q p e = let z : _≡_ {A = ℕ} 0 1 = cc in absurd (omega arith)
 
-module _ (up : ℕ) (parent depth line held retained writers work store : List ℕ) (Z : Sized parent depth line held retained writers store) (long : length work ≡ 4096) where
+module _ (up : ℕ) (parent depth line held retained writers work store : List ℕ) (Z : Sized parent depth line held retained writers store) (long : length work ≡ workBytes) where
   -- a transaction that has a version is live
   writer-live : Locked parent depth held retained writers → (r t : ℕ) → sets writers r t ≡ true → 0 < getD depth t 0
   writer-live L r t e =

@@ -5,6 +5,7 @@ ghost use mathlib.Core.List.{List};
 ghost use Prim.Native.Nat.{ℕ, _<_};
 ghost use lib.ListN.{length, getD};
 ghost use Rattle.laws.specs.Bits.{bits};
+ghost use Rattle.rules.specs.Editions.{workBytes};
 ghost use Rattle.rules.specs.Geometry.{transactions};
 ghost use Rattle.sets.specs.Sets.{sets};
 ghost use Rattle.soundness.specs.Decides.{Decides};
@@ -12,7 +13,7 @@ ghost use Rattle.soundness.specs.Clauses.{Vacant, Seated, Entry, Entries
 ghost use Rattle.soundness.specs.Encoded.{Encoded, Sized};
 
 // How deep transactions nest.
-const DEPTH_LIMIT: u32 = 8;
+const DEPTH_LIMIT: u32 = page::DEPTHS as u32;
 
 // The parent of a top transaction.
 const NOBODY: u8 = 31;
@@ -225,7 +226,7 @@ pub fn is_sound(
     store: &[u8],
 ) -> bool
     requires { ⌜ Sized (now parent) (now depth) (now line) (now held) (now retained) (now writers) (now store) ⌝ }
-    ensures { λ r. ⌜ ((work : List ℕ) → length work ≡ 4096 → Decides r (Encoded up (now (parent .entry)) (now (depth .entry)) (now (line .entry)) (now (held .entry)) (now (retained .entry)) (now (writers .entry)) work (now (store .entry)))) ⌝ }
+    ensures { λ r. ⌜ ((work : List ℕ) → length work ≡ workBytes → Decides r (Encoded up (now (parent .entry)) (now (depth .entry)) (now (line .entry)) (now (held .entry)) (now (retained .entry)) (now (writers .entry)) work (now (store .entry)))) ⌝ }
 {
     let tree = is_tree(parent, depth, line);
     let helds = are_sets(held);

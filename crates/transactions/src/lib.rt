@@ -7,6 +7,7 @@ ghost use Rattle.laws.specs.Tests.{same};
 ghost use Rattle.laws.specs.Counting.{any, lowest};
 ghost use Rattle.laws.specs.Bits.{bits};
 ghost use Rattle.rules.specs.Geometry.{transactions};
+ghost use Rattle.rules.specs.Editions.{depths};
 ghost use Rattle.sets.specs.Sets.{sets};
 ghost use Rattle.arrays.specs.Changes.{Row, Cleared};
 
@@ -78,7 +79,7 @@ pub fn place(
     d: u8,
     above: u32,
 )
-    requires { ⌜ (f < 24) × (d ≤ 8) ⌝ }
+    requires { ⌜ (f < 24) × (d ≤ depths) ⌝ }
     ensures { λ _. ⌜ (now (parent .exit) ≡ set (now (parent .entry)) f p) × (now (depth .exit) ≡ set (now (depth .entry)) f d) × Row f (λ k. bits above k || same k f) (now (line .entry)) (now (line .exit)) ⌝ }
 {
     let i = f as usize;

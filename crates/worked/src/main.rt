@@ -110,7 +110,7 @@ fn print_records(store: &[u8]) {
 fn main() {
     let events = EVENTS;
     let mut store = [0u8; 1056];
-    let mut work = [0u8; 4096];
+    let mut work = [0u8; nekahuiro::WORK];
     let mut answers = [0u8; 32];
     nekahuiro::nekahuiro_fresh(&mut store);
     nekahuiro::nekahuiro_run(&mut store, &events, &mut work, &mut answers);

@@ -27,10 +27,10 @@ fn end(transaction: u8, rng: &mut Rng) -> Fields {
     }
 }
 
-/// Three times lock, write, read on one of two records.
-fn work(transaction: u8, rng: &mut Rng, list: &mut Vec<Fields>) {
+/// Three times lock, write, read on one of the records that are this transaction's share.
+fn work(transaction: u8, share: usize, rng: &mut Rng, list: &mut Vec<Fields>) {
     for _ in 0..3 {
-        let record = (usize::from(transaction) * 2 % RECORDS + rng.below(2)) as u8;
+        let record = (usize::from(transaction) * share % RECORDS + rng.below(share)) as u8;
         let named = Fields { transaction, record, ..Fields::default() };
         list.push(Fields { kind: 2, ..named });
         list.push(Fields { kind: 3, offset: rng.below(32) as u8, value: rng.byte(), ..named });
@@ -49,7 +49,7 @@ pub fn deep() -> Vec<u8> {
     while list.len() < EVENTS {
         for depth in 0..DEPTH_LIMIT as u8 {
             list.push(begin(if depth == 0 { NO_PARENT } else { depth - 1 }));
-            work(depth, &mut rng, &mut list);
+            work(depth, RECORDS / DEPTH_LIMIT, &mut rng, &mut list);
         }
         for depth in (0..DEPTH_LIMIT as u8).rev() {
             list.push(end(depth, &mut rng));
@@ -64,7 +64,7 @@ pub fn flat() -> Vec<u8> {
     while list.len() < EVENTS {
         for transaction in 0..8 {
             list.push(begin(NO_PARENT));
-            work(transaction, &mut rng, &mut list);
+            work(transaction, 2, &mut rng, &mut list);
         }
         for transaction in 0..8 {
             list.push(end(transaction, &mut rng));

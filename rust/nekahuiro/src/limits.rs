@@ -13,7 +13,7 @@ pub const TRANSACTIONS: usize = 24;
 /// Numbers that fit the transaction field of an event.
 pub const TRANSACTION_NAMES: usize = 32;
 /// The deepest transaction that can begin; a top transaction has depth 1.
-pub const DEPTH_LIMIT: usize = 8;
+pub const DEPTH_LIMIT: usize = 16;
 /// Bytes of the working buffer.
 pub const WORK_BYTES: usize = RECORDS * DEPTH_LIMIT * PAGE_BYTES;
 /// Bytes of an event word.

@@ -38,7 +38,7 @@ impl Work {
         &mut self.bytes
     }
 
-    /// Where the version of a record by a writer of this depth begins; none unless the depth is 1 to 8.
+    /// Where the version of a record by a writer of this depth begins; none unless the depth is 1 to 16.
     pub fn place(record: Record, depth: u8) -> Option<usize> {
         let level = usize::from(depth).checked_sub(1).filter(|level| *level < DEPTH_LIMIT)?;
         Some((usize::from(record.number()) * DEPTH_LIMIT + level) * PAGE_BYTES)

@@ -13,7 +13,7 @@ pub const TRANSACTIONS: usize = 24;
 /// In begin, the transaction field that names no parent.
 pub const NO_PARENT: u8 = 31;
 /// The deepest transaction that can begin; a top transaction has depth 1.
-pub const DEPTH_LIMIT: u8 = 8;
+pub const DEPTH_LIMIT: u8 = 16;
 /// Bytes of the working buffer.
 pub const WORK_BYTES: usize = RECORDS * DEPTH_LIMIT as usize * PAGE_BYTES;
 /// Bytes of an event word.

@@ -39,7 +39,8 @@ const fn unsound(fault: Fault) -> Result<(), Unsound> {
 }
 
 const ODD: Result<(), Unsound> = Err(Unsound::Struct);
-const DEEP: &str = "begin none, begin 0, begin 1, begin 2, begin 3, begin 4, begin 5, begin 6";
+const DEEP: &str = "begin none, begin 0, begin 1, begin 2, begin 3, begin 4, begin 5, begin 6, \
+    begin 7, begin 8, begin 9, begin 10, begin 11, begin 12, begin 13, begin 14";
 
 /// Events, a change by hand, and what is to be said to the state: each clause is broken, alone where
 /// that can be.
@@ -55,7 +56,7 @@ const ROWS: &[Row] = &[
     (CHAIN, |s| s.depth[2] = 2, unsound(Fault::Depth)),
     (CHAIN, |s| (s.parent[0], s.depth[0]) = (1, 3), unsound(Fault::Depth)),
     (DEEP, |_| (), Ok(())),
-    (DEEP, |s| (s.parent[8], s.depth[8], s.line[8]) = (7, 9, 0x1FF), unsound(Fault::TooDeep)),
+    (DEEP, |s| (s.parent[16], s.depth[16], s.line[16]) = (15, 17, 0x1FFFF), unsound(Fault::TooDeep)),
     (CHAIN, |s| s.held[3] = 1 << 7, unsound(Fault::Holder)),
     (CHAIN, |s| s.held[3] = 1 << 24, unsound(Fault::Holder)),
     (CHAIN, |s| s.retained[3] = 1 << 7, unsound(Fault::Retainer)),

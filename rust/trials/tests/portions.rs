@@ -178,7 +178,7 @@ fn an_empty_portion_changes_nothing() {
 #[test]
 fn wrong_lengths_and_an_unsound_state_are_refused_in_order() {
     let list = [0x80, 0, 0x3F, 0, 0x1F, 0x80, 0, 0];
-    for (store, work) in [(1056, 4096), (1055, 4096), (1056, 4097), (0, 0), (2112, 4096), (1056, 0)] {
+    for (store, work) in [(1056, WORK_BYTES), (1055, WORK_BYTES), (1056, WORK_BYTES + 1), (0, 0), (2112, WORK_BYTES), (1056, 0)] {
         for events in [0, 3, 4, 8] {
             for (answers, sound) in [(0, true), (1, true), (4, true), (0, false), (3, false), (9, false)] {
                 let mut state = State { up: if sound { 0 } else { 2 }, ..State::new() };

@@ -10,6 +10,7 @@ use Rattle.laws.proofs.Updated.{updated-same, updated-self, updated-again}
 use Rattle.laws.specs.Bits.{bits}
 use Rattle.sets.specs.Sets.{sets}
 use Rattle.rules.specs.Store.{pagesOf}
+use Rattle.rules.specs.Editions.{depths, workBytes}
 use Rattle.sets.proofs.Sets.{sets-past}
 use Rattle.arrays.specs.View.{slot, seen}
 use Rattle.arrays.proofs.View.{deep-below}
@@ -27,7 +28,7 @@ use Rattle.slots.proofs.lift_row.Reads as lift-row-reads
 
 abbrev Inv-loop : tie.InvT-loop
 Inv-loop writers work₀ t d r₀ work r =
-    (r ≤ 16) × (length work ≡ 4096) × Swept (pagesOf work) (pagesOf work₀) (lifted (sets writers) t d (pagesOf work₀)) (r * 8)
+    (r ≤ 16) × (length work ≡ workBytes) × Swept (pagesOf work) (pagesOf work₀) (lifted (sets writers) t d (pagesOf work₀)) (r * depths)
 
 abbrev μ-loop : tie.MeasureT-loop
 μ-loop writers work₀ t d r₀ work r = 16 - r

@@ -10,6 +10,7 @@ use Rattle.laws.proofs.Updated.{updated-same, updated-self, updated-again}
 use Rattle.laws.specs.Bits.{bits}
 use Rattle.sets.specs.Sets.{sets}
 use Rattle.rules.specs.Store.{pagesOf}
+use Rattle.rules.specs.Editions.{depths}
 use Rattle.sets.proofs.Sets.{sets-past}
 use Rattle.arrays.specs.View.{slot, seen}
 use Rattle.arrays.proofs.View.{deep-below}
@@ -26,10 +27,10 @@ use Rattle.slots.proofs.source.Lts as lts
 use Rattle.slots.proofs.one_up.Reads as one-up-reads
 
 abbrev Inv-loop : tie.InvT-loop
-Inv-loop parent depth w t c₀ n₀ c n = (n ≤ 8) × Walk parent depth w t c n
+Inv-loop parent depth w t c₀ n₀ c n = (n ≤ depths) × Walk parent depth w t c n
 
 abbrev μ-loop : tie.MeasureT-loop
-μ-loop parent depth w t c₀ n₀ c n = 8 - n
+μ-loop parent depth w t c₀ n₀ c n = depths - n
 
 element-copy-out-t10 : tie.Need-element-copy-out-t10 Inv-loop μ-loop
 element-copy-out-t10 c = search needs
