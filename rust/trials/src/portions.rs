@@ -202,7 +202,7 @@ pub fn any_state(rng: &mut Rng) -> State {
         if rng.percent(15) {
             continue;
         }
-        let live: Vec<usize> = (0..t).filter(|t| (1..nekahuiro::DEPTH_LIMIT as u8).contains(&state.depth[*t])).collect();
+        let live: Vec<usize> = (0..t).filter(|t| (1..nekahuiro::limits::DEPTH_LIMIT as u8).contains(&state.depth[*t])).collect();
         let parent = if rng.percent(75) { rng.pick(&live).copied() } else { None };
         state.parent[t] = parent.map_or(31, |parent| parent as u8);
         state.depth[t] = 1 + parent.map_or(0, |parent| state.depth[parent]);
