@@ -1,6 +1,6 @@
 //! What may be lent as a state, against an independent judge; and how it is played on.
 
-use nekahuiro::limits::{EVENT_BYTES, STATE_BYTES};
+use nekahuiro::limits::{DEPTH_LIMIT, EVENT_BYTES, STATE_BYTES};
 use nekahuiro::{raw, Fields, Record, Refusal, State, Transaction, Work};
 use nekahuiro_lists::stores::{self, Bytes};
 use nekahuiro_lists::Rng;
@@ -211,6 +211,6 @@ fn a_state_tells_who_is_live_and_who_has_what() {
     assert_eq!(numbers(state.retainers(record).collect()), [0]);
     assert_eq!(numbers(state.writers(record).collect()), [0]);
     assert_eq!(work.version(record, 1)[2], 0xA5);
-    assert_eq!((work.version(record, 0), work.version(record, 9)), ([0; 32], [0; 32]));
+    assert_eq!((work.version(record, 0), work.version(record, DEPTH_LIMIT as u8 + 1)), ([0; 32], [0; 32]));
     assert_eq!(State::of(&[0; STATE_BYTES - 1]), Err(Refusal::State));
 }
