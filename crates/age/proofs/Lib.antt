@@ -1,1 +1,2 @@
+-- The arguments about ages.
 pub mod Laws

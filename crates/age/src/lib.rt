@@ -40,6 +40,7 @@ fn judge(age: i64, limit: u32) -> Judged
 }
 
 impl Reading {
+    // A reading of so many minutes.
     pub fn new(minutes: u32) -> Reading
         ensures { λ r. ⌜ r .0 ≡ minutes ⌝ }
     {
@@ -55,6 +56,7 @@ impl Reading {
 }
 
 impl Limit {
+    // A limit of so many minutes.
     pub fn new(minutes: u32) -> Limit
         ensures { λ r. ⌜ r .0 ≡ minutes ⌝ }
     {
@@ -63,12 +65,14 @@ impl Limit {
 }
 
 impl Minutes {
+    // Ahead, live or stale under a limit.
     pub fn judged_by(self, limit: Limit) -> Judged
         ensures { λ r. ⌜ meaning r ≡ judged (self .0) (limit .0) ⌝ }
     {
         judge(self.0, limit.0)
     }
 
+    // The age as a number.
     pub fn value(self) -> i64
         ensures { λ r. ⌜ r ≡ self .0 ⌝ }
     {

@@ -1,3 +1,4 @@
+-- Laws of the arrays and of what they stand for.
 pub mod Sweep
 pub mod Joined
 pub mod Modes

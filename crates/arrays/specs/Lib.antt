@@ -1,2 +1,3 @@
+-- What the arrays stand for, and their changes.
 pub mod View
 pub mod Changes

@@ -1,3 +1,4 @@
+-- The arguments about events in a row.
 pub mod ByKind
 pub mod Numbers
 pub mod Playing

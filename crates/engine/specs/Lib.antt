@@ -1,1 +1,2 @@
+-- What a portion of events does.
 pub mod Portion

@@ -1,3 +1,4 @@
+-- The arguments of this crate.
 pub mod Rules
 pub mod Steps
 pub mod Ends

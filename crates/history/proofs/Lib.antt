@@ -1,3 +1,4 @@
+-- Every argument about what a run tells.
 pub mod Overlay
 pub mod Roots
 pub mod Data

@@ -1,3 +1,4 @@
+-- Laws that several crates cite.
 pub mod Tests
 pub mod Bits
 pub mod Filled

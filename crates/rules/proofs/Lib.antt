@@ -1,3 +1,4 @@
+-- The arguments of this crate.
 pub mod Trials
 pub mod PortionTrials
 pub mod Medium

@@ -1,3 +1,4 @@
+-- Both readings fit 64 bits with a sign, and so does their difference.
 use borrow.Author.Needs.{needs}
 use mathlib.Core.Path.{ap, subst⁻¹, _∙_}
 use lib.IntN.{ℤ, subℕ}

@@ -1,3 +1,4 @@
+-- The two tests are those of the rules.
 use borrow.Author.Needs.{needs}
 use mathlib.Core.Path.{ap, sym, _∙_}
 use lib.IntN.{ℤ}

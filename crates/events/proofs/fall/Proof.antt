@@ -1,3 +1,4 @@
+-- Everything is cleared.
 use mathlib.Core.Path.{refl}
 use Rattle.events.proofs.fall.Statement.{statement}
 use Rattle.events.proofs.fall.Tie as tie

@@ -1,3 +1,4 @@
+-- The version is made, then one byte of it is changed.
 use Rattle.slots.proofs.Seen.{written-byte}
 use mathlib.Core.Path.{_≡_, refl, sym, ap, ap₂, subst, subst⁻¹, _∙_, fun-ext}
 use mathlib.Core.Bool.{Bool, true, false, not, cond, _&&_, _||_}

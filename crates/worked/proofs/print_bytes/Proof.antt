@@ -1,3 +1,4 @@
+-- The loop stays within the bytes.
 use borrow.Author.Needs.{needs}
 use mathlib.Core.Path.{_≡_}
 use Prim.Native.Nat.{_-_, _≤_}

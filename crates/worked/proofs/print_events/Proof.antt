@@ -1,3 +1,4 @@
+-- The loop stays below the sixteen events.
 use borrow.Author.Needs.{needs}
 use Prim.Native.Nat.{_-_, _≤_}
 use Rattle.worked.proofs.print_events.Statement.{statement}

@@ -1,3 +1,4 @@
+-- An age that is kept in the struct is the number that was put in.
 use borrow.Author.Needs.{needs}
 use mathlib.Core.Path.{ap, _∙_}
 use lib.IntN.{ℤ}
