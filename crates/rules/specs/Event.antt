@@ -1,5 +1,5 @@
 -- The event word: its fields, the table of the fields that each kind of event uses, and the event that a word stands for.
-use Prim.Native.Nat.{ℕ, _+_, _*_, _/_, _%_, _^_}
+use Prim.Native.Nat.{ℕ, zero, suc, _+_, _*_, _/_, _%_, _^_}
 use mathlib.Core.Bool.{Bool, true, false, cond, _&&_, _||_}
 use mathlib.Core.List.{List, [], _∷_}
 use mathlib.Core.Option.{Option, none, some}
@@ -7,11 +7,15 @@ use lib.ListN.{getD}
 use Rattle.laws.specs.Tests.{same, under}
 use Rattle.rules.specs.Geometry.{Geometry, records, pageSize}
 
+-- what a lock is asked for: to write, or to read beside others
+pub data Access : Type 0 where
+  toWrite toRead : Access
+
 -- The events. A transaction is named first, then a record.
 pub data Event : Type 0 where
   -- under a parent, or nobody
   begin : ℕ → Event
-  lock : ℕ → ℕ → Event
+  lock : ℕ → ℕ → Access → Event
   -- at an offset, a value
   write : ℕ → ℕ → ℕ → ℕ → Event
   -- at an offset
@@ -75,7 +79,7 @@ unfoldable pub uses : List Uses
 uses =
     noKind ∷  -- 0
     row true true false false false false ∷  -- 1 begin
-    row true true true false false false ∷  -- 2 lock
+    row true true true false false true ∷  -- 2 lock
     row true true true true false true ∷  -- 3 write
     row true true true true false false ∷  -- 4 read
     row true true false false true false ∷  -- 5 commit
@@ -87,7 +91,24 @@ uses =
 unfoldable pub usesOf : ℕ → Uses
 usesOf kind = getD uses kind noKind
 
--- the kind is known, and every field that it does not use is 0
+-- the greatest value that a kind of event takes
+unfoldable pub limits : List ℕ
+limits =
+    0 ∷  -- 0
+    0 ∷  -- 1 begin
+    1 ∷  -- 2 lock
+    255 ∷  -- 3 write
+    0 ∷  -- 4 read
+    0 ∷  -- 5 commit
+    0 ∷  -- 6 abort
+    0 ∷  -- 7 crash
+    0 ∷  -- 8 recover
+    []
+
+unfoldable pub limitOf : ℕ → ℕ
+limitOf kind = getD limits kind 0
+
+-- the kind is known, every field that it does not use is 0, and the value is one that it takes
 unfoldable pub wellFormed : Fields → Bool
 wellFormed f =
     let u = usesOf (f .kind) in
@@ -97,7 +118,17 @@ wellFormed f =
     (u .offset || same (f .offset) 0) &&
     (u .count || same (f .count) 0) &&
     (u .value || same (f .value) 0) &&
-    same (f .spare) 0
+    same (f .spare) 0 &&
+    under (f .value) (suc (limitOf (f .kind)))
+
+-- the value 0 of a lock asks for it to write, 1 to read
+unfoldable pub accessOf : ℕ → Access
+accessOf zero = toWrite
+accessOf (suc n) = toRead
+
+unfoldable pub accessValue : Access → ℕ
+accessValue toWrite = 0
+accessValue toRead = 1
 
 -- the event of a kind, with its fields
 unfoldable pub eventOf : Fields → Option Event
@@ -105,7 +136,7 @@ eventOf f =
     getD (
     none ∷
     some (begin (f .transaction)) ∷
-    some (lock (f .transaction) (f .rec)) ∷
+    some (lock (f .transaction) (f .rec) (accessOf (f .value))) ∷
     some (write (f .transaction) (f .rec) (f .offset) (f .value)) ∷
     some (read (f .transaction) (f .rec) (f .offset)) ∷
     some (commit (f .transaction) (f .count)) ∷
@@ -124,7 +155,7 @@ word g kind transaction rec offset count value =
 
 unfoldable pub encode : Geometry → Event → ℕ
 encode g (begin t) = word g 1 t 0 0 0 0
-encode g (lock t r) = word g 2 t r 0 0 0
+encode g (lock t r a) = word g 2 t r 0 0 (accessValue a)
 encode g (write t r o v) = word g 3 t r o 0 v
 encode g (read t r o) = word g 4 t r o 0 0
 encode g (commit t k) = word g 5 t 0 0 k 0
@@ -135,7 +166,7 @@ encode g (recover k) = word g 8 0 0 0 k 0
 -- an event whose fields a word can hold
 unfoldable pub fits : Geometry → Event → Bool
 fits g (begin t) = under t 32
-fits g (lock t r) = under t 32 && under r (records g)
+fits g (lock t r a) = under t 32 && under r (records g)
 fits g (write t r o v) = under t 32 && under r (records g) && under o pageSize && under v 256
 fits g (read t r o) = under t 32 && under r (records g) && under o pageSize
 fits g (commit t k) = under t 32 && under k (2 ^ g .cutBits)
@@ -145,5 +176,5 @@ fits g (recover k) = under k (2 ^ g .cutBits)
 
 -- opens the definitions of this module: for what is proved by computing
 unfoldable pub open-event : Unit {0}
-unfolding field fields row noKind uses usesOf wellFormed eventOf decode word encode fits
+unfolding field fields row noKind uses usesOf limits limitOf wellFormed accessOf accessValue eventOf decode word encode fits
 open-event = tt

@@ -5,18 +5,35 @@ use mathlib.Core.List.{List}
 use Rattle.laws.specs.Tests.{same}
 use Rattle.laws.specs.Counting.{all}
 use Rattle.rules.specs.Geometry.{transactions}
-use Rattle.rules.specs.State.{Mode, nothing, writing, isLock, stronger, Modes, mem}
+use Rattle.rules.specs.Event.{Access, toWrite, toRead}
+use Rattle.rules.specs.State.{Mode, nothing, reading, writing, isLock, isWriting, stronger, Modes, mem}
 
--- no other transaction holds the lock of r, and every retainer is the asker t or its ancestor (on t's line)
-unfoldable pub grantable : Modes → Modes → List ℕ → ℕ → ℕ → Bool
-grantable held retained line t r =
-    all transactions (λ u. not (isLock (held r u)) || same u t) && all transactions (λ u. not (isLock (retained r u)) || mem u line)
+-- the mode that is asked for
+unfoldable pub modeFor : Access → Mode
+modeFor toWrite = writing
+modeFor toRead = reading
 
--- t holds r; where it held r already nothing changes
-unfoldable pub granted : ℕ → ℕ → Modes → Modes
-granted t r held q j = cond (same q r && same j t) writing (held q j)
+-- what a transaction has of the lock bars another: from writing, in any mode; from reading, in write mode
+unfoldable pub bars : Access → Mode → Bool
+bars toWrite m = isLock m
+bars toRead m = isWriting m
 
--- the parent y retains, besides its own, what its child x held or retained
+-- no other than t holds the lock of r in a mode that bars
+unfoldable pub holdersAllow : Access → Modes → ℕ → ℕ → Bool
+holdersAllow a held t r = all transactions (λ u. not (bars a (held r u)) || same u t)
+
+-- everyone that retains the lock of r in a mode that bars is the asker or its ancestor (on the asker's line)
+unfoldable pub retainersAllow : Access → Modes → List ℕ → ℕ → Bool
+retainersAllow a retained line r = all transactions (λ u. not (bars a (retained r u)) || mem u line)
+
+unfoldable pub grantable : Access → Modes → Modes → List ℕ → ℕ → ℕ → Bool
+grantable a held retained line t r = holdersAllow a held t r && retainersAllow a retained line r
+
+-- t holds r in the mode that is asked for; what it held already stays if that is stronger
+unfoldable pub granted : Access → ℕ → ℕ → Modes → Modes
+granted a t r held q j = cond (same q r && same j t) (stronger (held q j) (modeFor a)) (held q j)
+
+-- the parent y retains what its child x held or retained, or what it retained itself, in the strongest of these modes
 unfoldable pub inherited : ℕ → ℕ → Modes → Modes → Modes
 inherited x y held retained r j = cond (same j y) (stronger (retained r y) (stronger (held r x) (retained r x))) (retained r j)
 
@@ -26,5 +43,5 @@ discarded dead m r j = cond (dead j) nothing (m r j)
 
 -- opens the definitions of this module: for what is proved by computing
 unfoldable pub open-locks : Unit {0}
-unfolding grantable granted inherited discarded
+unfolding modeFor bars holdersAllow retainersAllow grantable granted inherited discarded
 open-locks = tt

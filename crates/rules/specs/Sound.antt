@@ -8,7 +8,7 @@ use Prim.Native.Nat.{ℕ, suc, _<_, _≤_}
 use lib.ListN.{length}
 use Rattle.rules.specs.Geometry.{Geometry, records, transactions, nobody, pageSize}
 use Rattle.rules.specs.Store.{Page}
-use Rattle.rules.specs.State.{Bearer, Bearers, active, depthIn, lineOf, mem, State, live, holds, retains}
+use Rattle.rules.specs.State.{Bearer, Bearers, active, depthIn, lineOf, mem, State, live, holds, retains, holdsWriting, retainsWriting}
 use Rattle.rules.specs.Versions.{isSome}
 use Rattle.rules.specs.Form.{Form, Medium}
 use Rattle.rules.specs.Step.{StateOf}
@@ -28,12 +28,15 @@ pub record Sound (f : Form) (s : StateOf f) : Type 0 where
   -- holders and retainers are live
   pub holder-live : (r t : ℕ) → holds s r t ≡ true → live s t ≡ true
   pub retainer-live : (r t : ℕ) → retains s r t ≡ true → live s t ≡ true
-  -- a lock has one holder; its retainers are on one line, and the holder is at or beneath the last
-  pub one-holder : (r t u : ℕ) → holds s r t ≡ true → holds s r u ≡ true → t ≡ u
-  pub on-one-line : (r t u : ℕ) → retains s r t ≡ true → retains s r u ≡ true → inLine (s .bearer) t u ≡ true
-  pub beneath : (r t u : ℕ) → holds s r t ≡ true → retains s r u ≡ true → mem u (lineOf (s .bearer) t) ≡ true
-  -- who has a version holds or retains the lock; a version is a page of a record
-  pub by-lock : (t r : ℕ) → isSome (s .version t r) ≡ true → (holds s r t || retains s r t) ≡ true
+  -- every retainer is on one line with each write-mode retainer
+  pub on-one-line : (r t u : ℕ) → retainsWriting s r t ≡ true → retains s r u ≡ true → inLine (s .bearer) t u ≡ true
+  -- every holder is at or beneath all write-mode retainers
+  pub beneath : (r t u : ℕ) → holds s r t ≡ true → retainsWriting s r u ≡ true → mem u (lineOf (s .bearer) t) ≡ true
+  -- a write holder is alone, and at or beneath every retainer
+  pub one-holder : (r t u : ℕ) → holdsWriting s r t ≡ true → holds s r u ≡ true → t ≡ u
+  pub beneath-writing : (r t u : ℕ) → holdsWriting s r t ≡ true → retains s r u ≡ true → mem u (lineOf (s .bearer) t) ≡ true
+  -- who has a version holds or retains the lock in write mode; a version is a page of a record
+  pub by-lock : (t r : ℕ) → isSome (s .version t r) ≡ true → (holdsWriting s r t || retainsWriting s r t) ≡ true
   pub ranged : (t r : ℕ) → isSome (s .version t r) ≡ true → r < records (f .geometry)
   pub paged : (t r : ℕ) (p : Page) → s .version t r ≡ some p → length p ≡ pageSize
   -- nothing is live while down; the commit page is empty while up

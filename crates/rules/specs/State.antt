@@ -39,7 +39,7 @@ unfoldable pub mem : ℕ → List ℕ → Bool
 mem a [] = false
 mem a (x ∷ l) = same a x || mem a l
 
--- What a transaction has of a lock. Nothing grants the mode reading yet.
+-- What a transaction has of a lock: nothing, the lock in read mode, or in write mode.
 pub data Mode : Type 0 where
   nothing reading writing : Mode
 
@@ -47,6 +47,11 @@ unfoldable pub isLock : Mode → Bool
 isLock nothing = false
 isLock reading = true
 isLock writing = true
+
+unfoldable pub isWriting : Mode → Bool
+isWriting nothing = false
+isWriting reading = false
+isWriting writing = true
 
 unfoldable pub stronger : Mode → Mode → Mode
 stronger nothing m = m
@@ -76,12 +81,18 @@ module _ {S : Type 0} where
   unfoldable pub live : State S → ℕ → Bool
   live s t = isActive (s .bearer t)
 
-  -- t holds, retains the lock of record r
+  -- t holds, retains the lock of record r, in any mode; in write mode
   unfoldable pub holds : State S → ℕ → ℕ → Bool
   holds s r t = isLock (s .held r t)
 
   unfoldable pub retains : State S → ℕ → ℕ → Bool
   retains s r t = isLock (s .retained r t)
+
+  unfoldable pub holdsWriting : State S → ℕ → ℕ → Bool
+  holdsWriting s r t = isWriting (s .held r t)
+
+  unfoldable pub retainsWriting : State S → ℕ → ℕ → Bool
+  retainsWriting s r t = isWriting (s .retained r t)
 
   -- down, with no transaction, lock or version
   unfoldable pub down : S → State S
@@ -89,5 +100,5 @@ module _ {S : Type 0} where
 
 -- opens the definitions of this module: for what is proved by computing
 unfoldable pub open-state : Unit {0}
-unfolding isActive parentIn depthIn chain lineOf mem isLock stronger live holds retains down
+unfolding isActive parentIn depthIn chain lineOf mem isLock isWriting stronger live holds retains holdsWriting retainsWriting down
 open-state = tt

@@ -9,8 +9,8 @@ use Rattle.laws.specs.Counting.{all, any, lowest}
 use Rattle.laws.specs.Functions.{updated}
 use Rattle.rules.specs.Geometry.{Geometry, transactions, nobody}
 use Rattle.rules.specs.Store.{Page}
-use Rattle.rules.specs.Event.{Event, begin, lock, write, read, commit, abort, crash, recover}
-use Rattle.rules.specs.State.{Bearer, Bearers, free, active, isActive, parentIn, depthIn, lineOf, mem, State, live, holds, down}
+use Rattle.rules.specs.Event.{Event, Access, begin, lock, write, read, commit, abort, crash, recover}
+use Rattle.rules.specs.State.{Bearer, Bearers, free, active, isActive, parentIn, depthIn, lineOf, mem, State, live, holds, holdsWriting, down}
 use Rattle.rules.specs.Locks.{grantable, granted, inherited, discarded}
 use Rattle.rules.specs.Versions.{nearest, withVersion, handedUp, dropped}
 use Rattle.rules.specs.Commit.{Cut}
@@ -62,12 +62,12 @@ module _ {S : Type 0} where
     store = s .store;
   }
 
-  -- t holds the lock of r
-  unfoldable pub locked : State S → ℕ → ℕ → State S
-  locked s t r = record {
+  -- t holds the lock of r as it asked
+  unfoldable pub locked : State S → ℕ → ℕ → Access → State S
+  locked s t r a = record {
     up = s .up;
     bearer = s .bearer;
-    held = granted t r (s .held);
+    held = granted a t r (s .held);
     retained = s .retained;
     version = s .version;
     store = s .store;
@@ -134,9 +134,9 @@ module _ (f : Form) where
   refusals s (begin p) =
       (2, not (s .up)) ∷ (5, not (same p nobody || live s p)) ∷
       (6, same (depthIn (s .bearer p)) (f .geometry .depthLimit)) ∷ (7, all transactions (live s)) ∷ []
-  refusals s (lock t r) =
-      (2, not (s .up)) ∷ (5, not (live s t)) ∷ (8, not (grantable (s .held) (s .retained) (lineOf (s .bearer) t) t r)) ∷ []
-  refusals s (write t r o v) = (2, not (s .up)) ∷ (5, not (live s t)) ∷ (9, not (holds s r t)) ∷ []
+  refusals s (lock t r a) =
+      (2, not (s .up)) ∷ (5, not (live s t)) ∷ (8, not (grantable a (s .held) (s .retained) (lineOf (s .bearer) t) t r)) ∷ []
+  refusals s (write t r o v) = (2, not (s .up)) ∷ (5, not (live s t)) ∷ (9, not (holdsWriting s r t)) ∷ []
   refusals s (read t r o) = (2, not (s .up)) ∷ (5, not (live s t)) ∷ (9, not (holds s r t)) ∷ []
   refusals s (commit t k) = (2, not (s .up)) ∷ (5, not (live s t)) ∷ (10, hasChild s t) ∷ []
   refusals s (abort t) = (2, not (s .up)) ∷ (5, not (live s t)) ∷ []
@@ -166,7 +166,7 @@ module _ (f : Form) where
   -- what an event does that is not refused
   unfoldable pub act : StateOf → Event → OutcomeOf
   act s (begin p) = finished (begun s (firstFree s) p) (firstFree s)
-  act s (lock t r) = finished (locked s t r) 0
+  act s (lock t r a) = finished (locked s t r a) 0
   act s (write t r o v) = finished (wrote s t r (set (visible s t r) o v)) 0
   act s (read t r o) = finished s (getD (visible s t r) o 0)
   act s (commit t k) = commits s t k (lineOf (s .bearer) t)
