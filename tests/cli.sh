@@ -69,7 +69,7 @@ ok "trace of a crash" "transaction 0 survives: the commit page was written" "$ru
 ok "picture" "11 events" "$run" play other hex.txt --picture run.svg
 holds "the picture is SVG" grep -q '</svg>' run.svg
 cp store before
-ok "a dry run" "11 events" "$run" play store hex.txt --dry
+ok "a dry run" "a dry run: the store is left as it was" "$run" play store hex.txt --dry
 same "a dry run leaves the store" store before
 
 # Portions and state files: as one run over the joined lists.
@@ -219,6 +219,8 @@ cp damaged damaged.before
 ok "a damaged store in words" "damaged, it says committed but names no record" "$run" show damaged
 fails "age of a damaged store" 1 "refused 4" "$run" age damaged 3 0 0
 ok "play on a damaged store" "^80003F00 0400$" "$run" play damaged words.txt
+holds "a refused event: where to find why" grep -qx "why an event was refused: --trace tells it" out
+ok "why an event was refused" "recover 63: refused 4: page 0 is damaged" "$run" play damaged words.txt --trace
 same "a damaged store stays" damaged damaged.before
 
 # Files that can't be written: a clear message, nothing lost, nothing left over.
