@@ -63,6 +63,9 @@ ok "play standard input" "^40188000 00A5$" bash -c "'$run' play store - <words.t
 ok "answers to a file" "4 events: 4 done" "$run" play store words.txt --answers answers.bin
 text '\x00\x00\x00\x00\x00\x00\x00\xA5' due.bin
 same "the answers" answers.bin due.bin
+ok "answers to a pipe" "^ 00 00 00 00 00 00 00 a5" bash -c "'$run' play store words.txt --answers /dev/stdout | od -An -tx1"
+ok "answers to a program" "^ 00 a5$" bash -c "'$run' play store words.txt --answers >(tail -c 2 | od -An -tx1 >last) >/dev/null && sleep 1 && cat last"
+ok "a list from a program" "^4 events: 4 done" bash -c "'$run' play store <(cat words.txt)"
 ok "trace" "record 3 held by 0" "$run" play store words.txt --trace
 ok "another store" "a fresh store" "$run" fresh other
 ok "trace of a crash" "transaction 0 survives: the commit page was written" "$run" play other hex.txt --trace --dry
