@@ -5,8 +5,8 @@ use mathlib.Core.Bool.{cond}
 use Rattle.laws.specs.Tests.{same}
 use Rattle.laws.proofs.Tests.{ne-false}
 use Rattle.rules.specs.Store.{fresh, blank}
-use Rattle.nekahuiro.proofs.fresh_page.Statement.{statement}
-use Rattle.nekahuiro.proofs.fresh_page.Tie as tie
+use Rattle.records.proofs.fresh_page.Statement.{statement}
+use Rattle.records.proofs.fresh_page.Tie as tie
 
 commit-page-requires : tie.Need-commit-page-requires
 commit-page-requires c κs = search needs

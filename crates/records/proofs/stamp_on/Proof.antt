@@ -1,11 +1,11 @@
 -- A page begins with its first four bytes.
 use borrow.Author.Needs.{needs}
 use mathlib.Core.Path.{_∙_}
-use Rattle.nekahuiro.proofs.Ages.{stamp-is}
-use Rattle.nekahuiro.proofs.stamp_on.Statement.{statement}
-use Rattle.nekahuiro.proofs.stamp_on.Tie as tie
-use Rattle.nekahuiro.proofs.stamp_on.Reads as reads
-use Rattle.nekahuiro.proofs.stamp_on.Lts as lts
+use Rattle.records.proofs.Ages.{stamp-is}
+use Rattle.records.proofs.stamp_on.Statement.{statement}
+use Rattle.records.proofs.stamp_on.Tie as tie
+use Rattle.records.proofs.stamp_on.Reads as reads
+use Rattle.records.proofs.stamp_on.Lts as lts
 use Rattle.event.proofs.Event.word_at.Reads as word-at-reads
 
 -- src/lib.rt:66:34

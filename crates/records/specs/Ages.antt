@@ -9,8 +9,8 @@ use Rattle.rules.specs.Store.{pagesOf, damaged, settled}
 use Rattle.rules.specs.Age.{Age, ahead, live, stale, refused, judged}
 use Rattle.rules.specs.Editions.{geometry1}
 use Rattle.age.specs.Meaning.{meaning}
-use Rattle.nekahuiro.specs.declared.Told.{Told}
-use Rattle.nekahuiro.specs.declared.Told.the-variants as T
+use Rattle.records.specs.declared.Told.{Told}
+use Rattle.records.specs.declared.Told.the-variants as T
 
 -- the answer as the rules have it
 unfoldable pub toldAs : Told → Age

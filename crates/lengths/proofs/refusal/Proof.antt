@@ -1,9 +1,9 @@
 -- The tests in the order of the refusals.
 use borrow.Author.Needs.{needs}
 use native.Mathlib.Omega.{arith}
-use Rattle.nekahuiro.proofs.Running.{refused-store, refused-work, refused-part, refused-long, refused-answers, refused-not}
-use Rattle.nekahuiro.proofs.refusal.Statement.{statement}
-use Rattle.nekahuiro.proofs.refusal.Tie as tie
+use Rattle.lengths.proofs.Lengths.{refused-store, refused-work, refused-part, refused-long, refused-answers, refused-not}
+use Rattle.lengths.proofs.refusal.Statement.{statement}
+use Rattle.lengths.proofs.refusal.Tie as tie
 
 returns : tie.Need-returns
 returns c = let a = c .before .args in refused-store (a .store) (a .events) (a .work) (a .answers) (c .if1 .taken)

@@ -6,10 +6,10 @@ use native.Mathlib.Omega.{arith}
 use lib.ListN.{length}
 use Rattle.laws.specs.Functions.{updated}
 use Rattle.rules.specs.Store.{Page, pagesOf}
-use Rattle.nekahuiro.specs.Laying.{LaidTo}
-use Rattle.nekahuiro.proofs.Laying.{laid-none, laid-more}
-use Rattle.nekahuiro.proofs.lay.Statement.{statement}
-use Rattle.nekahuiro.proofs.lay.Tie as tie
+use Rattle.records.specs.Laying.{LaidTo}
+use Rattle.records.proofs.Laying.{laid-none, laid-more}
+use Rattle.records.proofs.lay.Statement.{statement}
+use Rattle.records.proofs.lay.Tie as tie
 
 abbrev Inv-loop : tie.InvT-loop
 Inv-loop store₀ n₀ store n = (n ≤ 33) × (length store ≡ 1056) × LaidTo n store

@@ -14,7 +14,7 @@ use Rattle.rules.specs.Form.{Form, Medium}
 use Rattle.rules.specs.Run.{layFresh}
 use Rattle.rules.specs.Editions.{geometry1, edition1}
 use Rattle.rules.proofs.Pages.{flat-pagesOf}
-use Rattle.nekahuiro.specs.Laying.{LaidTo}
+use Rattle.records.specs.Laying.{LaidTo}
 
 pub laid-none : {store : List ℕ} → length store ≡ 1056 → LaidTo 0 store
 laid-none e = record { long = e; laid = λ p h. absurd (omega arith) }

@@ -3,13 +3,13 @@ use borrow.Author.Needs.{needs}
 use mathlib.Core.Path.{ap, sym, _∙_}
 use Prim.Native.Nat.{ℕ}
 use Rattle.laws.proofs.Tests.{ne-false, same-refl}
-use Rattle.nekahuiro.specs.Ages.{toldAs, ageIn}
-use Rattle.nekahuiro.proofs.Ages.{age-short, age-no-record, age-in, named-small, named-none, tag-none}
-use Rattle.nekahuiro.proofs.age_of.Statement.{statement}
-use Rattle.nekahuiro.proofs.age_of.Tie as tie
-use Rattle.nekahuiro.proofs.age_of.Reads as reads
-use Rattle.nekahuiro.proofs.age_of.Lts as lts
-use Rattle.nekahuiro.proofs.age_in.Reads as age-in-reads
+use Rattle.records.specs.Ages.{toldAs, ageIn}
+use Rattle.records.proofs.Ages.{age-short, age-no-record, age-in, named-small, named-none, tag-none}
+use Rattle.records.proofs.age_of.Statement.{statement}
+use Rattle.records.proofs.age_of.Tie as tie
+use Rattle.records.proofs.age_of.Reads as reads
+use Rattle.records.proofs.age_of.Lts as lts
+use Rattle.records.proofs.age_in.Reads as age-in-reads
 use Rattle.numbers.proofs.RecordNumber.checked.Reads as checked-reads
 
 -- src/lib.rt:94:9

@@ -6,10 +6,10 @@ use native.Mathlib.Omega.{arith}
 use Rattle.rules.specs.Store.{named}
 use Rattle.rules.specs.Editions.{geometry1}
 use Rattle.numbers.specs.Named.{recordOf}
-use Rattle.nekahuiro.proofs.settled_page.Statement.{statement}
-use Rattle.nekahuiro.proofs.settled_page.Tie as tie
-use Rattle.nekahuiro.proofs.settled_page.Reads as reads
-use Rattle.nekahuiro.proofs.settled_page.Lts as lts
+use Rattle.records.proofs.settled_page.Statement.{statement}
+use Rattle.records.proofs.settled_page.Tie as tie
+use Rattle.records.proofs.settled_page.Reads as reads
+use Rattle.records.proofs.settled_page.Lts as lts
 use Rattle.commitpage.proofs.names.Reads as names-reads
 use Rattle.numbers.proofs.RecordNumber.index.Reads as index-reads
 use Rattle.numbers.proofs.RecordNumber.number.Reads as number-reads

@@ -26,9 +26,9 @@ use Rattle.commitpage.specs.Heard.{heard}
 use Rattle.commitpage.specs.declared.CommitMap.{CommitMap}
 use Rattle.age.specs.Meaning.{meaning}
 use Rattle.age.specs.declared.Judged.{Judged}
-use Rattle.nekahuiro.specs.Ages.{ageIn, toldAs, ageNumber, ageLeft}
-use Rattle.nekahuiro.specs.declared.Told.{Told}
-use Rattle.nekahuiro.specs.declared.Told.the-variants as T
+use Rattle.records.specs.Ages.{ageIn, toldAs, ageNumber, ageLeft}
+use Rattle.records.specs.declared.Told.{Told}
+use Rattle.records.specs.declared.Told.the-variants as T
 
 pub stamp-is : (bs : List ℕ) (n : ℕ) → number (take 4 (drop (4 * (8 * n)) bs)) ≡ number (take 4 (pagesOf bs n))
 unfolding pagesOf

@@ -3,18 +3,18 @@ use borrow.Author.Needs.{needs}
 use mathlib.Core.Path.{_∙_}
 use Rattle.age.specs.Meaning.{meaning}
 use Rattle.numbers.specs.Named.{recordOf}
-use Rattle.nekahuiro.specs.Ages.{toldAs}
-use Rattle.nekahuiro.proofs.Ages.{told-good, told-bad, record-small}
-use Rattle.nekahuiro.proofs.age_in.Statement.{statement}
-use Rattle.nekahuiro.proofs.age_in.Tie as tie
-use Rattle.nekahuiro.proofs.age_in.Reads as reads
-use Rattle.nekahuiro.proofs.age_in.Lts as lts
+use Rattle.records.specs.Ages.{toldAs}
+use Rattle.records.proofs.Ages.{told-good, told-bad, record-small}
+use Rattle.records.proofs.age_in.Statement.{statement}
+use Rattle.records.proofs.age_in.Tie as tie
+use Rattle.records.proofs.age_in.Reads as reads
+use Rattle.records.proofs.age_in.Lts as lts
 use Rattle.age.proofs.Minutes.judged_by.Reads as judged-by-reads
 use Rattle.age.proofs.Reading.new.Reads as new-reads
 use Rattle.age.proofs.Reading.since.Reads as since-reads
 use Rattle.commitpage.proofs.read_commit.Reads as read-commit-reads
-use Rattle.nekahuiro.proofs.settled_page.Reads as settled-page-reads
-use Rattle.nekahuiro.proofs.stamp_on.Reads as stamp-on-reads
+use Rattle.records.proofs.settled_page.Reads as settled-page-reads
+use Rattle.records.proofs.stamp_on.Reads as stamp-on-reads
 use Rattle.page.proofs.get_page.Reads as get-page-reads
 
 -- src/lib.rt:81:37

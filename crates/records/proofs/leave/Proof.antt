@@ -4,11 +4,11 @@ use mathlib.Core.Path.{refl, _∙_}
 use mir.Syntax.{w64}
 use mir.Facts.{toZ-ofZ}
 use Rattle.age.specs.Meaning.{meaning}
-use Rattle.nekahuiro.specs.Ages.{ageNumber, ageLeft}
-use Rattle.nekahuiro.proofs.leave.Statement.{statement}
-use Rattle.nekahuiro.proofs.leave.Tie as tie
-use Rattle.nekahuiro.proofs.leave.Reads as reads
-use Rattle.nekahuiro.proofs.leave.Lts as lts
+use Rattle.records.specs.Ages.{ageNumber, ageLeft}
+use Rattle.records.proofs.leave.Statement.{statement}
+use Rattle.records.proofs.leave.Tie as tie
+use Rattle.records.proofs.leave.Reads as reads
+use Rattle.records.proofs.leave.Lts as lts
 use Rattle.age.proofs.Minutes.value.Reads as value-reads
 
 -- src/lib.rt:108:27
