@@ -5,12 +5,12 @@ use mathlib.Core.List.{List, [], _∷_, _++_}
 use lib.ListN.{length, take, replicate}
 use Rattle.laws.specs.Tests.{same}
 use Rattle.laws.specs.Bytes.{sameList}
 use Rattle.rules.specs.Geometry.{workSize}
 use Rattle.rules.specs.State.{down}
 use Rattle.rules.specs.Form.{Medium}
 use Rattle.rules.specs.Portion.{Lent, Portion, portion, Chain, chainFrom}
 use Rattle.rules.specs.Editions.{geometry1, edition1}
-use Rattle.rules.specs.Trials.{Line, Trial, plays, refuses, ages, eventsOf, answersOf, allDue, trials}
+use Rattle.trials.specs.Trials.{Line, Trial, plays, refuses, ages, eventsOf, answersOf, allDue, trials}
 
 -- the buffers of a portion: some events, and an answer buffer of some bytes
 abbrev pub lent : List ℕ → ℕ → Lent

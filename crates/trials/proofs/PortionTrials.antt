@@ -4,17 +4,17 @@ use Rattle.laws.specs.Tests.{open-tests}
 use Rattle.laws.specs.Counting.{open-counting}
 use Rattle.laws.specs.Functions.{open-functions}
 use Rattle.laws.specs.Bytes.{open-bytes}
 use Rattle.rules.specs.Geometry.{open-geometry}
 use Rattle.rules.specs.Store.{open-store}
 use Rattle.rules.specs.Event.{open-event}
 use Rattle.rules.specs.State.{open-state}
 use Rattle.rules.specs.Locks.{open-locks}
 use Rattle.rules.specs.Versions.{open-versions}
 use Rattle.rules.specs.Commit.{open-commit}
 use Rattle.rules.specs.Step.{open-step}
 use Rattle.rules.specs.Run.{open-run}
 use Rattle.rules.specs.Portion.{open-portion}
-use Rattle.rules.specs.PortionTrials.{oneByOne, worked, allPass, portionTrials}
+use Rattle.trials.specs.PortionTrials.{oneByOne, worked, allPass, portionTrials}
 
 pub portion-trials-hold : T (allPass portionTrials)
 unfolding open-tests open-counting open-functions open-bytes open-geometry open-store open-event open-state open-locks open-versions open-commit open-step open-run open-portion
