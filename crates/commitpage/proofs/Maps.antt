@@ -5,8 +5,10 @@ use Prim.Native.Nat.{ℕ, zero, suc, _+_, _-_, _*_, _/_, _%_, _^_, _<_}
 use native.Mathlib.Nat.{div-one, div-div-eq-div-mul, pow-suc, mul-comm, lt-of-lt-of-le, le-of-suc-le-suc}
 use native.Mathlib.Numerals.{add-one}
 use native.Mathlib.Omega.{arith}
-use lib.Count.{ones, ones-step}
+use lib.Count.{ones, ones-step, ones-le}
 use lib.Pow.{pow-mono}
+use mir.Syntax.{w8}
+use mir.Val.{Fits}
 use Rattle.laws.specs.Tests.{same}
 use Rattle.laws.specs.Counting.{count}
 use Rattle.laws.proofs.Tests.{Same, is, isnt, same?}
@@ -60,6 +62,9 @@ count-placed (suc n) m h =
 pub count-ones : (m : ℕ) → m < 65536 → ones m ≡ count (records geometry1) (named geometry1 m)
 unfolding named records
 count-ones m h = sym (count-placed 16 m h)
+
+pub ones-fit : (m : ℕ) → m < 65536 → Fits w8 (ones m)
+ones-fit m h = omega (arith, ones-le 16 m (omega arith))
 
 pub names-bit : (m r : ℕ) → r < 16 → same (m / 2 ^ (15 - r) % 2) 1 ≡ named geometry1 m r
 unfolding named records

@@ -23,10 +23,10 @@ use Rattle.engine.specs.declared.Engine.{Engine}
 use Rattle.soundness.specs.Decides.{Decides}
 use Rattle.soundness.specs.Encoded.{Encoded, Sized}
 use Rattle.soundness.proofs.Decides.{decides-as, decides-and, decides-same}
-use Rattle.nekahuiro.specs.Running.{lengthsRefused, refusalNumber}
+use Rattle.lengths.specs.Lengths.{lengthsRefused, refusalNumber}
 use Rattle.nekahuiro.specs.Portions.{Kept, kept, view, Proper, Portioned-as}
 use Rattle.nekahuiro.specs.declared.Portioned.{Portioned}
-use Rattle.nekahuiro.proofs.Running.{by-lengths, lengths-of}
+use Rattle.lengths.proofs.Lengths.{by-lengths, lengths-of}
 
 -- three bytes are zeros
 pub bare-decided : (l : List ℕ) → length l ≡ 3 → Decides ((same (getD l 0 0) 0 && same (getD l 1 0) 0) && same (getD l 2 0) 0) (l ≡ replicate 3 0)

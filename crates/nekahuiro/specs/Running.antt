@@ -1,30 +1,11 @@
 -- The promise of a run: its answer and the content of every buffer lent to it.
 use mathlib.Core.Path.{_≡_}
-use mathlib.Core.Bool.{Bool, not, _||_}
-use mathlib.Core.List.{List, [], _∷_}
+use mathlib.Core.List.{List}
 use mathlib.Core.Logic.{_≢_}
-use mathlib.Core.Option.{Option, none, some}
-use Prim.Native.Nat.{ℕ, _*_, _/_, _%_}
+use Prim.Native.Nat.{ℕ}
 use lib.ListN.{length}
-use Rattle.laws.specs.Tests.{same, under}
-use Rattle.rules.specs.Step.{firstOf}
 use Rattle.rules.specs.Run.{Result, run}
-use Rattle.rules.specs.Editions.{edition1, workBytes}
-
--- the refusals before the first event, by the lengths of store, events, working buffer and answer buffer
-unfoldable pub lengthsRefused : ℕ → ℕ → ℕ → ℕ → Option ℕ
-lengthsRefused store events work answers =
-    firstOf (
-    (22, not (same store 1056)) ∷
-    (24, not (same work workBytes)) ∷
-    (20, not (same (events % 4) 0) || under 16384 events) ∷
-    (21, under answers (2 * (events / 4))) ∷
-    [])
-
--- 0 where nothing is refused
-unfoldable pub refusalNumber : Option ℕ → ℕ
-refusalNumber none = 0
-refusalNumber (some n) = n
+use Rattle.rules.specs.Editions.{edition1}
 
 -- a run with these buffers gave this answer and left these
 pub record Ran (store events work answers : List ℕ) (answer : ℕ) (store′ work′ answers′ : List ℕ) : Type 0 where

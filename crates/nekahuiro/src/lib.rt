@@ -1,75 +1,23 @@
 // The open operations: a run, a portion, a fresh store, the age of a record. Any bytes may come in; each refuses or does what the rules say.
 ghost use mathlib.Core.Path.{_≡_};
-ghost use mathlib.Core.Bool.{Bool, cond};
-ghost use Prim.Native.Nat.{ℕ, _+_, _<_, _≤_};
-ghost use lib.IntN.{ℤ};
+ghost use Prim.Native.Nat.{ℕ};
 ghost use mathlib.Core.List.{List};
-ghost use lib.ListN.{length, take, replicate};
-ghost use Rattle.laws.specs.Bytes.{number as spelled};
-ghost use Rattle.rules.specs.Store.{pagesOf, named, fresh};
+ghost use lib.ListN.{length, replicate};
 ghost use Rattle.rules.specs.Run.{layFresh};
 ghost use Rattle.rules.specs.Age.{ageOf};
-ghost use Rattle.rules.specs.Editions.{geometry1, edition1, workBytes};
-ghost use Rattle.numbers.specs.Named.{recordOf};
+ghost use Rattle.rules.specs.Editions.{edition1, workBytes};
 ghost use Rattle.history.specs.Demand3.{Demand-3};
-ghost use Rattle.nekahuiro.specs.Ages.{toldAs, ageIn, ageNumber, ageLeft};
-ghost use Rattle.nekahuiro.specs.Laying.{LaidTo};
-ghost use Rattle.nekahuiro.specs.Running.{lengthsRefused, refusalNumber, Ran};
+ghost use Rattle.records.specs.Ages.{ageNumber, ageLeft};
+ghost use Rattle.nekahuiro.specs.Running.{Ran};
 ghost use Rattle.nekahuiro.specs.Portions.{Kept, kept, Portioned-as};
 ghost use Rattle.events.specs.Whole.{Intact};
 ghost use Rattle.engine.specs.Portion.{whole};
 ghost use Rattle.soundness.specs.Decides.{Decides};
-ghost use Rattle.age.specs.Meaning.{meaning};
 use engine::Engine;
 
 const STORE: usize = 1056;
 
 pub const WORK: usize = page::WORK;
-
-// The bytes of the longest list: 4,096 events.
-const EVENTS: usize = 16384;
-
-// The refusal before the first event, by the lengths of the buffers; 0 for none.
-fn refusal(store: usize, events: usize, work: usize, answers: usize) -> u8
-    ensures { λ r. ⌜ r ≡ refusalNumber (lengthsRefused store events work answers) ⌝ }
-{
-    if store != STORE {
-        return 22;
-    }
-    if work != WORK {
-        return 24;
-    }
-    if events % 4 != 0 {
-        return 20;
-    }
-    if EVENTS < events {
-        return 20;
-    }
-    if answers < events / 4 * 2 {
-        return 21;
-    }
-    0
-}
-
-// Page n of a fresh store.
-fn fresh_page(n: usize) -> [u8; 32]
-    ensures { λ r. ⌜ r ≡ fresh geometry1 n ⌝ }
-{
-    if n == 0 {
-        return commitpage::commit_page(0);
-    }
-    [0; 32]
-}
-
-// Every page becomes that of a fresh store.
-fn lay(store: &mut [u8])
-    requires { ⌜ length (now store) ≡ 1056 ⌝ }
-    ensures { λ _. ⌜ LaidTo 33 (now (store .exit)) ⌝ }
-{
-    for n in 0..33 {
-        page::put_page(store, n, fresh_page(n));
-    }
-}
 
 // Lays down a fresh store: 0, or 22 where it hasn't the size of a store, and then writes nothing.
 #[no_mangle]
@@ -79,80 +27,8 @@ pub extern "C" fn nekahuiro_fresh(store: &mut [u8]) -> u8
     if store.len() != STORE {
         return 22;
     }
-    lay(store);
+    records::lay(store);
     0
-}
-
-// What telling an age answers: the judgement, or a refusal's number.
-pub enum Told {
-    Judged(age::Judged),
-    Refused(u8),
-}
-
-// The stamp that a page begins with: four bytes, as an event word has.
-fn stamp_on(store: &[u8], n: usize) -> u32
-    requires { ⌜ (n < 33) × (length (now store) ≡ 1056) ⌝ }
-    ensures { λ r. ⌜ r ≡ spelled (take 4 (pagesOf (now (store .entry)) n)) ⌝ }
-{
-    event::Event::word_at(store, 8 * n)
-}
-
-// The page that has the settled value of record r under a commit page with this map.
-fn settled_page(map: u16, r: numbers::RecordNumber) -> usize
-    ensures { λ n. ⌜ (n ≡ cond (named geometry1 map (recordOf r)) (1 + recordOf r) (17 + recordOf r)) × (n < 33) ⌝ }
-{
-    let at = r.index();
-    if commitpage::names(map, r.number()) {
-        return 1 + at;
-    }
-    17 + at
-}
-
-// The age of record r of a store of the right size, unless its commit page is damaged.
-fn age_in(store: &[u8], r: numbers::RecordNumber, clock: age::Reading, limit: age::Limit) -> Told
-    requires { ⌜ length (now store) ≡ 1056 ⌝ }
-    ensures { λ t. ⌜ toldAs t ≡ ageIn (now (store .entry)) (recordOf r) (clock .0) (limit .0) ⌝ }
-{
-    let c = commitpage::read_commit(page::get_page(store, 0));
-    if c.good {
-        let stamp = age::Reading::new(stamp_on(store, settled_page(c.map, r)));
-        return Told::Judged(clock.since(stamp).judged_by(limit));
-    }
-    Told::Refused(4)
-}
-
-// The age of a record: refused with 22, 23 or 4, in this order, or judged.
-pub fn age_of(store: &[u8], number: u8, clock: age::Reading, limit: age::Limit) -> Told
-    ensures { λ t. ⌜ toldAs t ≡ ageOf edition1 (now (store .entry)) number (clock .0) (limit .0) ⌝ }
-{
-    if store.len() != STORE {
-        return Told::Refused(22);
-    }
-    let named = numbers::RecordNumber::checked(number);
-    match named {
-        numbers::RecordNamed::Number(r) => age_in(store, r, clock, limit),
-        numbers::RecordNamed::NoSuchRecord => Told::Refused(23),
-    }
-}
-
-// The judgement's number, with its age left at the given place.
-fn leave(judged: age::Judged, age: &mut i64) -> u8
-    ensures { λ r. ⌜ (r ≡ ageNumber (meaning judged)) × (now (age .exit) ≡ ageLeft (meaning judged) (now (age .entry))) ⌝ }
-{
-    match judged {
-        age::Judged::Live(m) => {
-            *age = m.value();
-            0
-        }
-        age::Judged::Ahead(m) => {
-            *age = m.value();
-            1
-        }
-        age::Judged::Stale(m) => {
-            *age = m.value();
-            2
-        }
-    }
 }
 
 // Tells the age of a record: 0 live, 1 ahead, 2 stale, with the age in minutes left at `age`; or refused with 22, 23 or 4, and `age` stays.
@@ -166,15 +42,15 @@ pub extern "C" fn nekahuiro_age(
 ) -> u8
     ensures { λ r. ⌜ (r ≡ ageNumber (ageOf edition1 (now (store .entry)) number clock limit)) × (now (age .exit) ≡ ageLeft (ageOf edition1 (now (store .entry)) number clock limit) (now (age .entry))) ⌝ }
 {
-    let told = age_of(
+    let told = records::age_of(
         store,
         number,
         age::Reading::new(clock),
         age::Limit::new(limit),
     );
     match told {
-        Told::Judged(j) => leave(j, age),
-        Told::Refused(n) => n,
+        records::Told::Judged(j) => records::leave(j, age),
+        records::Told::Refused(n) => n,
     }
 }
 
@@ -190,7 +66,7 @@ pub extern "C" fn nekahuiro_run(
     ensures { λ r. ⌜ Ran (now (store .entry)) (now (events .entry)) (now (work .entry)) (now (answers .entry)) r (now (store .exit)) (now (work .exit)) (now (answers .exit)) ⌝ }
     ensures { λ r. ⌜ (r ≡ 0 → Demand-3 edition1 (now (store .entry)) (now (events .entry)) (now (work .entry)) (now (answers .entry))) ⌝ }
 {
-    let n = refusal(store.len(), events.len(), work.len(), answers.len());
+    let n = lengths::refusal(store.len(), events.len(), work.len(), answers.len());
     if n != 0 {
         return n;
     }
@@ -260,7 +136,7 @@ fn portion_of(
 ) -> Portioned
     ensures { λ r. ⌜ Portioned-as (kept e (now (work .entry)) (now (store .entry))) (now (events .entry)) (now (answers .entry)) (r .number) (kept (r .engine) (now (work .exit)) (now (store .exit))) (now (answers .exit)) ⌝ }
 {
-    let m = refusal(store.len(), events.len(), work.len(), answers.len());
+    let m = lengths::refusal(store.len(), events.len(), work.len(), answers.len());
     if m != 0 {
         return refused(e, m);
     }

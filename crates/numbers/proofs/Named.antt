@@ -1,8 +1,9 @@
 -- A checked number is the number that was handed in, and there is none exactly where the rules have none.
-use mathlib.Core.Path.{_≡_}
-use mathlib.Core.Bool.{true, false}
-use Prim.Native.Nat.{ℕ}
+use mathlib.Core.Path.{_≡_, sym, ap}
+use mathlib.Core.Bool.{Bool, true, false, cond}
+use Prim.Native.Nat.{ℕ, _<_, _≤_}
 use native.Mathlib.Nat.{min-eq-left, le-of-suc-le-suc}
+use borrow.Author.Tests.{lt-ltb, le-ltb}
 use Rattle.laws.specs.Tests.{under}
 use Rattle.laws.proofs.Tests.{Is, is?, yes′, no′, under-lt}
 use Rattle.rules.specs.Geometry.{transactions, records}
@@ -14,6 +15,23 @@ use Rattle.numbers.specs.declared.TransactionNamed.the-variants as T
 use Rattle.numbers.specs.declared.RecordNumber.{RecordNumber}
 use Rattle.numbers.specs.declared.RecordNamed.{RecordNamed}
 use Rattle.numbers.specs.declared.RecordNamed.the-variants as R
+
+-- below 24 a number is a transaction's, from 24 on it is none's
+pub transaction-below : (n : ℕ) → n < 24 → T.Number (record { 0 = n }) ≡ transactionNamed n
+unfolding transactionNamed under
+transaction-below n h = sym (ap (λ (b : Bool). cond b (T.Number (record { 0 = n })) T.NoSuchTransaction) (lt-ltb n 24 h))
+
+pub transaction-past : (n : ℕ) → 24 ≤ n → T.NoSuchTransaction ≡ transactionNamed n
+unfolding transactionNamed under
+transaction-past n h = sym (ap (λ (b : Bool). cond b (T.Number (record { 0 = n })) T.NoSuchTransaction) (le-ltb n 24 h))
+
+pub record-below : (n : ℕ) → n < 16 → R.Number (record { 0 = n }) ≡ recordNamed n
+unfolding recordNamed under records
+record-below n h = sym (ap (λ (b : Bool). cond b (R.Number (record { 0 = n })) R.NoSuchRecord) (lt-ltb n 16 h))
+
+pub record-past : (n : ℕ) → 16 ≤ n → R.NoSuchRecord ≡ recordNamed n
+unfolding recordNamed under records
+record-past n h = sym (ap (λ (b : Bool). cond b (R.Number (record { 0 = n })) R.NoSuchRecord) (le-ltb n 16 h))
 
 -- a transaction with a name: its number, which is below 24, or none, and the name is 24 or above
 pub data NamedAs (n : ℕ) : TransactionNamed → Type 0 where

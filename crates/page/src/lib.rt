@@ -65,8 +65,8 @@ pub fn copy_across(bytes: &mut [u8], to: usize, source: &[u8], from: usize)
     requires { ⌜ (to < 4096) × (from < 4096) × (32 * to + 32 ≤ length (now bytes)) × (32 * from + 32 ≤ length (now source)) ⌝ }
     ensures { λ _. ⌜ pagesOf (now (bytes .exit)) ≡ updated to (pagesOf (now (source .entry)) from) (pagesOf (now (bytes .entry))) ⌝ }
 {
-    let page = get_page(source, from);
-    put_page(bytes, to, page);
+    let copied = get_page(source, from);
+    put_page(bytes, to, copied);
 }
 
 // The byte of page n at an offset.
@@ -74,7 +74,8 @@ pub fn get_byte(bytes: &[u8], n: usize, offset: usize) -> u8
     requires { ⌜ (n < 4096) × (offset < 32) × (32 * n + 32 ≤ length (now bytes)) ⌝ }
     ensures { λ r. ⌜ r ≡ getD (pagesOf (now (bytes .entry)) n) offset 0 ⌝ }
 {
-    bytes[32 * n + offset]
+    let at = 32 * n + offset;
+    bytes[at]
 }
 
 // The byte of page n at an offset becomes `value`. For versions in the working buffer: the store is written by whole pages.

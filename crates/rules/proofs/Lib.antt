@@ -1,6 +1,4 @@
 -- The arguments of this crate.
-pub mod Trials
-pub mod PortionTrials
 pub mod Medium
 pub mod Tree
 pub mod Bearers
@@ -23,3 +21,4 @@ pub mod AtomicPages
 pub mod Event
 pub mod Durability
 pub mod Fresh
+pub mod Edges

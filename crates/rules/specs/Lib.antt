@@ -14,5 +14,3 @@ pub mod Sound
 pub mod Portion
 pub mod Calls
 pub mod Editions
-pub mod Trials
-pub mod PortionTrials

@@ -11,6 +11,12 @@ use Rattle.age.proofs.difference.Tie as tie
 use Rattle.age.proofs.difference.Reads as reads
 use Rattle.age.proofs.difference.Lts as lts
 
+-- src/lib.rt:23:1
+returns : tie.Need-returns
+returns c =
+    ap (λ (z : ℤ). toZ w64 (ofZ w64 z)) (difference-is (c .fits .clock) (c .fits .stamp))
+    ∙ toZ-ofZ (difference-fits (c .fits .clock) (c .fits .stamp))
+
 -- src/lib.rt:26:6
 cast-result : tie.Need-cast-result
 cast-result c = search needs
@@ -22,12 +28,6 @@ cast-result-2 c = search needs
 -- src/lib.rt:26:5
 sub-result : tie.Need-sub-result
 sub-result c = subst⁻¹ (SFits w64) (difference-is (c .fits .clock) (c .fits .stamp)) (difference-fits (c .fits .clock) (c .fits .stamp))
-
--- src/lib.rt:23:1
-returns : tie.Need-returns
-returns c =
-    ap (λ (z : ℤ). toZ w64 (ofZ w64 z)) (difference-is (c .fits .clock) (c .fits .stamp))
-    ∙ toZ-ofZ (difference-fits (c .fits .clock) (c .fits .stamp))
 
 pub difference-spec : {M : Type 1} → statement M
 difference-spec = tie.close (tie.spec cast-result cast-result-2 sub-result returns)

@@ -3,15 +3,15 @@ use borrow.Author.Needs.{needs}
 use mathlib.Core.Path.{ap₂, _∙_}
 use Rattle.rules.specs.Age.{ageOf}
 use Rattle.rules.specs.Editions.{edition1}
-use Rattle.nekahuiro.proofs.Ages.{answered-judged, answered-refused}
+use Rattle.records.proofs.Ages.{answered-judged, answered-refused}
 use Rattle.nekahuiro.proofs.nekahuiro_age.Statement.{statement}
 use Rattle.nekahuiro.proofs.nekahuiro_age.Tie as tie
 use Rattle.nekahuiro.proofs.nekahuiro_age.Reads as reads
 use Rattle.nekahuiro.proofs.nekahuiro_age.Lts as lts
 use Rattle.age.proofs.Limit.new.Reads as Limit-new-reads
 use Rattle.age.proofs.Reading.new.Reads as Reading-new-reads
-use Rattle.nekahuiro.proofs.age_of.Reads as age-of-reads
-use Rattle.nekahuiro.proofs.leave.Reads as leave-reads
+use Rattle.records.proofs.age_of.Reads as age-of-reads
+use Rattle.records.proofs.leave.Reads as leave-reads
 
 -- src/lib.rt:128:38
 new-requires : tie.Need-new-requires

@@ -2,7 +2,7 @@
 use borrow.Author.Needs.{needs}
 use Rattle.laws.specs.Tests.{same}
 use Rattle.laws.proofs.Tests.{ne-false, same-refl}
-use Rattle.nekahuiro.proofs.Laying.{fresh-refused, fresh-laid}
+use Rattle.records.proofs.Laying.{fresh-refused, fresh-laid}
 use Rattle.nekahuiro.proofs.nekahuiro_fresh.Statement.{statement}
 use Rattle.nekahuiro.proofs.nekahuiro_fresh.Tie as tie
 

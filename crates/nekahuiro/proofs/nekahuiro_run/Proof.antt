@@ -2,14 +2,15 @@
 use borrow.Author.Needs.{needs}
 use mathlib.Core.Path.{_≡_, sym, _∙_}
 use native.Mathlib.Omega.{arith}
-use Rattle.nekahuiro.proofs.Running.{lengths-of, run-refused, run-played, from-start, signed}
+use Rattle.lengths.proofs.Lengths.{lengths-of}
+use Rattle.nekahuiro.proofs.Running.{run-refused, run-played, from-start, signed}
 use Rattle.nekahuiro.proofs.nekahuiro_run.Statement.{statement}
 use Rattle.nekahuiro.proofs.nekahuiro_run.Tie as tie
 use Rattle.nekahuiro.proofs.nekahuiro_run.Reads as reads
 use Rattle.nekahuiro.proofs.nekahuiro_run.Lts as lts
 use Rattle.engine.proofs.portion.Reads as portion-reads
 use Rattle.engine.proofs.start.Reads as start-reads
-use Rattle.nekahuiro.proofs.refusal.Reads as refusal-reads
+use Rattle.lengths.proofs.refusal.Reads as refusal-reads
 
 -- src/lib.rt:185:9
 refusal-requires : tie.Need-refusal-requires

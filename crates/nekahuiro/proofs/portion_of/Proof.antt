@@ -2,7 +2,7 @@
 use borrow.Author.Needs.{needs}
 use mathlib.Core.Path.{_≡_, sym, _∙_}
 use Rattle.nekahuiro.specs.Portions.{kept}
-use Rattle.nekahuiro.proofs.Running.{lengths-of}
+use Rattle.lengths.proofs.Lengths.{lengths-of}
 use Rattle.nekahuiro.proofs.Portions.{refused-as, length-refused, state-refused, state-played}
 use Rattle.nekahuiro.proofs.portion_of.Statement.{statement}
 use Rattle.nekahuiro.proofs.portion_of.Tie as tie
@@ -10,7 +10,7 @@ use Rattle.nekahuiro.proofs.portion_of.Reads as reads
 use Rattle.nekahuiro.proofs.portion_of.Lts as lts
 use Rattle.engine.proofs.portion.Reads as portion-reads
 use Rattle.nekahuiro.proofs.is_state.Reads as is-state-reads
-use Rattle.nekahuiro.proofs.refusal.Reads as refusal-reads
+use Rattle.lengths.proofs.refusal.Reads as refusal-reads
 use Rattle.nekahuiro.proofs.refused.Reads as refused-reads
 
 -- src/lib.rt:254:9

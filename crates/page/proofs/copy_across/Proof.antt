@@ -1,4 +1,9 @@
 -- A page is read, then written.
+use mathlib.Core.Path.{ap, _∙_}
+use mathlib.Core.List.{List}
+use Prim.Native.Nat.{ℕ}
+use Rattle.laws.specs.Functions.{updated}
+use Rattle.rules.specs.Store.{pagesOf}
 use borrow.Author.Needs.{needs}
 use Rattle.page.proofs.copy_across.Statement.{statement}
 use Rattle.page.proofs.copy_across.Tie as tie
@@ -21,7 +26,10 @@ same-length c = search needs
 
 -- src/lib.rt:57:1
 returns : tie.Need-returns
-returns c = cc
+returns c =
+    let a = c .before .before .before .before .before .before .before .args in
+    c .before .before .put-page .ensures
+    ∙ ap (λ (p : List ℕ). updated (a .to) p (pagesOf (a .bytes .now))) (c .before .before .before .before .get-page .ensures)
 
 pub copy-across-spec : {M : Type 1} → statement M
 copy-across-spec = tie.close (tie.spec get-page-requires put-page-requires same-length returns)

@@ -9,12 +9,12 @@ use Rattle.page.proofs.get_byte.Reads as reads
 use Rattle.page.proofs.get_byte.Lts as lts
 
 -- src/lib.rt:71:11
-mul-result : tie.Need-mul-result
-mul-result c = search needs
+mul-at : tie.Need-mul-at
+mul-at c = search needs
 
 -- src/lib.rt:71:11
-add-result : tie.Need-add-result
-add-result c = search needs
+add-at : tie.Need-add-at
+add-at c = search needs
 
 -- src/lib.rt:71:5
 shared-slice-read-result : tie.Need-shared-slice-read-result
@@ -25,4 +25,4 @@ returns : tie.Need-returns
 returns c = sym (byte-of _ _ _ (omega arith))
 
 pub get-byte-spec : {M : Type 1} → statement M
-get-byte-spec = tie.close (tie.spec mul-result add-result shared-slice-read-result returns)
+get-byte-spec = tie.close (tie.spec mul-at add-at shared-slice-read-result returns)

@@ -1,8 +1,6 @@
 -- By the test of the number.
-use borrow.Author.Tests.{lt-ltb, le-ltb}
-use Rattle.laws.specs.Tests.{under}
-use Rattle.rules.specs.Geometry.{records}
-use Rattle.numbers.specs.Named.{recordNamed}
+use native.Mathlib.Omega.{arith}
+use Rattle.numbers.proofs.Named.{record-below, record-past}
 use Rattle.numbers.proofs.RecordNumber.checked.Statement.{statement}
 use Rattle.numbers.proofs.RecordNumber.checked.Tie as tie
 use Rattle.numbers.proofs.RecordNumber.checked.Reads as reads
@@ -10,13 +8,11 @@ use Rattle.numbers.proofs.RecordNumber.checked.Lts as lts
 
 -- src/lib.rt:58:5
 returns : tie.Need-returns
-unfolding recordNamed under records
-returns c = simp (lt-ltb _ _ (c .if1 .taken))
+returns c = record-below (c .before .args .n) (omega arith)
 
 -- src/lib.rt:58:5
 returns-2 : tie.Need-returns-2
-unfolding recordNamed under records
-returns-2 c = simp (le-ltb _ _ (c .if1 .left))
+returns-2 c = record-past (c .before .args .n) (omega arith)
 
 pub checked-spec : {M : Type 1} → statement M
 checked-spec = tie.close (tie.spec returns returns-2)

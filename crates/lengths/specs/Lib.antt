@@ -1,0 +1,2 @@
+-- When a list is refused before its first event.
+pub mod Lengths

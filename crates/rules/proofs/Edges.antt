@@ -1,0 +1,38 @@
+-- Ages and lengths at their edges, in other words than the definitions: the sign and the limit decide an age; of wrong lengths the store's is told
+-- first, then the working buffer's.
+use mathlib.Core.Path.{_≡_, refl}
+use mathlib.Core.Bool.{true, false}
+use mathlib.Core.List.{List}
+use mathlib.Core.Option.{some}
+use Prim.Native.Nat.{ℕ, _<_, _≤_}
+use lib.ListN.{length}
+use lib.IntN.{pos, negsuc}
+use lib.Dec.{leb·suc-zero}
+use borrow.Author.Tests.{le-leb, lt-leb}
+use Rattle.laws.specs.Tests.{same}
+use Rattle.rules.specs.Geometry.{workSize}
+use Rattle.rules.specs.Form.{Form, Medium}
+use Rattle.rules.specs.Step.{firstOf}
+use Rattle.rules.specs.Run.{runRefusals}
+use Rattle.rules.specs.Age.{Age, ahead, live, stale, judged}
+
+pub ahead-below-zero : (n limit : ℕ) → judged (negsuc n) limit ≡ ahead (negsuc n)
+unfolding judged
+ahead-below-zero n limit = refl
+
+pub live-to-the-limit : (n limit : ℕ) → n ≤ limit → judged (pos n) limit ≡ live (pos n)
+unfolding judged
+live-to-the-limit n limit h = rw (le-leb n limit h, leb·suc-zero n) refl
+
+pub stale-above : (n limit : ℕ) → limit < n → judged (pos n) limit ≡ stale (pos n)
+unfolding judged
+stale-above n limit h = rw (lt-leb n limit h, leb·suc-zero n) refl
+
+module _ (f : Form) (store events work answers : List ℕ) where
+  pub wrong-store : same (length store) (f .medium .size) ≡ false → firstOf (runRefusals f store events work answers) ≡ some 22
+  unfolding firstOf runRefusals
+  wrong-store e = rw e refl
+
+  pub wrong-work : same (length store) (f .medium .size) ≡ true → same (length work) (workSize (f .geometry)) ≡ false → firstOf (runRefusals f store events work answers) ≡ some 24
+  unfolding firstOf runRefusals
+  wrong-work e h = rw (e, h) refl

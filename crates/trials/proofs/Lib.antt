@@ -1,0 +1,3 @@
+-- Every row holds, by computing.
+pub mod Trials
+pub mod PortionTrials

@@ -1,0 +1,3 @@
+-- The trials as tables.
+pub mod Trials
+pub mod PortionTrials

@@ -1,0 +1,76 @@
+-- Trials of portions: document 01's worked list with one event a portion, and rows at the edges of a portion.
+use Prim.Native.Nat.{ℕ, _*_, _-_}
+use mathlib.Core.Bool.{Bool, true, false, _&&_}
+use mathlib.Core.List.{List, [], _∷_, _++_}
+use lib.ListN.{length, take, replicate}
+use Rattle.laws.specs.Tests.{same}
+use Rattle.laws.specs.Bytes.{sameList}
+use Rattle.rules.specs.Geometry.{workSize}
+use Rattle.rules.specs.State.{down}
+use Rattle.rules.specs.Form.{Medium}
+use Rattle.rules.specs.Portion.{Lent, Portion, portion, Chain, chainFrom}
+use Rattle.rules.specs.Editions.{geometry1, edition1}
+use Rattle.trials.specs.Trials.{Line, Trial, plays, refuses, ages, eventsOf, answersOf, allDue, trials}
+
+-- the buffers of a portion: some events, and an answer buffer of some bytes
+abbrev pub lent : List ℕ → ℕ → Lent
+lent events n = record { events = events; work = replicate (workSize geometry1) 0; answers = replicate n 0 }
+
+-- each event a portion
+abbrev pub singles : List Line → List Lent
+singles [] = []
+singles (l ∷ ls) = lent (eventsOf (l ∷ [])) 2 ∷ singles ls
+
+-- a chain whose states are all found sound
+abbrev pub chained : List ℕ → List Lent → Chain edition1
+chained store ls = chainFrom edition1 (λ s. true) store ls
+
+abbrev pub onePasses : Trial → Bool
+onePasses (plays store ls ds) = let c = chained store (singles ls) in sameList (c .answers) (answersOf ls) && allDue (c .store) ds
+onePasses (refuses a b c d n) = true
+onePasses (ages store r clock limit a) = true
+
+abbrev pub oneByOne : List Trial → Bool
+oneByOne [] = true
+oneByOne (t ∷ ts) = onePasses t && oneByOne ts
+
+-- the first trial of document 01: the worked list, to its eleventh event and in full
+abbrev pub worked : List Trial
+worked = take 2 trials
+
+-- Portions over a fresh store, with their own answers and the answer bytes of the joined list; or a verdict on the state, the lengths of
+-- store, events, working buffer and answer buffer, and the refusal due.
+pub data PortionTrial : Type 0 where
+  lends : List Lent → List ℕ → List ℕ → PortionTrial
+  turned : Bool → ℕ → ℕ → ℕ → ℕ → ℕ → PortionTrial
+
+abbrev freshBytes : List ℕ
+freshBytes = edition1 .medium .toBytes (edition1 .medium .fresh)
+
+abbrev pub passes : PortionTrial → Bool
+passes (lends ls results answers) = let c = chained freshBytes ls in sameList (c .results) results && sameList (c .answers) answers && same (2 * length (c .joined)) (length answers)
+passes (turned sound a b c d n) =
+    let p : Portion edition1 = portion edition1 sound (down (edition1 .medium .fresh)) (replicate a 7) (replicate b 7) (replicate c 7) (replicate d 7) in
+    same (p .answer) n && sameList (p .store) (replicate a 7) && sameList (p .answers) (replicate d 7)
+
+abbrev pub allPass : List PortionTrial → Bool
+allPass [] = true
+allPass (t ∷ ts) = passes t && allPass ts
+
+-- recover whole; begin a top transaction
+abbrev recovers : List ℕ
+recovers = 0x80 ∷ 0x00 ∷ 0x3F ∷ 0x00 ∷ []
+
+abbrev begins : List ℕ
+begins = 0x1F ∷ 0x80 ∷ 0x00 ∷ 0x00 ∷ []
+
+abbrev pub portionTrials : List PortionTrial
+portionTrials =
+    -- the next portion plays on what the last one left
+    lends (lent recovers 2 ∷ lent (begins ++ begins) 4 ∷ lent begins 2 ∷ []) (0 ∷ 0 ∷ 0 ∷ []) (0 ∷ 0 ∷ 0 ∷ 0 ∷ 0 ∷ 1 ∷ 0 ∷ 2 ∷ []) ∷
+    -- a refused portion adds no event, nor does an empty one
+    lends (lent recovers 2 ∷ lent (begins ++ (0x1F ∷ [])) 4 ∷ lent begins 1 ∷ lent [] 0 ∷ lent begins 2 ∷ []) (0 ∷ 20 ∷ 21 ∷ 0 ∷ 0 ∷ []) (0 ∷ 0 ∷ 0 ∷ 0 ∷ []) ∷
+    -- in the order 22, 24, 20, 21, 25, with nothing touched
+    turned false 1055 5 (workSize geometry1 - 1) 0 22 ∷ turned false 1056 5 (workSize geometry1 - 1) 0 24 ∷ turned false 1056 5 (workSize geometry1) 0 20 ∷ turned false 1056 8 (workSize geometry1) 3 21 ∷
+    turned false 1056 8 (workSize geometry1) 4 25 ∷ turned false 1056 0 (workSize geometry1) 0 25 ∷
+    []

@@ -1,0 +1,1 @@
+// Document 01's trials, as tables under one claim each: definitions and computing only.
