@@ -81,6 +81,10 @@ leaving-discarded gone o = fun-ext (λ r. fun-ext (λ j. go (gone j) (o (2 * r) 
     go true a w = refl
     go false a w = refl
 
+mode-none : modeOf false false ≡ nothing
+unfolding modeOf
+mode-none = refl
+
 -- p retains what t held or retained, in the strongest mode
 pub inheriting-inherited : (held retained : Owners) (t p : ℕ) → p ≢ t
     → modesOf (inheriting t p held retained) ≡ discarded (λ j. same j t) (inherited t p (modesOf held) (modesOf retained))
@@ -90,9 +94,8 @@ inheriting-inherited held retained t p n = fun-ext (λ r. fun-ext (λ j. go (2 *
     go : (k l j : ℕ) → Same j t → Same j p
         → modeOf ((not (same j t) && retained k j) || (same j p && (held k t || retained k t))) ((not (same j t) && retained l j) || (same j p && (held l t || retained l t)))
         ≡ cond (same j t) nothing (cond (same j p) (stronger (modeOf (retained k p) (retained l p)) (stronger (modeOf (held k t) (held l t)) (modeOf (retained k t) (retained l t)))) (modeOf (retained k j) (retained l j)))
-    unfolding modeOf
     go k l j (is e s _) (is f u _) = absurd (n (sym f ∙ e))
-    go k l j (is e s _) (isnt f u _) = rw (s, u)
+    go k l j (is e s _) (isnt f u _) = rw (s, u) mode-none
     go k l j (isnt e s _) (is f u _) =
         rw (s, u, f) (sym (ap (stronger (modeOf (retained k p) (retained l p))) (stronger-is (held k t) (held l t) (retained k t) (retained l t))
         ∙ stronger-is (retained k p) (retained l p) (held k t || retained k t) (held l t || retained l t)))
