@@ -1,6 +1,7 @@
 -- A free number is passed over.
 use native.Mathlib.Omega.{arith}
 use borrow.Author.Needs.{needs}
+use Rattle.soundness.specs.Clauses.{SharesOf}
 use Rattle.soundness.proofs.Clauses.{free-share, live-share}
 use Rattle.soundness.proofs.are_shares_at.Statement.{statement}
 use Rattle.soundness.proofs.are_shares_at.Tie as tie
@@ -18,7 +19,7 @@ are-shares-of-requires : tie.Need-are-shares-of-requires
 are-shares-of-requires c κs = search needs
 
 returns-2 : tie.Need-returns-2
-returns-2 c = let a = c .before .before .before .args in let n = c .before .if1 .left in live-share (a .depth .now) (a .t) (omega arith) (c .are-shares-of .ensures)
+returns-2 c = let a = c .before .before .before .args in let n = c .before .if1 .left in live-share {P = SharesOf (a .line .now) (a .held .now) (a .retained .now) (a .t)} (a .depth .now) (a .t) (omega arith) (c .are-shares-of .ensures)
 
 pub are-shares-at-spec : {M : Type 1} → statement M
 are-shares-at-spec = tie.close (tie.spec element-copy-out-if1 returns are-shares-of-requires returns-2)
