@@ -1,5 +1,5 @@
-// Whether any bytes in the engine's arrays encode a sound state. Tests are made one and all, and their results joined at the end; only free numbers are
-// passed over where a live transaction's share of each lock is looked at.
+// Whether any bytes in the engine's arrays encode a sound state. The results of the tests are joined at the end, so that there are few branches; what a
+// free number has of the locks isn't looked at, since holders and retainers are live.
 ghost use mathlib.Core.Path.{_≡_};
 ghost use mathlib.Core.Bool.{true};
 ghost use mathlib.Core.List.{List};

@@ -1,12 +1,6 @@
 -- The law of the clause, over the tests that were made.
-use mathlib.Core.Path.{ap, _∙_, fun-ext}
-use mathlib.Core.Bool.{Bool, not, _||_}
-use Prim.Native.Nat.{ℕ}
 use borrow.Author.Needs.{needs}
-use Rattle.laws.specs.Bits.{bits}
-use Rattle.laws.specs.Counting.{all}
-use Rattle.laws.proofs.Bits.{bits-or}
-use Rattle.soundness.proofs.Clauses.{numbered-decided, lock-decided}
+use Rattle.soundness.proofs.Clauses.{lock-decided}
 use Rattle.soundness.proofs.is_lock.Statement.{statement}
 use Rattle.soundness.proofs.is_lock.Tie as tie
 use Rattle.soundness.proofs.is_lock.Reads as reads
@@ -34,10 +28,9 @@ within-requires-5 c κs = search needs
 
 returns : tie.Need-returns
 returns c = let a = c .before .before .before .before .before .before .args in
-    lock-decided (bits (a .live)) (bits (a .held)) (bits (a .held-writing)) (bits (a .retained)) (bits (a .retained-writing)) (bits (a .writers)) _ _ _ _ _ _
-    (numbered-decided (a .held) (a .held-writing) (a .retained) (a .retained-writing) (a .writers) (c .before .before .before .before .before .is-set .ensures))
+    lock-decided (a .live) (a .held) (a .held-writing) (a .retained) (a .retained-writing) (a .writers) (c .before .before .before .before .before .is-set .ensures)
     (c .before .before .before .before .within .ensures) (c .before .before .before .within2 .ensures) (c .before .before .within3 .ensures) (c .before .within4 .ensures)
-    (c .within5 .ensures ∙ ap (λ (f : ℕ → Bool). all 24 (λ k. not (bits (a .writers) k) || f k)) (fun-ext (bits-or (a .held-writing) (a .retained-writing))))
+    (c .within5 .ensures)
 
 pub is-lock-spec : {M : Type 1} → statement M
 is-lock-spec =
