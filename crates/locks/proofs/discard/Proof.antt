@@ -55,16 +55,16 @@ loop-less c = search needs
 loop-again : tie.Need-loop-again Inv-loop μ-loop
 unfolding sets less leaving
 loop-again c = let l = c .before .before .before .loop in let a = c .before .before .before .before .before .before .before .before .args in (
-      search needs,
-      upto-more 16 _ (l .writers) (a .writers .now) _ (l .r) _ (l .inv .1) (omega arith) (record { word = _; is = refl; holds = c .minus .ensures }) (ap {B = ℕ → Bool} (less (bits (a .gone))) (l .inv .1 .swept .above (l .r) (omega arith))),
-    )
+  search needs,
+  upto-more 16 _ (l .writers) (a .writers .now) _ (l .r) _ (l .inv .1) (omega arith) (record { word = _; is = refl; holds = c .minus .ensures }) (ap {B = ℕ → Bool} (less (bits (a .gone))) (l .inv .1 .swept .above (l .r) (omega arith))),
+)
 
 returns : tie.Need-returns Inv-loop μ-loop
 returns c = let l = c .before .loop in let a = c .before .before .before .before .before .before .args in (
-      c .before .before .before .before .leave .ensures,
-      c .before .before .leave2 .ensures,
-      upto-all 16 _ _ _ _ (l .inv .1) (λ k h. leaving-past (bits (a .gone)) (a .writers .now) k (omega arith)),
-    )
+  c .before .before .before .before .leave .ensures,
+  c .before .before .leave2 .ensures,
+  upto-all 16 _ _ _ _ (l .inv .1) (λ k h. leaving-past (bits (a .gone)) (a .writers .now) k (omega arith)),
+)
 
 pub discard-spec : {M : Type 1} → statement M
 discard-spec =

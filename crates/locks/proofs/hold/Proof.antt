@@ -57,19 +57,19 @@ element-write-held-2 c = search needs
 returns : tie.Need-returns
 unfolding sets joinedFor accessWhen
 returns c = let a = c .before .before .before .before .before .args in let v = c .before .before .before .with .result in record {
-      are = sets-joined (set (a .held .now) (2 * a .r) v) (a .t) (2 * a .r + 1) _ (omega (arith, length-set (a .held .now) (2 * a .r) v)) (c .with2 .ensures)
-        ∙ ap (joined (a .t) (2 * a .r + 1)) (sets-joined (a .held .now) (a .t) (2 * a .r) v (omega arith) (c .before .before .before .with .ensures))
-        ∙ sym (ap (λ (b : Bool). joinedFor (accessWhen b) (a .t) (a .r) (sets (a .held .now))) (not-true (a .reading) (c .before .before .if1 .taken)));
-      long = search needs;
-    }
+  are = sets-joined (set (a .held .now) (2 * a .r) v) (a .t) (2 * a .r + 1) _ (omega (arith, length-set (a .held .now) (2 * a .r) v)) (c .with2 .ensures)
+      ∙ ap (joined (a .t) (2 * a .r + 1)) (sets-joined (a .held .now) (a .t) (2 * a .r) v (omega arith) (c .before .before .before .with .ensures))
+      ∙ sym (ap (λ (b : Bool). joinedFor (accessWhen b) (a .t) (a .r) (sets (a .held .now))) (not-true (a .reading) (c .before .before .if1 .taken)));
+  long = search needs;
+}
 
 returns-2 : tie.Need-returns-2
 unfolding sets joinedFor accessWhen
 returns-2 c = let a = c .before .before .before .args in record {
-      are = sets-joined (a .held .now) (a .t) (2 * a .r) _ (omega arith) (c .before .with .ensures)
-        ∙ sym (ap (λ (b : Bool). joinedFor (accessWhen b) (a .t) (a .r) (sets (a .held .now))) (not-false (a .reading) (c .if1 .left)));
-      long = search needs;
-    }
+  are = sets-joined (a .held .now) (a .t) (2 * a .r) _ (omega arith) (c .before .with .ensures)
+      ∙ sym (ap (λ (b : Bool). joinedFor (accessWhen b) (a .t) (a .r) (sets (a .held .now))) (not-false (a .reading) (c .if1 .left)));
+  long = search needs;
+}
 
 pub hold-spec : {M : Type 1} → statement M
 hold-spec =

@@ -61,11 +61,11 @@ loop-less c = search needs
 loop-again : tie.Need-loop-again Inv-loop μ-loop
 unfolding sets inheriting
 loop-again c = let l = c .before .before .before .before .before .before .loop in let a = c .before .before .before .before .before .before .before .args in (
-      search needs,
-      l .inv .1,
-      upto-more 32 _ (l .retained) (a .retained .now) _ (l .k) _ (l .inv .2) (omega arith) (record { word = _; is = refl; holds = c .heirs .ensures ∙ ap₂ (λ (x y : Bool). heirsOf (x || y) (sets (l .retained) (l .k)) (a .t) (a .p)) (c .before .before .contains .ensures) (c .before .contains2 .ensures) })
+  search needs,
+  l .inv .1,
+  upto-more 32 _ (l .retained) (a .retained .now) _ (l .k) _ (l .inv .2) (omega arith) (record { word = _; is = refl; holds = c .heirs .ensures ∙ ap₂ (λ (x y : Bool). heirsOf (x || y) (sets (l .retained) (l .k)) (a .t) (a .p)) (c .before .before .contains .ensures) (c .before .contains2 .ensures) })
       (ap (λ (z : ℕ → Bool). heirsOf (sets (a .held .now) (l .k) (a .t) || z (a .t)) z (a .t) (a .p)) (l .inv .2 .swept .above (l .k) (omega arith))),
-    )
+)
 
 returns : tie.Need-returns Inv-loop μ-loop
 returns c = let l = c .before .loop in let a = c .before .before .args in upto-all 32 _ _ _ _ (l .inv .2) (λ k h. inheriting-past (a .held .now) (a .retained .now) (a .t) (a .p) k (omega arith) (omega arith))

@@ -48,9 +48,9 @@ loop-less c = search needs
 loop-again : tie.Need-loop-again Inv-loop μ-loop
 unfolding sets less leaving
 loop-again c = let l = c .before .before .before .loop in let a = c .before .before .before .before .args in (
-      search needs,
-      upto-more 32 _ (l .s) (a .s .now) _ (l .k) _ (l .inv .1) (omega arith) (record { word = _; is = refl; holds = c .minus .ensures }) (ap {B = ℕ → Bool} (less (bits (a .gone))) (l .inv .1 .swept .above (l .k) (omega arith))),
-    )
+  search needs,
+  upto-more 32 _ (l .s) (a .s .now) _ (l .k) _ (l .inv .1) (omega arith) (record { word = _; is = refl; holds = c .minus .ensures }) (ap {B = ℕ → Bool} (less (bits (a .gone))) (l .inv .1 .swept .above (l .k) (omega arith))),
+)
 
 returns : tie.Need-returns Inv-loop μ-loop
 returns c = let l = c .before .loop in let a = c .before .before .args in upto-all 32 _ _ _ _ (l .inv .1) (λ k h. leaving-past (bits (a .gone)) (a .s .now) k (omega arith))

@@ -64,17 +64,17 @@ loop-less c = search needs
 loop-again : tie.Need-loop-again Inv-loop μ-loop
 unfolding sets
 loop-again c = let l = c .before .before .before .before .loop in let a = c .before .before .before .before .before .before .before .before .before .before .before .args in (
-      search needs,
-      upto-more 16 _ (l .writers) (a .writers .now) _ (l .r) _ (l .inv .1) (omega arith) (record { word = _; is = refl; holds = c .heirs .ensures ∙ ap (λ (x : Bool). heirsOf x (sets (l .writers) (l .r)) (a .t) (a .p)) (c .before .contains .ensures) })
+  search needs,
+  upto-more 16 _ (l .writers) (a .writers .now) _ (l .r) _ (l .inv .1) (omega arith) (record { word = _; is = refl; holds = c .heirs .ensures ∙ ap (λ (x : Bool). heirsOf x (sets (l .writers) (l .r)) (a .t) (a .p)) (c .before .contains .ensures) })
       (ap (λ (z : ℕ → Bool). heirsOf (z (a .t)) z (a .t) (a .p)) (l .inv .1 .swept .above (l .r) (omega arith))),
-    )
+)
 
 returns : tie.Need-returns Inv-loop μ-loop
 returns c = let l = c .before .loop in let a = c .before .before .before .before .before .before .before .before .args in (
-      record { are = c .before .before .leave .ensures .are ∙ ap (λ (f : ℕ → Bool). leaving f (sets (a .held .now))) (c .before .before .before .single .ensures); long = c .before .before .leave .ensures .long },
-      c .before .before .before .before .before .inherit .ensures,
-      upto-all 16 _ _ _ _ (l .inv .1) (λ k h. heirs-past _ (a .writers .now) (a .t) (a .p) k (sets-past (a .writers .now) k (a .t) (omega arith)) (omega arith)),
-    )
+  record { are = c .before .before .leave .ensures .are ∙ ap (λ (f : ℕ → Bool). leaving f (sets (a .held .now))) (c .before .before .before .single .ensures); long = c .before .before .leave .ensures .long },
+  c .before .before .before .before .before .inherit .ensures,
+  upto-all 16 _ _ _ _ (l .inv .1) (λ k h. heirs-past _ (a .writers .now) (a .t) (a .p) k (sets-past (a .writers .now) k (a .t) (omega arith)) (omega arith)),
+)
 
 pub pass-spec : {M : Type 1} → statement M
 pass-spec =
