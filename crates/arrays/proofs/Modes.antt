@@ -9,7 +9,7 @@ use Rattle.laws.specs.Counting.{all}
 use Rattle.laws.proofs.Tests.{same?, Same, is, isnt}
 use Rattle.rules.specs.Geometry.{transactions}
 use Rattle.rules.specs.Event.{Access, toWrite, toRead}
-use Rattle.rules.specs.State.{Mode, nothing, reading, writing, isLock, isWriting, stronger, Modes, mem}
+use Rattle.rules.specs.State.{nothing, isLock, isWriting, stronger, mem}
 use Rattle.rules.specs.Locks.{modeFor, bars, holdersAllow, retainersAllow, grantable, granted, inherited, discarded}
 use Rattle.arrays.specs.View.{Owners, anyMode, writeMode, modeOf, modesOf, Nested}
 use Rattle.arrays.specs.Changes.{barring, openTo, joinedFor, less, leaving, heirsOf, inheriting}

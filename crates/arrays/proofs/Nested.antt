@@ -1,9 +1,9 @@
 -- Granting, discarding and passing keep write mode within any mode.
-use mathlib.Core.Path.{_≡_, refl}
+use mathlib.Core.Path.{_≡_}
 use mathlib.Core.Bool.{Bool, true, false, not, _&&_, _||_}
-use Prim.Native.Nat.{ℕ, _+_, _*_}
+use Prim.Native.Nat.{ℕ}
 use Rattle.laws.specs.Tests.{same}
-use Rattle.laws.proofs.Booleans.{or-cases, or-left, or-right, and-left, and-right}
+use Rattle.laws.proofs.Booleans.{or-cases, or-left, or-right, and-right}
 use Rattle.rules.specs.Event.{Access}
 use Rattle.arrays.specs.View.{Owners, anyMode, writeMode, Nested}
 use Rattle.arrays.specs.Changes.{joinedFor, less, leaving, heirsOf, inheriting}

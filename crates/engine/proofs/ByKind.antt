@@ -11,7 +11,7 @@ use Rattle.laws.specs.Tests.{under}
 use Rattle.laws.proofs.Tests.{lt-under}
 use Rattle.rules.specs.Geometry.{records, pageCount}
 use Rattle.rules.specs.Store.{pagesOf}
-use Rattle.rules.specs.Event.{Event, begin, lock, write, read, commit, abort, crash, recover, eventOf, fits}
+use Rattle.rules.specs.Event.{Event, begin, lock, write, read, commit, abort, crash, recover, accessOf, eventOf, fits}
 use Rattle.rules.specs.State.{live}
 use Rattle.rules.specs.Form.{atomicPages}
 use Rattle.rules.specs.Step.{refused, StateOf, OutcomeOf, step}
@@ -40,7 +40,7 @@ shaped-of store h = laws1 .shaped-from store h
 down-kinds : (s : StateOf edition1) (e : Fields) (k : ℕ) → e .kind ≡ k → 0 < k → k < 7 → s .up ≡ false → step edition1 s (meaning e) ≡ record { state = s; answer = refused 2 }
 down-kinds s e zero q h g d = absurd (omega arith)
 down-kinds s e (suc zero) q h g d = ap (step edition1 s) (means-begin e q) ∙ begin-down edition1 s d (e .transaction)
-down-kinds s e (suc (suc zero)) q h g d = ap (step edition1 s) (means-lock e q) ∙ lock-down edition1 s d (e .transaction) (e .rec)
+down-kinds s e (suc (suc zero)) q h g d = ap (step edition1 s) (means-lock e q) ∙ lock-down edition1 s d (e .transaction) (e .rec) (accessOf (e .value))
 down-kinds s e (suc (suc (suc zero))) q h g d = ap (step edition1 s) (means-write e q) ∙ write-down edition1 s d (e .transaction) (e .rec) (e .offset) (e .value)
 down-kinds s e (suc (suc (suc (suc zero)))) q h g d = ap (step edition1 s) (means-read e q) ∙ read-down edition1 s d (e .transaction) (e .rec) (e .offset)
 down-kinds s e (suc (suc (suc (suc (suc zero))))) q h g d = ap (step edition1 s) (means-commit e q) ∙ commit-down edition1 s d (e .transaction) (e .count)
@@ -55,7 +55,7 @@ unknown-kinds : (s : StateOf edition1) (e : Fields) (k : ℕ) → e .kind ≡ k 
     → step edition1 s (meaning e) ≡ record { state = s; answer = refused 5 }
 unknown-kinds s e zero q h g u l = absurd (omega arith)
 unknown-kinds s e (suc zero) q h g u l = absurd (omega arith)
-unknown-kinds s e (suc (suc zero)) q h g u l = ap (step edition1 s) (means-lock e q) ∙ lock-unknown edition1 s (e .transaction) u l (e .rec)
+unknown-kinds s e (suc (suc zero)) q h g u l = ap (step edition1 s) (means-lock e q) ∙ lock-unknown edition1 s (e .transaction) u l (e .rec) (accessOf (e .value))
 unknown-kinds s e (suc (suc (suc zero))) q h g u l = ap (step edition1 s) (means-write e q) ∙ write-unknown edition1 s (e .transaction) u l (e .rec) (e .offset) (e .value)
 unknown-kinds s e (suc (suc (suc (suc zero)))) q h g u l = ap (step edition1 s) (means-read e q) ∙ read-unknown edition1 s (e .transaction) u l (e .rec) (e .offset)
 unknown-kinds s e (suc (suc (suc (suc (suc zero))))) q h g u l = ap (step edition1 s) (means-commit e q) ∙ commit-unknown edition1 s (e .transaction) u l (e .count)
@@ -70,7 +70,7 @@ fits-of : (k t r o c v : ℕ) → t < 32 → r < 16 → o < 32 → c < 64 → v 
 unfolding eventOf fieldsOf fits records
 fits-of zero t r o c v ht hr ho hc hv e q = let z : true ≡ false = cc in absurd (true≢false z)
 fits-of (suc zero) t r o c v ht hr ho hc hv e q = let p : begin t ≡ e = cc in rw (← p) (lt-under t 32 ht)
-fits-of (suc (suc zero)) t r o c v ht hr ho hc hv e q = let p : lock t r ≡ e = cc in rw (← p, lt-under t 32 ht, lt-under r 16 hr)
+fits-of (suc (suc zero)) t r o c v ht hr ho hc hv e q = let p : lock t r (accessOf v) ≡ e = cc in rw (← p, lt-under t 32 ht, lt-under r 16 hr)
 fits-of (suc (suc (suc zero))) t r o c v ht hr ho hc hv e q = let p : write t r o v ≡ e = cc in rw (← p, lt-under t 32 ht, lt-under r 16 hr, lt-under o 32 ho, lt-under v 256 hv)
 fits-of (suc (suc (suc (suc zero)))) t r o c v ht hr ho hc hv e q = let p : read t r o ≡ e = cc in rw (← p, lt-under t 32 ht, lt-under r 16 hr, lt-under o 32 ho)
 fits-of (suc (suc (suc (suc (suc zero))))) t r o c v ht hr ho hc hv e q = let p : commit t c ≡ e = cc in rw (← p, lt-under t 32 ht, lt-under c 64 hc)

@@ -1,8 +1,8 @@
 -- A value against a mask of its i lowest bits: no bit is outside exactly if the value is below 2 ^ i.
-use mathlib.Core.Path.{_≡_, refl, sym, ap, ap₂, _∙_}
-use mathlib.Core.Bool.{Bool, true, false, not, _&&_, _||_}
-use Prim.Native.Nat.{ℕ, zero, suc, _+_, _*_, _/_, _%_, _^_, _<_, _≤_}
-use native.Mathlib.Nat.{mod-lt, zero-mul, zero-add, suc-mul, add-comm, div-one}
+use mathlib.Core.Path.{_≡_, sym, ap, ap₂, _∙_}
+use mathlib.Core.Bool.{true, false, not, _&&_, _||_}
+use Prim.Native.Nat.{ℕ, zero, suc, _+_, _*_, _/_, _%_, _^_, _<_}
+use native.Mathlib.Nat.{mod-lt, zero-mul, zero-add, suc-mul, add-comm}
 use native.Mathlib.Omega.{arith}
 use lib.Pow.{pow-pos, mod-pow-add}
 use Rattle.laws.specs.Tests.{same, under}

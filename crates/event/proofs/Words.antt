@@ -15,9 +15,9 @@ use Rattle.laws.specs.Tests.{same, under}
 use Rattle.laws.specs.Counting.{all}
 use Rattle.laws.specs.Bits.{bits}
 use Rattle.laws.specs.Bytes.{number, numberFrom}
-use Rattle.laws.proofs.Tests.{same-refl, same-eq, ne-false, Is, is?, yes′, no′, under-lt, lt-under}
+use Rattle.laws.proofs.Tests.{same-refl, same-eq, Is, is?, yes′, no′, under-lt}
 use Rattle.laws.proofs.Booleans.{both, or-cases}
-use Rattle.laws.proofs.All.{and-false, all-plus, all-same, all-at}
+use Rattle.laws.proofs.All.{and-false, all-plus, all-at}
 use Rattle.laws.proofs.Bits.{within-is, field-within}
 use Rattle.rules.specs.Geometry.{wordSize}
 use Rattle.rules.specs.Event.{Event, Fields, field, fields, Uses, uses, usesOf, noKind, row, limits, limitOf, wellFormed, eventOf, decode}

@@ -111,7 +111,7 @@ fn heirs(had: bool, s: u32, t: u8, p: u8) -> u32
 
 // p retains in each place what t held or retained there, and t retains nothing.
 fn inherit(held: &[u32; 32], retained: &mut [u32; 32], t: u8, p: u8)
-    requires { ⌜ (t < 24) × (p < 24) × (length (now retained) ≡ 32) ⌝ }
+    requires { ⌜ (t < 24) × (p < 24) × (length (now held) ≡ 32) × (length (now retained) ≡ 32) ⌝ }
     ensures { λ _. ⌜ Rows 32 (inheriting t p (sets (now (held .entry))) (sets (now (retained .entry)))) (now (retained .exit)) ⌝ }
 {
     for k in 0..32 {

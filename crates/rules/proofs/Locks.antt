@@ -187,12 +187,12 @@ module _ {f : Form} {s : StateOf f} (S : Sound f s) where
     lined u = not (bars a (s .retained r u)) || mem u (lineOf (s .bearer) t)
 
     pub grant-alone : (z : ℕ) → z ≢ t → bars a (s .held r z) ≡ false
-    unfolding grantable holdersAllow retainersAllow holds sole lined
+    unfolding grantable holdersAllow holds sole
     grant-alone z n = refute (bars a (s .held r z)) (λ d.
-        clash (all-true transactions sole z (and-left (all transactions sole) (all transactions lined) (ok .grant)) (S .numbered z (S .holder-live r z (graded-lock (barring a) (s .held r z) d))))
+        clash (all-true transactions sole z (and-left (all transactions sole) (retainersAllow a (s .retained) (lineOf (s .bearer) t) r) (ok .grant)) (S .numbered z (S .holder-live r z (graded-lock (barring a) (s .held r z) d))))
         (rw (d, ne-false z t n)))
 
     pub grant-above : (q : ℕ) → bars a (s .retained r q) ≡ true → mem q (lineOf (s .bearer) t) ≡ true
-    unfolding grantable holdersAllow retainersAllow retains sole lined
+    unfolding grantable retainersAllow retains lined
     grant-above q e =
-        rw e at (all-true transactions lined q (and-right (all transactions sole) (all transactions lined) (ok .grant)) (S .numbered q (S .retainer-live r q (graded-lock (barring a) (s .retained r q) e))))
+        rw e at (all-true transactions lined q (and-right (holdersAllow a (s .held) t r) (all transactions lined) (ok .grant)) (S .numbered q (S .retainer-live r q (graded-lock (barring a) (s .retained r q) e))))
