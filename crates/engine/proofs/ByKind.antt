@@ -1,13 +1,14 @@
 -- Events by their kind: what is refused before a transaction is looked at, and that every event keeps the arrays sound.
 use mathlib.Core.Path.{_≡_, refl, sym, ap, subst⁻¹, _∙_}
-use mathlib.Core.Bool.{Bool, true, false, _&&_, true≢false}
+use mathlib.Core.Bool.{Bool, true, false, not, _&&_, true≢false}
 use mathlib.Core.List.{List, [], _∷_}
 use mathlib.Core.Logic.{_≢_}
 use mathlib.Core.Option.{Option, none, some}
 use Prim.Native.Nat.{ℕ, zero, suc, _+_, _<_, _≤_}
 use native.Mathlib.Omega.{arith}
+use lib.Dec.{eqb·suc-zero}
 use lib.ListN.{length, getD}
-use Rattle.laws.specs.Tests.{under}
+use Rattle.laws.specs.Tests.{same, under}
 use Rattle.laws.proofs.Tests.{lt-under}
 use Rattle.rules.specs.Geometry.{records, pageCount}
 use Rattle.rules.specs.Store.{pagesOf}
@@ -21,6 +22,7 @@ use Rattle.rules.proofs.Medium.{MediumLaws}
 use Rattle.rules.proofs.AtomicPages.{atomic-laws}
 use Rattle.rules.proofs.Editions.{proper1}
 use Rattle.rules.proofs.Soundness.{sound-step, sound-bad}
+use Rattle.arrays.specs.Changes.{accessWhen}
 use Rattle.event.specs.Meaning.{meaning, fieldsOf, InRange}
 use Rattle.event.specs.declared.Event.{Event as Fields}
 use Rattle.event.proofs.Meaning.{means-begin, means-lock, means-write, means-read, means-commit, means-abort}
@@ -35,6 +37,12 @@ laws1 = atomic-laws geometry1 proper1
 pub shaped-of : (store : List ℕ) → length store ≡ 1056 → laws1 .Shaped (pagesOf store)
 unfolding pageCount records
 shaped-of store h = laws1 .shaped-from store h
+
+-- a value that isn't 0 asks to read
+pub access-is : (v : ℕ) → accessOf v ≡ accessWhen (not (same v 0))
+unfolding accessOf accessWhen same
+access-is zero = refl
+access-is (suc v) = ap (λ (b : Bool). accessWhen (not b)) (sym (eqb·suc-zero v))
 
 -- down: 2, whatever else
 down-kinds : (s : StateOf edition1) (e : Fields) (k : ℕ) → e .kind ≡ k → 0 < k → k < 7 → s .up ≡ false → step edition1 s (meaning e) ≡ record { state = s; answer = refused 2 }
