@@ -1,16 +1,19 @@
--- A transaction joins the set of a record.
-use mathlib.Core.Path.{_≡_, refl, sym, ap, _∙_, fun-ext}
+-- A transaction joins the set at a place, and has the lock of a record: the two sets then.
+use mathlib.Core.Path.{_≡_, _∙_, fun-ext}
 use mathlib.Core.Bool.{Bool, true, false, cond, _&&_, _||_, or-false}
 use mathlib.Core.List.{List}
-use Prim.Native.Nat.{ℕ, _<_}
+use Prim.Native.Nat.{ℕ, _+_, _*_, _<_}
+use native.Mathlib.Omega.{arith}
 use lib.ListN.{length, set}
 use Rattle.laws.specs.Tests.{same}
 use Rattle.laws.specs.Functions.{updated}
 use Rattle.laws.specs.Bits.{bits}
-use Rattle.laws.proofs.Tests.{same?, Same, is, isnt}
+use Rattle.laws.proofs.Tests.{same?, Same, is, isnt, same-refl, ne-false}
+use Rattle.rules.specs.Event.{Access, toWrite, toRead}
 use Rattle.sets.specs.Sets.{sets}
 use Rattle.sets.proofs.Sets.{sets-set}
-use Rattle.arrays.specs.Changes.{joined}
+use Rattle.arrays.specs.View.{Owners, anyMode, writeMode}
+use Rattle.arrays.specs.Changes.{joined, joinedFor}
 
 pub sets-joined : (l : List ℕ) (t r v : ℕ) → r < length l → bits v ≡ (λ k. sets l r k || same k t) → sets (set l r v) ≡ joined t r (sets l)
 unfolding joined updated
@@ -29,3 +32,39 @@ joined-self l t r e = fun-ext (λ q. fun-ext (λ j. go q j (same? q r) (same? j 
     go q j (is f s _) (is g u _) = rw (s, u, f, g, e)
     go q j (is f s _) (isnt g u _) = rw (s, u, or-false)
     go q j (isnt f s _) d = rw (s, or-false)
+
+-- the places of two records are the same only where the records are
+same-any : (q r : ℕ) → same (2 * q) (2 * r) ≡ same q r
+same-any q r = go (same? q r)
+  where
+    go : Same q r → same (2 * q) (2 * r) ≡ same q r
+    go (is e s _) = rw (s, e) (same-refl (2 * r))
+    go (isnt e s _) = rw s (ne-false (2 * q) (2 * r) (λ h. e (omega arith)))
+
+same-write : (q r : ℕ) → same (2 * q + 1) (2 * r + 1) ≡ same q r
+same-write q r = go (same? q r)
+  where
+    go : Same q r → same (2 * q + 1) (2 * r + 1) ≡ same q r
+    go (is e s _) = rw (s, e) (same-refl (2 * r + 1))
+    go (isnt e s _) = rw s (ne-false (2 * q + 1) (2 * r + 1) (λ h. e (omega arith)))
+
+any-apart : (q r : ℕ) → same (2 * q) (2 * r + 1) ≡ false
+any-apart q r = ne-false (2 * q) (2 * r + 1) (λ h. absurd (omega arith))
+
+write-apart : (q r : ℕ) → same (2 * q + 1) (2 * r) ≡ false
+write-apart q r = ne-false (2 * q + 1) (2 * r) (λ h. absurd (omega arith))
+
+-- what is asked for is write mode
+unfoldable pub raises : Access → Bool
+raises toWrite = true
+raises toRead = false
+
+pub joined-any : (a : Access) (t r : ℕ) (o : Owners) (q j : ℕ) → anyMode (joinedFor a t r o) q j ≡ (anyMode o q j || (same q r && same j t))
+unfolding anyMode joinedFor joined
+joined-any toWrite t r o q j = rw (any-apart q r, same-any q r, or-false)
+joined-any toRead t r o q j = rw (same-any q r)
+
+pub joined-write : (a : Access) (t r : ℕ) (o : Owners) (q j : ℕ) → writeMode (joinedFor a t r o) q j ≡ (writeMode o q j || (raises a && (same q r && same j t)))
+unfolding writeMode joinedFor joined raises
+joined-write toWrite t r o q j = rw (write-apart q r, same-write q r, or-false)
+joined-write toRead t r o q j = rw (write-apart q r)

@@ -1,5 +1,6 @@
 -- Laws of the arrays and of what they stand for.
 pub mod Sweep
 pub mod Joined
+pub mod Nested
 pub mod Modes
 pub mod View

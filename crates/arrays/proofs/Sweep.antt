@@ -17,7 +17,7 @@ use Rattle.laws.proofs.Tests.{same?, Same, is, isnt}
 use Rattle.sets.specs.Sets.{sets}
 use Rattle.sets.proofs.Sets.{sets-set, sets-past}
 use Rattle.arrays.specs.View.{Owners}
-use Rattle.arrays.specs.Changes.{less, leaving, heirsOf, Row, Rows, places, cleared, Cleared}
+use Rattle.arrays.specs.Changes.{less, leaving, heirsOf, inheriting, Row, Rows, places, cleared, Cleared}
 
 pub record Swept {A : Type 0} (f was goal : ℕ → A) (i : ℕ) : Type 0 where
   pub below : (k : ℕ) → k < i → f k ≡ goal k
@@ -46,23 +46,23 @@ pub swept-all : {A : Type 0} {f was goal : ℕ → A} {i : ℕ} → Swept f was 
 swept-all {i = i} S past =
     fun-ext (λ k. dite (decLt k i) (λ lt. S .below k lt) (λ ge. S .above k (omega arith) ∙ past k (omega arith)))
 
--- Sets of sixteen records.
-pub record Upto (f : Owners) (l l₀ : List ℕ) (i : ℕ) : Type 0 where
+-- Sets at n places.
+pub record Upto (n : ℕ) (f : Owners) (l l₀ : List ℕ) (i : ℕ) : Type 0 where
   pub swept : Swept (sets l) (sets l₀) f i
-  pub long : length l ≡ 16
+  pub long : length l ≡ n
 
-pub upto-none : (f : Owners) (l : List ℕ) → length l ≡ 16 → Upto f l l 0
-upto-none f l h = record { swept = swept-none (sets l) f; long = h }
+pub upto-none : (n : ℕ) (f : Owners) (l : List ℕ) → length l ≡ n → Upto n f l l 0
+upto-none n f l h = record { swept = swept-none (sets l) f; long = h }
 
-pub upto-more : (f : Owners) (l l₀ l′ : List ℕ) (i : ℕ) (s : ℕ → Bool) → Upto f l l₀ i → i < 16 → Row i s l l′ → s ≡ f i → Upto f l′ l₀ (i + 1)
-upto-more f l l₀ l′ i s U h R e = record {
+pub upto-more : (n : ℕ) (f : Owners) (l l₀ l′ : List ℕ) (i : ℕ) (s : ℕ → Bool) → Upto n f l l₀ i → i < n → Row i s l l′ → s ≡ f i → Upto n f l′ l₀ (i + 1)
+upto-more n f l l₀ l′ i s U h R e = record {
   swept = swept-more (sets l′) s (U .swept)
       (ap sets (R .is) ∙ sets-set l i (R .word) (let k = U .long in omega arith) ∙ ap {B = Owners} (λ (s : ℕ → Bool). updated i s (sets l)) (R .holds)) e;
   long = ap length (R .is) ∙ length-set l i (R .word) ∙ U .long;
 }
 
-pub upto-all : (f : Owners) (l l₀ : List ℕ) (i : ℕ) → Upto f l l₀ i → ((k : ℕ) → i ≤ k → sets l₀ k ≡ f k) → Rows f l
-upto-all f l l₀ i U past = record { are = swept-all (U .swept) past; long = U .long }
+pub upto-all : (n : ℕ) (f : Owners) (l l₀ : List ℕ) (i : ℕ) → Upto n f l l₀ i → ((k : ℕ) → i ≤ k → sets l₀ k ≡ f k) → Rows n f l
+upto-all n f l l₀ i U past = record { are = swept-all (U .swept) past; long = U .long }
 
 pub leaving-past : (gone : ℕ → Bool) (l : List ℕ) (k : ℕ) → length l ≤ k → sets l k ≡ leaving gone (sets l) k
 unfolding leaving less
@@ -72,6 +72,10 @@ pub heirs-past : (had : Bool) (l : List ℕ) (t p k : ℕ) → had ≡ false →
 unfolding heirsOf
 heirs-past had l t p k f h = fun-ext (λ j. let e = sets-past l k j h in
     e ∙ sym (ap₂ (λ (b c : Bool). (not (same j t) && b) || (same j p && c)) e f ∙ ap₂ _||_ (and-false (not (same j t))) (and-false (same j p))))
+
+pub inheriting-past : (l m : List ℕ) (t p k : ℕ) → length l ≤ k → length m ≤ k → sets m k ≡ inheriting t p (sets l) (sets m) k
+unfolding inheriting
+inheriting-past l m t p k h g = heirs-past (sets l k t || sets m k t) m t p k (ap₂ _||_ (sets-past l k t h) (sets-past m k t g)) g
 
 -- Numbers that are cleared.
 pub record Clearing (gone : ℕ → Bool) (l l₀ : List ℕ) (i : ℕ) : Type 0 where

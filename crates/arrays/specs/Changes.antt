@@ -2,23 +2,39 @@
 use mathlib.Core.Path.{_≡_}
 use mathlib.Core.Bool.{Bool, true, false, not, cond, _&&_, _||_}
 use mathlib.Core.List.{List}
-use Prim.Native.Nat.{ℕ}
+use Prim.Native.Nat.{ℕ, _+_, _*_}
 use lib.ListN.{getD, length, set}
 use Rattle.laws.specs.Tests.{same}
 use Rattle.laws.specs.Counting.{all}
 use Rattle.laws.specs.Bits.{bits}
 use Rattle.rules.specs.Geometry.{transactions}
+use Rattle.rules.specs.Event.{Access, toWrite, toRead}
 use Rattle.sets.specs.Sets.{sets}
 use Rattle.arrays.specs.View.{Owners}
 
--- no other transaction is in the first set, and every one in the second is on the line
-unfoldable pub openTo : Owners → Owners → (ℕ → Bool) → ℕ → ℕ → Bool
-openTo held retained line t r =
-    all transactions (λ u. not (held r u) || same u t) && all transactions (λ u. not (retained r u) || line u)
+-- what a lock is asked for, by the flag of an event that asks to read
+unfoldable pub accessWhen : Bool → Access
+accessWhen true = toRead
+accessWhen false = toWrite
 
--- t is in the set of r
+-- the place of those that bar: from writing, all that have the lock; from reading, those that have it in write mode
+unfoldable pub barring : Access → ℕ → ℕ
+barring toWrite r = 2 * r
+barring toRead r = 2 * r + 1
+
+-- at place k no other transaction is among the holders, and every retainer is on the line
+unfoldable pub openTo : Owners → Owners → (ℕ → Bool) → ℕ → ℕ → Bool
+openTo held retained line t k =
+    all transactions (λ u. not (held k u) || same u t) && all transactions (λ u. not (retained k u) || line u)
+
+-- t is in the set at place k
 unfoldable pub joined : ℕ → ℕ → Owners → Owners
-joined t r o q j = o q j || (same q r && same j t)
+joined t k o q j = o q j || (same q k && same j t)
+
+-- t has the lock of r as it asked: in any mode, and to write in write mode too
+unfoldable pub joinedFor : Access → ℕ → ℕ → Owners → Owners
+joinedFor toWrite t r o = joined t (2 * r + 1) (joined t (2 * r) o)
+joinedFor toRead t r o = joined t (2 * r) o
 
 -- the set s without what gone has; every set without it
 unfoldable pub less : (ℕ → Bool) → (ℕ → Bool) → ℕ → Bool
@@ -31,16 +47,20 @@ leaving gone o r = less gone (o r)
 unfoldable pub heirsOf : Bool → (ℕ → Bool) → ℕ → ℕ → ℕ → Bool
 heirsOf had s t p k = (not (same k t) && s k) || (same k p && had)
 
+-- p takes, in each place, what t held or retained there, and t leaves
+unfoldable pub inheriting : ℕ → ℕ → Owners → Owners → Owners
+inheriting t p held retained k = heirsOf (held k t || retained k t) (retained k) t p
+
 -- one set of an array becomes s
 pub record Row (r : ℕ) (s : ℕ → Bool) (l l′ : List ℕ) : Type 0 where
   pub word : ℕ
   pub is : l′ ≡ set l r word
   pub holds : bits word ≡ s
 
--- the sets of an array of sixteen
-pub record Rows (f : Owners) (l : List ℕ) : Type 0 where
+-- the sets of an array of n
+pub record Rows (n : ℕ) (f : Owners) (l : List ℕ) : Type 0 where
   pub are : sets l ≡ f
-  pub long : length l ≡ 16
+  pub long : length l ≡ n
 
 -- an array as its places; those that `gone` picks become 0
 unfoldable pub places : List ℕ → ℕ → ℕ
@@ -55,5 +75,5 @@ pub record Cleared (gone : ℕ → Bool) (l l′ : List ℕ) : Type 0 where
 
 -- opens the definitions of this module: for what is proved by computing
 unfoldable pub open-changes : Unit {0}
-unfolding openTo joined less leaving heirsOf places cleared
+unfolding accessWhen barring openTo joined joinedFor less leaving heirsOf inheriting places cleared
 open-changes = tt

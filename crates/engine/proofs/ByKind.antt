@@ -1,17 +1,18 @@
 -- Events by their kind: what is refused before a transaction is looked at, and that every event keeps the arrays sound.
 use mathlib.Core.Path.{_≡_, refl, sym, ap, subst⁻¹, _∙_}
-use mathlib.Core.Bool.{Bool, true, false, _&&_, true≢false}
+use mathlib.Core.Bool.{Bool, true, false, not, _&&_, true≢false}
 use mathlib.Core.List.{List, [], _∷_}
 use mathlib.Core.Logic.{_≢_}
 use mathlib.Core.Option.{Option, none, some}
 use Prim.Native.Nat.{ℕ, zero, suc, _+_, _<_, _≤_}
 use native.Mathlib.Omega.{arith}
+use lib.Dec.{eqb·suc-zero}
 use lib.ListN.{length, getD}
-use Rattle.laws.specs.Tests.{under}
+use Rattle.laws.specs.Tests.{same, under}
 use Rattle.laws.proofs.Tests.{lt-under}
 use Rattle.rules.specs.Geometry.{records, pageCount}
 use Rattle.rules.specs.Store.{pagesOf}
-use Rattle.rules.specs.Event.{Event, begin, lock, write, read, commit, abort, crash, recover, eventOf, fits}
+use Rattle.rules.specs.Event.{Event, begin, lock, write, read, commit, abort, crash, recover, accessOf, eventOf, fits}
 use Rattle.rules.specs.State.{live}
 use Rattle.rules.specs.Form.{atomicPages}
 use Rattle.rules.specs.Step.{refused, StateOf, OutcomeOf, step}
@@ -21,6 +22,7 @@ use Rattle.rules.proofs.Medium.{MediumLaws}
 use Rattle.rules.proofs.AtomicPages.{atomic-laws}
 use Rattle.rules.proofs.Editions.{proper1}
 use Rattle.rules.proofs.Soundness.{sound-step, sound-bad}
+use Rattle.arrays.specs.Changes.{accessWhen}
 use Rattle.event.specs.Meaning.{meaning, fieldsOf, InRange}
 use Rattle.event.specs.declared.Event.{Event as Fields}
 use Rattle.event.proofs.Meaning.{means-begin, means-lock, means-write, means-read, means-commit, means-abort}
@@ -36,11 +38,17 @@ pub shaped-of : (store : List ℕ) → length store ≡ 1056 → laws1 .Shaped (
 unfolding pageCount records
 shaped-of store h = laws1 .shaped-from store h
 
+-- a value that isn't 0 asks to read
+pub access-is : (v : ℕ) → accessOf v ≡ accessWhen (not (same v 0))
+unfolding accessOf accessWhen same
+access-is zero = refl
+access-is (suc v) = ap (λ (b : Bool). accessWhen (not b)) (sym (eqb·suc-zero v))
+
 -- down: 2, whatever else
 down-kinds : (s : StateOf edition1) (e : Fields) (k : ℕ) → e .kind ≡ k → 0 < k → k < 7 → s .up ≡ false → step edition1 s (meaning e) ≡ record { state = s; answer = refused 2 }
 down-kinds s e zero q h g d = absurd (omega arith)
 down-kinds s e (suc zero) q h g d = ap (step edition1 s) (means-begin e q) ∙ begin-down edition1 s d (e .transaction)
-down-kinds s e (suc (suc zero)) q h g d = ap (step edition1 s) (means-lock e q) ∙ lock-down edition1 s d (e .transaction) (e .rec)
+down-kinds s e (suc (suc zero)) q h g d = ap (step edition1 s) (means-lock e q) ∙ lock-down edition1 s d (e .transaction) (e .rec) (accessOf (e .value))
 down-kinds s e (suc (suc (suc zero))) q h g d = ap (step edition1 s) (means-write e q) ∙ write-down edition1 s d (e .transaction) (e .rec) (e .offset) (e .value)
 down-kinds s e (suc (suc (suc (suc zero)))) q h g d = ap (step edition1 s) (means-read e q) ∙ read-down edition1 s d (e .transaction) (e .rec) (e .offset)
 down-kinds s e (suc (suc (suc (suc (suc zero))))) q h g d = ap (step edition1 s) (means-commit e q) ∙ commit-down edition1 s d (e .transaction) (e .count)
@@ -55,7 +63,7 @@ unknown-kinds : (s : StateOf edition1) (e : Fields) (k : ℕ) → e .kind ≡ k 
     → step edition1 s (meaning e) ≡ record { state = s; answer = refused 5 }
 unknown-kinds s e zero q h g u l = absurd (omega arith)
 unknown-kinds s e (suc zero) q h g u l = absurd (omega arith)
-unknown-kinds s e (suc (suc zero)) q h g u l = ap (step edition1 s) (means-lock e q) ∙ lock-unknown edition1 s (e .transaction) u l (e .rec)
+unknown-kinds s e (suc (suc zero)) q h g u l = ap (step edition1 s) (means-lock e q) ∙ lock-unknown edition1 s (e .transaction) u l (e .rec) (accessOf (e .value))
 unknown-kinds s e (suc (suc (suc zero))) q h g u l = ap (step edition1 s) (means-write e q) ∙ write-unknown edition1 s (e .transaction) u l (e .rec) (e .offset) (e .value)
 unknown-kinds s e (suc (suc (suc (suc zero)))) q h g u l = ap (step edition1 s) (means-read e q) ∙ read-unknown edition1 s (e .transaction) u l (e .rec) (e .offset)
 unknown-kinds s e (suc (suc (suc (suc (suc zero))))) q h g u l = ap (step edition1 s) (means-commit e q) ∙ commit-unknown edition1 s (e .transaction) u l (e .count)
@@ -70,7 +78,7 @@ fits-of : (k t r o c v : ℕ) → t < 32 → r < 16 → o < 32 → c < 64 → v 
 unfolding eventOf fieldsOf fits records
 fits-of zero t r o c v ht hr ho hc hv e q = let z : true ≡ false = cc in absurd (true≢false z)
 fits-of (suc zero) t r o c v ht hr ho hc hv e q = let p : begin t ≡ e = cc in rw (← p) (lt-under t 32 ht)
-fits-of (suc (suc zero)) t r o c v ht hr ho hc hv e q = let p : lock t r ≡ e = cc in rw (← p, lt-under t 32 ht, lt-under r 16 hr)
+fits-of (suc (suc zero)) t r o c v ht hr ho hc hv e q = let p : lock t r (accessOf v) ≡ e = cc in rw (← p, lt-under t 32 ht, lt-under r 16 hr)
 fits-of (suc (suc (suc zero))) t r o c v ht hr ho hc hv e q = let p : write t r o v ≡ e = cc in rw (← p, lt-under t 32 ht, lt-under r 16 hr, lt-under o 32 ho, lt-under v 256 hv)
 fits-of (suc (suc (suc (suc zero)))) t r o c v ht hr ho hc hv e q = let p : read t r o ≡ e = cc in rw (← p, lt-under t 32 ht, lt-under r 16 hr, lt-under o 32 ho)
 fits-of (suc (suc (suc (suc (suc zero))))) t r o c v ht hr ho hc hv e q = let p : commit t c ≡ e = cc in rw (← p, lt-under t 32 ht, lt-under c 64 hc)

@@ -23,8 +23,8 @@ fn record_event(
     parent: &mut [u8; 24],
     depth: &mut [u8; 24],
     line: &mut [u32; 24],
-    held: &mut [u32; 16],
-    retained: &mut [u32; 16],
+    held: &mut [u32; 32],
+    retained: &mut [u32; 32],
     writers: &mut [u32; 16],
     work: &mut [u8],
     store: &mut [u8],
@@ -38,7 +38,7 @@ fn record_event(
     let o = e.offset as usize;
     let kind = e.kind;
     match kind {
-        2 => events::lock_event(line, held, retained, t, r),
+        2 => events::lock_event(line, held, retained, t, r, e.value != 0),
         3 => events::write_event(parent, depth, held, writers, work, store, t, r, o, e.value),
         _ => events::read_event(parent, depth, held, writers, work, store, t, r, o),
     }
@@ -50,8 +50,8 @@ fn named_event(
     parent: &mut [u8; 24],
     depth: &mut [u8; 24],
     line: &mut [u32; 24],
-    held: &mut [u32; 16],
-    retained: &mut [u32; 16],
+    held: &mut [u32; 32],
+    retained: &mut [u32; 32],
     writers: &mut [u32; 16],
     work: &mut [u8],
     store: &mut [u8],
@@ -114,8 +114,8 @@ fn step(
     parent: &mut [u8; 24],
     depth: &mut [u8; 24],
     line: &mut [u32; 24],
-    held: &mut [u32; 16],
-    retained: &mut [u32; 16],
+    held: &mut [u32; 32],
+    retained: &mut [u32; 32],
     writers: &mut [u32; 16],
     work: &mut [u8],
     store: &mut [u8],
@@ -178,13 +178,13 @@ fn put_answer(answers: &mut [u8], k: usize, a: Answer)
     answers[at + 1] = a.value;
 }
 
-// The engine's state between two portions, 340 bytes with no padding; all zeros is the start. A caller keeps it and lends it: the order of the fields
+// The engine's state between two portions, 468 bytes with no padding; all zeros is the start. A caller keeps it and lends it: the order of the fields
 // is final.
 #[repr(C)]
 pub struct Engine {
     pub line: [u32; 24],
-    pub held: [u32; 16],
-    pub retained: [u32; 16],
+    pub held: [u32; 32],
+    pub retained: [u32; 32],
     pub writers: [u32; 16],
     pub parent: [u8; 24],
     pub depth: [u8; 24],
@@ -248,8 +248,8 @@ pub fn start() -> Engine
 {
     Engine {
         line: [0; 24],
-        held: [0; 16],
-        retained: [0; 16],
+        held: [0; 32],
+        retained: [0; 32],
         writers: [0; 16],
         parent: [0; 24],
         depth: [0; 24],

@@ -1,3 +1,4 @@
 -- What the proofs of this crate share.
+pub mod Values
 pub mod Words
 pub mod Meaning

@@ -1,7 +1,7 @@
 -- The event of the rules that an event of each kind stands for.
 use mathlib.Core.Path.{_≡_, refl}
 use mathlib.Core.Option.{none, some}
-use Rattle.rules.specs.Event.{eventOf, begin, lock, write, read, commit, abort, crash, recover}
+use Rattle.rules.specs.Event.{eventOf, accessOf, begin, lock, write, read, commit, abort, crash, recover}
 use Rattle.event.specs.Meaning.{meaning, fieldsOf}
 use Rattle.event.specs.declared.Event.{Event}
 
@@ -13,7 +13,7 @@ pub means-begin : (e : Event) → e .kind ≡ 1 → meaning e ≡ some (begin (e
 unfolding meaning fieldsOf eventOf
 means-begin e h = rw h refl
 
-pub means-lock : (e : Event) → e .kind ≡ 2 → meaning e ≡ some (lock (e .transaction) (e .rec))
+pub means-lock : (e : Event) → e .kind ≡ 2 → meaning e ≡ some (lock (e .transaction) (e .rec) (accessOf (e .value)))
 unfolding meaning fieldsOf eventOf
 means-lock e h = rw h refl
 

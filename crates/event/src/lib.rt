@@ -17,11 +17,12 @@ pub struct Event {
     pub value: u8,
 }
 
-// The fields that a kind uses, the kind's own among them, each flagged by ones at its place in the word. A kind that there isn't uses none.
+// The fields that a kind uses, the kind's own among them, each flagged by ones at its place in the word: at all of it, or where a kind takes the
+// values 0 and 1 alone, at its lowest bit. A kind that there isn't uses none.
 const USES: [u32; 16] = [
     0,
     Event::KIND | Event::TRANSACTION,
-    Event::KIND | Event::TRANSACTION | Event::RECORD,
+    Event::KIND | Event::TRANSACTION | Event::RECORD | Event::VALUE_FLAG,
     Event::KIND | Event::TRANSACTION | Event::RECORD | Event::OFFSET | Event::VALUE,
     Event::KIND | Event::TRANSACTION | Event::RECORD | Event::OFFSET,
     Event::KIND | Event::TRANSACTION | Event::COUNT,
@@ -79,6 +80,9 @@ impl Event {
 
     // the fields' flags: ones at the field's place
     pub const VALUE: u32 = (Self::VALUE_SPAN - 1) * Self::VALUE_PLACE;
+
+    // a value of 0 or 1
+    pub const VALUE_FLAG: u32 = Self::VALUE_PLACE;
 
     pub const COUNT: u32 = (Self::COUNT_SPAN - 1) * Self::COUNT_PLACE;
 

@@ -135,6 +135,8 @@ module _ (x : Arrays) (I : Intact x) (u : x .up ≡ 1) (p f above : ℕ) (room :
           lines = lines-are ∙ ap lineIn (sym bearers-are);
           flag = F .flag;
           tidy = λ j. tidy-at j (same? j f);
+          held-nested = F .held-nested;
+          retained-nested = F .retained-nested;
           parents = length-set (x .parent) f p ∙ F .parents;
           depths = length-set (x .depth) f (getD (x .depth) p 0 + 1) ∙ F .depths;
           long = ap length (L .is) ∙ length-set (x .line) f (L .word) ∙ F .long;

@@ -28,17 +28,18 @@ use Rattle.rules.proofs.Map.{named-mapOf}
 use Rattle.rules.proofs.Soundness.{alone-closed}
 use Rattle.sets.specs.Sets.{sets}
 use Rattle.sets.proofs.Sets.{sets-past}
-use Rattle.arrays.specs.View.{Owners, bearersOf, modesOf, slot, versionsOf}
-use Rattle.arrays.specs.Changes.{leaving, heirsOf, Rows, places, cleared, Cleared}
+use Rattle.arrays.specs.View.{Owners, bearersOf, modesOf, Nested, slot, versionsOf}
+use Rattle.arrays.specs.Changes.{leaving, heirsOf, inheriting, Rows, places, cleared, Cleared}
 use Rattle.arrays.proofs.View.{depth-is, parent-is, child-is}
-use Rattle.arrays.proofs.Modes.{heirs-held, heirs-retained}
+use Rattle.arrays.proofs.Nested.{inheriting-nested}
+use Rattle.arrays.proofs.Modes.{leaving-discarded, inheriting-inherited}
 use Rattle.slots.specs.Parts.{lifted}
 use Rattle.slots.proofs.Lifting.{hit, miss-depth, miss-row}
 use Rattle.commit.specs.Phase.{Leaves, topSlot, versionsIn}
 use Rattle.events.specs.Whole.{Arrays, arrays, view, lineIn, Formed, Intact, saying, Stepped, Ready}
 use Rattle.events.proofs.Rules.{commit-done, commit-refused}
 use Rattle.events.proofs.Steps.{answer, stepped, finishes, unmoved, state-eq, up-is, live-is, wrote-is, depth-of, shallow, writer-deep}
-use Rattle.events.proofs.Ends.{bearers-cleared, lines-cleared, tidy-cleared, rest-is, rest-form}
+use Rattle.events.proofs.Ends.{bearers-cleared, lines-cleared, tidy-cleared, nested-cleared, rest-is, rest-form}
 use Rattle.events.proofs.Falls.{zeros, zeros-down, zeros-formed, Fallen, fallen}
 
 -- the test for a child
@@ -97,14 +98,14 @@ module _ (x : Arrays) (I : Intact x) (t k : ℕ) (R : Ready x t) (childless : ha
     -- all page writes were made
     pub top-steps : crashed ≡ false → (parent depth line held retained writers : List ℕ) (one : ℕ) → bits one ≡ (λ k. same k t)
         → Cleared (λ k. same k t) (x .parent) parent → Cleared (λ k. same k t) (x .depth) depth → Cleared (λ k. same k t) (x .line) line
-        → Rows (leaving (bits one) (sets (x .held))) held → Rows (leaving (bits one) (sets (x .retained))) retained → Rows (leaving (bits one) (sets (x .writers))) writers
+        → Rows 32 (leaving (bits one) (sets (x .held))) held → Rows 32 (leaving (bits one) (sets (x .retained))) retained → Rows 16 (leaving (bits one) (sets (x .writers))) writers
         → Stepped x (some (commit t k)) (answer 0 made) (arrays (x .up) parent depth line held retained writers (x .work) store)
     unfolding concluded saying numberOf valueOf
     top-steps e parent depth line held retained writers one o P D N H M W =
-        let turn : (l l′ : List ℕ) → Rows (leaving (bits one) (sets l)) l′ → Rows (leaving alone (sets l)) l′ = λ l l′ r. subst (λ (f : ℕ → Bool). Rows (leaving f (sets l)) l′) o r in
-        let H′ = turn (x .held) held H in
-        let M′ = turn (x .retained) retained M in
-        let W′ = turn (x .writers) writers W in
+        let turn : (n : ℕ) (l l′ : List ℕ) → Rows n (leaving (bits one) (sets l)) l′ → Rows n (leaving alone (sets l)) l′ = λ n l l′ r. subst (λ (f : ℕ → Bool). Rows n (leaving f (sets l)) l′) o r in
+        let H′ = turn 32 (x .held) held H in
+        let M′ = turn 32 (x .retained) retained M in
+        let W′ = turn 16 (x .writers) writers W in
         stepped x _ (some (commit t k)) (ended (view x) alone (pagesOf store)) (done (C .made)) (answer 0 made) (outcome false e)
         (rest-is x I alone closed parent depth line held retained writers store P D N H′ M′ W′) (ap (answer 0) (L .made))
         (rest-form x I alone closed parent depth line held retained writers store P D N H′ M′ W′ size)
@@ -193,9 +194,9 @@ module _ (x : Arrays) (I : Intact x) (t k : ℕ) (R : Ready x t) (childless : ha
 
     module _ (parent depth line held retained writers work : List ℕ)
         (P : Cleared (λ k. same k t) (x .parent) parent) (D : Cleared (λ k. same k t) (x .depth) depth) (N : Cleared (λ k. same k t) (x .line) line)
-        (H : Rows (λ r. heirsOf false (sets (x .held) r) t p) held)
-        (M : Rows (λ r. heirsOf (sets (x .held) r t || sets (x .retained) r t) (sets (x .retained) r) t p) retained)
-        (W : Rows (λ r. heirsOf (w r t) (w r) t p) writers) (K : pagesOf work ≡ up) (size : length work ≡ workBytes) where
+        (H : Rows 32 (leaving (λ j. same j t) (sets (x .held))) held)
+        (M : Rows 32 (inheriting t p (sets (x .held)) (sets (x .retained))) retained)
+        (W : Rows 16 (λ r. heirsOf (w r t) (w r) t p) writers) (K : pagesOf work ≡ up) (size : length work ≡ workBytes) where
       versions-up : versionsOf depth writers work ≡ dropped alone (handedUp t p v)
       unfolding versionsOf places cleared
       versions-up = fun-ext (λ j. fun-ext (λ r.
@@ -209,8 +210,8 @@ module _ (x : Arrays) (I : Intact x) (t k : ℕ) (R : Ready x t) (childless : ha
       y-is : view y ≡ ended (passed (view x) t p) alone (view x .store)
       unfolding view ended passed
       y-is = state-eq refl (bearers-cleared alone (x .parent) (x .depth) parent depth P D)
-          (ap modesOf (H .are) ∙ heirs-held (sets (x .held)) t p)
-          (ap modesOf (M .are) ∙ heirs-retained (sets (x .held)) (sets (x .retained)) t p p≢t) versions-up refl
+          (ap modesOf (H .are) ∙ leaving-discarded alone (sets (x .held)))
+          (ap modesOf (M .are) ∙ inheriting-inherited (sets (x .held)) (sets (x .retained)) t p p≢t) versions-up refl
 
       commit-is : step edition1 (view x) (some (commit t k)) ≡ commitsChild edition1 (view x) t p
       unfolding view lineOf chain commits
@@ -227,6 +228,8 @@ module _ (x : Arrays) (I : Intact x) (t k : ℕ) (R : Ready x t) (childless : ha
             lines = lines-cleared (rooted-of (I .sound)) alone closed (x .line) line (F .lines) N ∙ ap lineIn (sym (bearers-cleared alone (x .parent) (x .depth) parent depth P D));
             flag = F .flag;
             tidy = tidy-cleared alone (x .parent) (x .depth) parent depth P D (F .tidy);
+            held-nested = nested-cleared alone (x .held) held (F .held-nested) H;
+            retained-nested = subst⁻¹ (λ (o : Owners). Nested o) (M .are) (inheriting-nested t p (sets (x .held)) (sets (x .retained)) (F .held-nested) (F .retained-nested));
             parents = P .long;
             depths = D .long;
             long = N .long;

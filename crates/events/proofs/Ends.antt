@@ -1,5 +1,5 @@
 -- Ends: numbers are cleared, locks and writers are discarded. An abort.
-use mathlib.Core.Path.{_≡_, refl, sym, ap, ap₂, _∙_, fun-ext}
+use mathlib.Core.Path.{_≡_, refl, sym, ap, ap₂, subst⁻¹, _∙_, fun-ext}
 use mathlib.Core.Bool.{Bool, true, false, not, cond, _&&_, _||_}
 use mathlib.Core.List.{List, [], _∷_}
 use mathlib.Core.Option.{Option, none, some}
@@ -17,8 +17,9 @@ use Rattle.rules.specs.Editions.{edition1}
 use Rattle.rules.proofs.Bearers.{Rooted, endedIn, ended-line}
 use Rattle.rules.proofs.Locks.{rooted-of, beneath-closed}
 use Rattle.sets.specs.Sets.{sets}
-use Rattle.arrays.specs.View.{Owners, bearerAt, bearersOf, modesOf, slot, versionsOf}
+use Rattle.arrays.specs.View.{Owners, bearerAt, bearersOf, modesOf, Nested, slot, versionsOf}
 use Rattle.arrays.specs.Changes.{less, leaving, Rows, places, cleared, Cleared}
+use Rattle.arrays.proofs.Nested.{leaving-nested}
 use Rattle.arrays.proofs.Modes.{leaving-discarded}
 use Rattle.events.specs.Whole.{Arrays, arrays, view, lineIn, Formed, Intact, Stepped, Ready}
 use Rattle.events.proofs.Rules.{abort-done}
@@ -66,10 +67,13 @@ tidy-cleared dead parent depth parent′ depth′ P D T t z =
     go true e = refl
     go false e = T t e
 
+pub nested-cleared : (dead : ℕ → Bool) (locks locks′ : List ℕ) → Nested (sets locks) → Rows 32 (leaving dead (sets locks)) locks′ → Nested (sets locks′)
+nested-cleared dead locks locks′ n L = subst⁻¹ (λ (o : Owners). Nested o) (L .are) (leaving-nested dead (sets locks) n)
+
 -- those that `dead` picks end, over a store
 module _ (x : Arrays) (I : Intact x) (dead : ℕ → Bool) (closed : (z a : ℕ) → dead z ≡ false → dead a ≡ true → mem a (lineOf (bearersOf (x .parent) (x .depth)) z) ≡ false)
     (parent depth line held retained writers store : List ℕ) (P : Cleared dead (x .parent) parent) (D : Cleared dead (x .depth) depth) (L : Cleared dead (x .line) line)
-    (H : Rows (leaving dead (sets (x .held))) held) (M : Rows (leaving dead (sets (x .retained))) retained) (W : Rows (leaving dead (sets (x .writers))) writers) where
+    (H : Rows 32 (leaving dead (sets (x .held))) held) (M : Rows 32 (leaving dead (sets (x .retained))) retained) (W : Rows 16 (leaving dead (sets (x .writers))) writers) where
   abbrev rest : Arrays
   rest = arrays (x .up) parent depth line held retained writers (x .work) store
 
@@ -85,6 +89,8 @@ module _ (x : Arrays) (I : Intact x) (dead : ℕ → Bool) (closed : (z a : ℕ)
     lines = lines-cleared (rooted-of (I .sound)) dead closed (x .line) line (F .lines) L ∙ ap lineIn (sym (bearers-cleared dead (x .parent) (x .depth) parent depth P D));
     flag = F .flag;
     tidy = tidy-cleared dead (x .parent) (x .depth) parent depth P D (F .tidy);
+    held-nested = nested-cleared dead (x .held) held (F .held-nested) H;
+    retained-nested = nested-cleared dead (x .retained) retained (F .retained-nested) M;
     parents = P .long;
     depths = D .long;
     long = L .long;
@@ -98,7 +104,7 @@ module _ (x : Arrays) (I : Intact x) (dead : ℕ → Bool) (closed : (z a : ℕ)
 -- an abort: the transaction and all beneath it
 pub abort-steps : (x : Arrays) → Intact x → (t gone : ℕ) → Ready x t → bits gone ≡ (λ u. sets (x .line) u t)
     → (parent depth line held retained writers : List ℕ) → Cleared (bits gone) (x .parent) parent → Cleared (bits gone) (x .depth) depth → Cleared (bits gone) (x .line) line
-    → Rows (leaving (bits gone) (sets (x .held))) held → Rows (leaving (bits gone) (sets (x .retained))) retained → Rows (leaving (bits gone) (sets (x .writers))) writers
+    → Rows 32 (leaving (bits gone) (sets (x .held))) held → Rows 32 (leaving (bits gone) (sets (x .retained))) retained → Rows 16 (leaving (bits gone) (sets (x .writers))) writers
     → Stepped x (some (abort t)) (answer 0 0) (arrays (x .up) parent depth line held retained writers (x .work) (x .store))
 unfolding view lineIn
 abort-steps x I t gone R e parent depth line held retained writers P D L H M W =

@@ -24,7 +24,7 @@ use Rattle.rules.specs.Editions.{geometry1, edition1, depths, workBytes}
 use Rattle.rules.proofs.Parts.{sound-down}
 use Rattle.rules.proofs.Locks.{no-version}
 use Rattle.sets.specs.Sets.{sets}
-use Rattle.arrays.specs.View.{Owners, bearerAt, bearersOf, modeOf, modesOf, slot, versionsOf}
+use Rattle.arrays.specs.View.{Owners, bearerAt, bearersOf, anyMode, writeMode, modeOf, modesOf, Nested, slot, versionsOf}
 use Rattle.commitpage.specs.Heard.{heard}
 use Rattle.commitpage.specs.declared.CommitMap.{CommitMap}
 use Rattle.commit.specs.Phase.{Leaves}
@@ -38,7 +38,7 @@ module _ (work store : List ℕ) where
 
   -- nothing is live, held, retained or written, and it is down
   abbrev pub zeros : Arrays
-  zeros = arrays 0 (z 24) (z 24) (z 24) (z 16) (z 16) (z 16) work store
+  zeros = arrays 0 (z 24) (z 24) (z 24) (z 32) (z 32) (z 16) work store
 
   at : (n k : ℕ) → getD (z n) k 0 ≡ 0
   at zero k = refl
@@ -54,9 +54,13 @@ module _ (work store : List ℕ) where
   bearers-free = fun-ext (λ t. ap (λ (d : ℕ). bearerAt (getD (z 24) t 0) d) (at 24 t))
 
   pub zeros-down : view zeros ≡ down (pagesOf store)
-  unfolding view down versionsOf modesOf modeOf
-  zeros-down = state-eq (ne-false 0 1 (λ e. omega arith)) bearers-free (ap modesOf (none-in 16)) (ap modesOf (none-in 16))
+  unfolding view down versionsOf modesOf modeOf anyMode writeMode
+  zeros-down = state-eq (ne-false 0 1 (λ e. omega arith)) bearers-free (ap modesOf (none-in 32)) (ap modesOf (none-in 32))
       (fun-ext (λ j. fun-ext (λ r. ap (λ (f : Owners). cond (f r j) (some (pagesOf work (slot r (getD (z 24) j 0)))) none) (none-in 16)))) refl
+
+  zeros-nested : Nested (sets (z 32))
+  unfolding anyMode writeMode
+  zeros-nested = subst⁻¹ (λ (o : Owners). Nested o) (none-in 32) (λ r t e. e)
 
   pub zeros-formed : length work ≡ workBytes → length store ≡ 1056 → Formed zeros
   unfolding lineIn lineOf depthIn chain mem
@@ -64,11 +68,13 @@ module _ (work store : List ℕ) where
     lines = none-in 24 ∙ sym (ap lineIn bearers-free);
     flag = omega arith;
     tidy = λ t e. at 24 t;
+    held-nested = zeros-nested;
+    retained-nested = zeros-nested;
     parents = length-replicate {A = ℕ} 24 0;
     depths = length-replicate {A = ℕ} 24 0;
     long = length-replicate {A = ℕ} 24 0;
-    helds = length-replicate {A = ℕ} 16 0;
-    retaineds = length-replicate {A = ℕ} 16 0;
+    helds = length-replicate {A = ℕ} 32 0;
+    retaineds = length-replicate {A = ℕ} 32 0;
     writerss = length-replicate {A = ℕ} 16 0;
     works = w;
     stores = s;
@@ -80,7 +86,7 @@ module _ (work store : List ℕ) where
 -- arrays that are all zeros
 abbrev pub Fallen : ℕ → List ℕ → List ℕ → List ℕ → List ℕ → List ℕ → List ℕ → Type 0
 Fallen up parent depth line held retained writers =
-    (up ≡ 0) × (parent ≡ replicate 24 0) × (depth ≡ replicate 24 0) × (line ≡ replicate 24 0) × (held ≡ replicate 16 0) × (retained ≡ replicate 16 0) × (writers ≡ replicate 16 0)
+    (up ≡ 0) × (parent ≡ replicate 24 0) × (depth ≡ replicate 24 0) × (line ≡ replicate 24 0) × (held ≡ replicate 32 0) × (retained ≡ replicate 32 0) × (writers ≡ replicate 16 0)
 
 pub fallen : (up : ℕ) (parent depth line held retained writers work store : List ℕ) → Fallen up parent depth line held retained writers
     → arrays up parent depth line held retained writers work store ≡ zeros work store
@@ -169,7 +175,7 @@ module _ (x : Arrays) (I : Intact x) (k : ℕ) where
           ∙ ap₂ (λ (p : Pages) (b : Bool). concluded (raised (view x) p) C b) (sym (L .store)) (sym (L .crashed) ∙ e)
 
       formed : (up : ℕ) → up ≤ 1 → Formed (arrays up (x .parent) (x .depth) (x .line) (x .held) (x .retained) (x .writers) (x .work) store)
-      formed up h = let F = I .form in record { lines = F .lines; flag = h; tidy = F .tidy; parents = F .parents; depths = F .depths; long = F .long; helds = F .helds; retaineds = F .retaineds; writerss = F .writerss; works = F .works; stores = size }
+      formed up h = let F = I .form in record { lines = F .lines; flag = h; tidy = F .tidy; held-nested = F .held-nested; retained-nested = F .retained-nested; parents = F .parents; depths = F .depths; long = F .long; helds = F .helds; retaineds = F .retaineds; writerss = F .writerss; works = F .works; stores = size }
 
       over : State Pages → State Pages
       over s = record { up = s .up; bearer = s .bearer; held = s .held; retained = s .retained; version = s .version; store = pagesOf store }

@@ -12,8 +12,8 @@ use Rattle.laws.specs.Counting.{all, lowest}
 use Rattle.laws.proofs.Booleans.{not-false, not-true, refute, clash}
 use Rattle.laws.proofs.Counting.{Lowest, found, missing, lowest-is, all-true, all-of}
 use Rattle.rules.specs.Geometry.{transactions, nobody}
-use Rattle.rules.specs.Event.{Event, begin, lock, write, read, commit, abort, crash, recover}
-use Rattle.rules.specs.State.{State, lineOf, mem, depthIn, live, holds, down}
+use Rattle.rules.specs.Event.{Event, Access, begin, lock, write, read, commit, abort, crash, recover}
+use Rattle.rules.specs.State.{State, lineOf, mem, depthIn, live, holds, holdsWriting, down}
 use Rattle.rules.specs.Locks.{grantable}
 use Rattle.rules.specs.Form.{Form, Medium}
 use Rattle.rules.specs.Step.{Answer, done, refused, cut, Outcome, StateOf, OutcomeOf, hasChild, firstFree, begun, locked, wrote, ended, passed, raised, finished, visible, commits, recovers, firstOf, refusals, refusal, act, judged, step, open-step}
@@ -46,9 +46,9 @@ module _ (f : Form) (s : StateOf f) where
     unfolding open-step
     begin-down p = rw d
 
-    pub lock-down : (t r : ℕ) → step f s (some (lock t r)) ≡ no 2
+    pub lock-down : (t r : ℕ) (a : Access) → step f s (some (lock t r a)) ≡ no 2
     unfolding open-step
-    lock-down t r = rw d
+    lock-down t r a = rw d
 
     pub write-down : (t r o v : ℕ) → step f s (some (write t r o v)) ≡ no 2
     unfolding open-step
@@ -67,9 +67,9 @@ module _ (f : Form) (s : StateOf f) where
     abort-down t = rw d
 
   module _ (t : ℕ) (u : s .up ≡ true) (l : live s t ≡ false) where
-    pub lock-unknown : (r : ℕ) → step f s (some (lock t r)) ≡ no 5
+    pub lock-unknown : (r : ℕ) (a : Access) → step f s (some (lock t r a)) ≡ no 5
     unfolding open-step
-    lock-unknown r = rw (l, u)
+    lock-unknown r a = rw (l, u)
 
     pub write-unknown : (r o v : ℕ) → step f s (some (write t r o v)) ≡ no 5
     unfolding open-step
@@ -88,13 +88,13 @@ module _ (f : Form) (s : StateOf f) where
     abort-unknown = rw (l, u)
 
   module _ (t : ℕ) (u : s .up ≡ true) (l : live s t ≡ true) where
-    pub lock-done : (r : ℕ) → grantable (s .held) (s .retained) (lineOf (s .bearer) t) t r ≡ true → step f s (some (lock t r)) ≡ finished (locked s t r) 0
+    pub lock-done : (r : ℕ) (a : Access) → grantable a (s .held) (s .retained) (lineOf (s .bearer) t) t r ≡ true → step f s (some (lock t r a)) ≡ finished (locked s t r a) 0
     unfolding open-step
-    lock-done r g = rw (l, g, u)
+    lock-done r a g = rw (l, g, u)
 
-    pub lock-refused : (r : ℕ) → grantable (s .held) (s .retained) (lineOf (s .bearer) t) t r ≡ false → step f s (some (lock t r)) ≡ no 8
+    pub lock-refused : (r : ℕ) (a : Access) → grantable a (s .held) (s .retained) (lineOf (s .bearer) t) t r ≡ false → step f s (some (lock t r a)) ≡ no 8
     unfolding open-step
-    lock-refused r g = rw (l, g, u)
+    lock-refused r a g = rw (l, g, u)
 
     pub read-done : (r o : ℕ) → holds s r t ≡ true → step f s (some (read t r o)) ≡ finished s (getD (visible f s t r) o 0)
     unfolding open-step
@@ -104,11 +104,11 @@ module _ (f : Form) (s : StateOf f) where
     unfolding open-step
     read-refused r o h = rw (l, h, u)
 
-    pub write-done : (r o v : ℕ) → holds s r t ≡ true → step f s (some (write t r o v)) ≡ finished (wrote s t r (set (visible f s t r) o v)) 0
+    pub write-done : (r o v : ℕ) → holdsWriting s r t ≡ true → step f s (some (write t r o v)) ≡ finished (wrote s t r (set (visible f s t r) o v)) 0
     unfolding open-step
     write-done r o v h = rw (l, h, u)
 
-    pub write-refused : (r o v : ℕ) → holds s r t ≡ false → step f s (some (write t r o v)) ≡ no 9
+    pub write-refused : (r o v : ℕ) → holdsWriting s r t ≡ false → step f s (some (write t r o v)) ≡ no 9
     unfolding open-step
     write-refused r o v h = rw (l, h, u)
 

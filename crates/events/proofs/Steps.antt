@@ -10,22 +10,24 @@ use lib.ListN.{length, getD, set, List·getD-eq-default}
 use Rattle.laws.specs.Tests.{same}
 use Rattle.laws.specs.Functions.{updated}
 use Rattle.laws.proofs.Tests.{same?, Same, is, isnt, same-refl, ne-false, Is, is?, yes′, no′}
+use Rattle.laws.proofs.Booleans.{or-cases}
 use Rattle.laws.proofs.Updated.{updated-same, updated-other}
 use Rattle.rules.specs.Store.{Page, Pages, pagesOf}
-use Rattle.rules.specs.Event.{Event, lock, write, read}
-use Rattle.rules.specs.State.{Bearers, isActive, depthIn, lineOf, mem, isLock, Modes, Versions, State, live, holds}
+use Rattle.rules.specs.Event.{Event, Access, lock, write, read}
+use Rattle.rules.specs.State.{Bearers, isActive, depthIn, lineOf, mem, isLock, Modes, Versions, State, live, holds, holdsWriting, retainsWriting}
 use Rattle.rules.specs.Locks.{grantable, granted}
 use Rattle.rules.specs.Versions.{isSome, withVersion}
 use Rattle.rules.specs.Step as rules
 use Rattle.rules.specs.Step.{done, refused, StateOf, OutcomeOf, numberOf, valueOf, locked, wrote, finished, visible, step}
 use Rattle.rules.specs.Sound.{Sound}
 use Rattle.rules.specs.Editions.{edition1, depths, workBytes}
-use Rattle.rules.proofs.Locks.{rooted-of, owned-of, version-live, line-apart}
+use Rattle.rules.proofs.Locks.{rooted-of, version-live, line-apart}
 use Rattle.sets.specs.Sets.{sets}
-use Rattle.arrays.specs.View.{Owners, bearersOf, modesOf, slot, versionsOf, seen}
-use Rattle.arrays.specs.Changes.{openTo, joined}
+use Rattle.arrays.specs.View.{Owners, anyMode, writeMode, bearersOf, modesOf, Nested, slot, versionsOf, seen}
+use Rattle.arrays.specs.Changes.{barring, openTo, joined, joinedFor}
 use Rattle.arrays.proofs.View.{depth-is, active-is, idle-is, deep-is, some-is}
-use Rattle.arrays.proofs.Modes.{lock-is, grantable-is, joined-granted}
+use Rattle.arrays.proofs.Nested.{joined-nested}
+use Rattle.arrays.proofs.Modes.{writing-is, lock-is, grantable-is, joined-granted}
 use Rattle.locks.specs.Granting.{Granting}
 use Rattle.slots.specs.Parts.{Sources, Written}
 use Rattle.events.specs.Whole.{Arrays, arrays, view, lineIn, Formed, Intact, saying, Stepped, Ready}
@@ -83,9 +85,13 @@ module _ (x : Arrays) where
   pub not-live-past : (t : ℕ) → Formed x → 24 ≤ t → live (view x) t ≡ false
   not-live-past t F h = not-live t (List·getD-eq-default (x .depth) 0 (let k = F .depths in omega arith))
 
-  pub holds-is : (r t : ℕ) → holds (view x) r t ≡ sets (x .held) r t
+  pub holds-is : Formed x → (r t : ℕ) → holds (view x) r t ≡ anyMode (sets (x .held)) r t
   unfolding view holds
-  holds-is r t = lock-is (sets (x .held)) r t
+  holds-is F r t = lock-is (sets (x .held)) (F .held-nested) r t
+
+  pub holds-writing-is : (r t : ℕ) → holdsWriting (view x) r t ≡ writeMode (sets (x .held)) r t
+  unfolding view holdsWriting
+  holds-writing-is r t = writing-is (sets (x .held)) r t
 
   pub wrote-is : (j r : ℕ) → isSome (view x .version j r) ≡ sets (x .writers) r j
   unfolding view
@@ -109,61 +115,79 @@ module _ (x : Arrays) (I : Intact x) where
   writer-deep r u e = deep-is (x .parent) (x .depth) u (version-live (I .sound) u r (wrote-is x u r ∙ e))
 
   -- a writer of what t holds, at t's depth, is t
-  writer-alone : (r t u : ℕ) → sets (x .held) r t ≡ true → sets (x .writers) r u ≡ true → getD (x .depth) u 0 ≡ getD (x .depth) t 0 → u ≡ t
-  unfolding holds
-  writer-alone r t u h e d = go (same? u t)
+  writer-alone : (r t u : ℕ) → anyMode (sets (x .held)) r t ≡ true → sets (x .writers) r u ≡ true → getD (x .depth) u 0 ≡ getD (x .depth) t 0 → u ≡ t
+  writer-alone r t u h e d =
+      let S = I .sound in
+      let k = holds-is x (I .form) r t ∙ h in
+      or-cases (holdsWriting (view x) r u) (retainsWriting (view x) r u) (S .by-lock u r (wrote-is x u r ∙ e))
+      (λ w. S .one-holder r u t w k) (λ w. go (S .beneath r t u k w) (same? u t))
     where
-      go : Same u t → u ≡ t
-      go (is q _ _) = q
-      go (isnt q _ _) =
-          let O = owned-of (I .sound) in
-          let k = line-apart (I .sound) u t (O .beneath r t u (holds-is x r t ∙ h) (O .by-lock u r (wrote-is x u r ∙ e))) q in
-          let a = depth-of x u in let b = depth-of x t in absurd (omega arith)
+      go : mem u (lineOf (view x .bearer) t) ≡ true → Same u t → u ≡ t
+      go m (is q _ _) = q
+      go m (isnt q _ _) = let k = line-apart (I .sound) u t m q in let a = depth-of x u in let b = depth-of x t in absurd (omega arith)
 
   -- Locks.
-  module _ (t r : ℕ) (R : Ready x t) (a : Bool) (held : List ℕ) (G : Granting (sets (x .line) t) (x .held) (x .retained) t r a held) where
+  module _ (q : Access) (t r : ℕ) (R : Ready x t) (a : Bool) (held : List ℕ) (G : Granting q (sets (x .line) t) (x .held) (x .retained) t r a held) where
     abbrev y : Arrays
     y = record { up = x .up; parent = x .parent; depth = x .depth; line = x .line; held = held; retained = x .retained; writers = x .writers; work = x .work; store = x .store }
 
-    y-form : Formed y
-    y-form = let F = I .form in record { lines = F .lines; flag = F .flag; tidy = F .tidy; parents = F .parents; depths = F .depths; long = F .long; helds = G .long; retaineds = F .retaineds; writerss = F .writerss; works = F .works; stores = F .stores }
+    nested : (b : Bool) → Nested (cond b (joinedFor q t r (sets (x .held))) (sets (x .held)))
+    nested true = joined-nested q t r (sets (x .held)) (I .form .held-nested)
+    nested false = I .form .held-nested
 
-    grants : a ≡ grantable (view x .held) (view x .retained) (lineOf (view x .bearer) t) t r
+    y-form : Formed y
+    y-form = let F = I .form in record {
+      lines = F .lines;
+      flag = F .flag;
+      tidy = F .tidy;
+      held-nested = subst⁻¹ (λ (o : Owners). Nested o) (G .does) (nested a);
+      retained-nested = F .retained-nested;
+      parents = F .parents;
+      depths = F .depths;
+      long = F .long;
+      helds = G .long;
+      retaineds = F .retaineds;
+      writerss = F .writerss;
+      works = F .works;
+      stores = F .stores;
+    }
+
+    grants : a ≡ grantable q (view x .held) (view x .retained) (lineOf (view x .bearer) t) t r
     unfolding view lineIn
     grants =
-        G .says ∙ ap (λ (f : ℕ → ℕ → Bool). openTo (sets (x .held)) (sets (x .retained)) (f t) t r) (I .form .lines)
-        ∙ grantable-is (sets (x .held)) (sets (x .retained)) (lineOf (bearersOf (x .parent) (x .depth)) t) t r
+        G .says ∙ ap (λ (f : ℕ → ℕ → Bool). openTo (sets (x .held)) (sets (x .retained)) (f t) t (barring q r)) (I .form .lines)
+        ∙ grantable-is q (sets (x .held)) (sets (x .retained)) (I .form .held-nested) (I .form .retained-nested) (lineOf (bearersOf (x .parent) (x .depth)) t) t r
 
-    pub lock-steps : a ≡ true → Stepped x (some (lock t r)) (answer 0 0) y
+    pub lock-steps : a ≡ true → Stepped x (some (lock t r q)) (answer 0 0) y
     unfolding view locked
     lock-steps e =
-        finishes x y (some (lock t r)) (locked (view x) t r) 0
-        (lock-done edition1 (view x) t (up-is x (R .up)) (live-is x t (R .live)) r (sym grants ∙ e))
+        finishes x y (some (lock t r q)) (locked (view x) t r q) 0
+        (lock-done edition1 (view x) t (up-is x (R .up)) (live-is x t (R .live)) r q (sym grants ∙ e))
         (state-eq refl refl
-        (ap modesOf (G .does ∙ ap (λ (b : Bool). cond b (joined t r (sets (x .held))) (sets (x .held))) e) ∙ joined-granted (sets (x .held)) t r)
+        (ap modesOf (G .does ∙ ap (λ (b : Bool). cond b (joinedFor q t r (sets (x .held))) (sets (x .held))) e) ∙ joined-granted q (sets (x .held)) t r)
         refl refl refl) y-form
 
-    pub lock-refuses : a ≡ false → Stepped x (some (lock t r)) (answer 8 0) y
+    pub lock-refuses : a ≡ false → Stepped x (some (lock t r q)) (answer 8 0) y
     unfolding view saying numberOf valueOf
     lock-refuses e =
-        stepped x y (some (lock t r)) (view x) (refused 8) (answer 8 0)
-        (lock-refused edition1 (view x) t (up-is x (R .up)) (live-is x t (R .live)) r (sym grants ∙ e))
-        (state-eq refl refl (ap modesOf (G .does ∙ ap (λ (b : Bool). cond b (joined t r (sets (x .held))) (sets (x .held))) e)) refl refl refl) refl y-form
+        stepped x y (some (lock t r q)) (view x) (refused 8) (answer 8 0)
+        (lock-refused edition1 (view x) t (up-is x (R .up)) (live-is x t (R .live)) r q (sym grants ∙ e))
+        (state-eq refl refl (ap modesOf (G .does ∙ ap (λ (b : Bool). cond b (joinedFor q t r (sets (x .held))) (sets (x .held))) e)) refl refl refl) refl y-form
 
   -- Reads.
-  pub read-steps : (t r o v : ℕ) → Ready x t → sets (x .held) r t ≡ true → v ≡ getD (seen (x .parent) (x .depth) (x .writers) (x .work) (x .store) t r) o 0
+  pub read-steps : (t r o v : ℕ) → Ready x t → anyMode (sets (x .held)) r t ≡ true → v ≡ getD (seen (x .parent) (x .depth) (x .writers) (x .work) (x .store) t r) o 0
       → Stepped x (some (read t r o)) (answer 0 v) x
   unfolding view seen visible
   read-steps t r o v R h e =
       finishes x x (some (read t r o)) (view x) v
-      (read-done edition1 (view x) t (up-is x (R .up)) (live-is x t (R .live)) r o (holds-is x r t ∙ h) ∙ ap (finished (view x)) (sym e)) refl (I .form)
+      (read-done edition1 (view x) t (up-is x (R .up)) (live-is x t (R .live)) r o (holds-is x (I .form) r t ∙ h) ∙ ap (finished (view x)) (sym e)) refl (I .form)
 
-  pub read-refuses : (t r o : ℕ) → Ready x t → sets (x .held) r t ≡ false → Stepped x (some (read t r o)) (answer 9 0) x
+  pub read-refuses : (t r o : ℕ) → Ready x t → anyMode (sets (x .held)) r t ≡ false → Stepped x (some (read t r o)) (answer 9 0) x
   read-refuses t r o R h =
-      unmoved x (some (read t r o)) 9 (I .form) (read-refused edition1 (view x) t (up-is x (R .up)) (live-is x t (R .live)) r o (holds-is x r t ∙ h))
+      unmoved x (some (read t r o)) 9 (I .form) (read-refused edition1 (view x) t (up-is x (R .up)) (live-is x t (R .live)) r o (holds-is x (I .form) r t ∙ h))
 
   -- Writes.
-  module _ (t r : ℕ) (p : Page) (R : Ready x t) (h : sets (x .held) r t ≡ true) (writers′ work′ : List ℕ)
+  module _ (t r : ℕ) (p : Page) (R : Ready x t) (h : writeMode (sets (x .held)) r t ≡ true) (writers′ work′ : List ℕ)
       (W : Written (slot r (getD (x .depth) t 0)) t r p (x .writers) (x .work) writers′ work′) where
     abbrev d : ℕ → ℕ
     d j = getD (x .depth) j 0
@@ -174,7 +198,7 @@ module _ (x : Arrays) (I : Intact x) where
     apart j q n e k =
         let a = writer-deep q j e in let b = shallow j in let c = R .live in let f = shallow t in
         let qr : q ≡ r = omega arith in
-        n qr (writer-alone r t j h (subst (λ (q : ℕ). sets (x .writers) q j ≡ true) qr e) (omega arith))
+        n qr (writer-alone r t j (I .form .held-nested r t h) (subst (λ (q : ℕ). sets (x .writers) q j ≡ true) qr e) (omega arith))
 
     versions-at : (j q : ℕ) → Same j t → Same q r → Is (sets (x .writers) q j)
         → cond (joined t r (sets (x .writers)) q j) (some (updated (slot r (d t)) p (pagesOf (x .work)) (slot q (d j)))) none
@@ -192,16 +216,16 @@ module _ (x : Arrays) (I : Intact x) where
     versions-are = fun-ext (λ j. fun-ext (λ q.
         ap₂ (λ (f : Owners) (g : ℕ → Page). cond (f q j) (some (g (slot q (d j)))) none) (W .has) (W .page) ∙ versions-at j q (same? j t) (same? q r) (is? (sets (x .writers) q j))))
 
-  pub write-steps : (t r o v : ℕ) → Ready x t → sets (x .held) r t ≡ true → (writers′ work′ : List ℕ) → length work′ ≡ workBytes
+  pub write-steps : (t r o v : ℕ) → Ready x t → writeMode (sets (x .held)) r t ≡ true → (writers′ work′ : List ℕ) → length work′ ≡ workBytes
       → Written (slot r (getD (x .depth) t 0)) t r (set (seen (x .parent) (x .depth) (x .writers) (x .work) (x .store) t r) o v) (x .writers) (x .work) writers′ work′
       → Stepped x (some (write t r o v)) (answer 0 0) (arrays (x .up) (x .parent) (x .depth) (x .line) (x .held) (x .retained) writers′ work′ (x .store))
   unfolding view seen visible wrote
   write-steps t r o v R h writers′ work′ n W =
       finishes x _ (some (write t r o v)) (wrote (view x) t r (set (visible edition1 (view x) t r) o v)) 0
-      (write-done edition1 (view x) t (up-is x (R .up)) (live-is x t (R .live)) r o v (holds-is x r t ∙ h))
+      (write-done edition1 (view x) t (up-is x (R .up)) (live-is x t (R .live)) r o v (holds-writing-is x r t ∙ h))
       (state-eq refl refl refl refl (versions-are t r _ R h writers′ work′ W) refl)
-      (let F = I .form in record { lines = F .lines; flag = F .flag; tidy = F .tidy; parents = F .parents; depths = F .depths; long = F .long; helds = F .helds; retaineds = F .retaineds; writerss = W .long; works = n; stores = F .stores })
+      (let F = I .form in record { lines = F .lines; flag = F .flag; tidy = F .tidy; held-nested = F .held-nested; retained-nested = F .retained-nested; parents = F .parents; depths = F .depths; long = F .long; helds = F .helds; retaineds = F .retaineds; writerss = W .long; works = n; stores = F .stores })
 
-  pub write-refuses : (t r o v : ℕ) → Ready x t → sets (x .held) r t ≡ false → Stepped x (some (write t r o v)) (answer 9 0) x
+  pub write-refuses : (t r o v : ℕ) → Ready x t → writeMode (sets (x .held)) r t ≡ false → Stepped x (some (write t r o v)) (answer 9 0) x
   write-refuses t r o v R h =
-      unmoved x (some (write t r o v)) 9 (I .form) (write-refused edition1 (view x) t (up-is x (R .up)) (live-is x t (R .live)) r o v (holds-is x r t ∙ h))
+      unmoved x (some (write t r o v)) 9 (I .form) (write-refused edition1 (view x) t (up-is x (R .up)) (live-is x t (R .live)) r o v (holds-writing-is x r t ∙ h))

@@ -14,7 +14,7 @@ use Rattle.rules.specs.Step.{Outcome, StateOf, numberOf, valueOf, step}
 use Rattle.rules.specs.Sound.{Sound}
 use Rattle.rules.specs.Editions.{edition1, depths, workBytes}
 use Rattle.sets.specs.Sets.{sets}
-use Rattle.arrays.specs.View.{bearersOf, modesOf, versionsOf}
+use Rattle.arrays.specs.View.{bearersOf, modesOf, Nested, versionsOf}
 use Rattle.events.specs.declared.Answer.{Answer}
 
 -- up is 1, else the engine is down
@@ -48,16 +48,19 @@ view x = record {
 unfoldable pub lineIn : Bearers → ℕ → ℕ → Bool
 lineIn b t u = mem u (lineOf b t)
 
--- the lines are those of the parents and depths; the flag is 0 or 1; a free number has the parent 0; the arrays have their lengths
+-- the lines are those of the parents and depths; the flag is 0 or 1; a free number has the parent 0; who has a lock in write mode has it; the arrays
+-- have their lengths
 pub record Formed (x : Arrays) : Type 0 where
   pub lines : sets (x .line) ≡ lineIn (bearersOf (x .parent) (x .depth))
   pub flag : x .up ≤ 1
   pub tidy : (t : ℕ) → getD (x .depth) t 0 ≡ 0 → getD (x .parent) t 0 ≡ 0
+  pub held-nested : Nested (sets (x .held))
+  pub retained-nested : Nested (sets (x .retained))
   pub parents : length (x .parent) ≡ 24
   pub depths : length (x .depth) ≡ 24
   pub long : length (x .line) ≡ 24
-  pub helds : length (x .held) ≡ 16
-  pub retaineds : length (x .retained) ≡ 16
+  pub helds : length (x .held) ≡ 32
+  pub retaineds : length (x .retained) ≡ 32
   pub writerss : length (x .writers) ≡ 16
   pub works : length (x .work) ≡ workBytes
   pub stores : length (x .store) ≡ 1056

@@ -2,7 +2,7 @@
 //   up              1 while up, 0 while down
 //   parent, depth   of each transaction; 0 where the number is free; a top transaction has the parent 31
 //   line            of each transaction: the set of itself and its ancestors; empty where the number is free
-//   held, retained  of each record: the set of transactions that hold or retain its lock
+//   held, retained  of each record: at 2 * r the set of transactions that hold or retain its lock, at 2 * r + 1 of those that do so in write mode
 //   writers         of each record: the set of transactions that have a version of it
 //   work            slot r * DEPTHS + depth - 1 holds the version of record r of the writer at that depth
 ghost use mathlib.Core.Path.{_≡_};
@@ -16,6 +16,7 @@ ghost use Rattle.rules.specs.Event.{begin, lock, write, read, commit, abort, cr
 ghost use Rattle.rules.specs.Step.{hasChild};
 ghost use Rattle.rules.specs.Editions.{depths, workBytes};
 ghost use Rattle.sets.specs.Sets.{sets};
+ghost use Rattle.arrays.specs.Changes.{accessWhen};
 ghost use Rattle.slots.specs.Parts.{Sources};
 ghost use Rattle.numbers.specs.Named.{transactionOf, recordOf};
 ghost use Rattle.events.specs.Whole.{Arrays, arrays, view, Intact, Stepped, Ready};
@@ -32,20 +33,21 @@ pub struct Answer {
 
 // Each event takes the arrays that it needs. It promises, for all content of the others, what the rules say.
 
-// A lock is asked for: granted, or refused with 8.
+// A lock is asked for, to read beside others or to write: granted, or refused with 8.
 pub fn lock_event(
     line: &[u32; 24],
-    held: &mut [u32; 16],
-    retained: &[u32; 16],
+    held: &mut [u32; 32],
+    retained: &[u32; 32],
     t: TransactionNumber,
     r: RecordNumber,
+    reading: bool,
 ) -> Answer
-    requires { ⌜ (length (now held) ≡ 16) ⌝ }
-    ensures { λ a. ⌜ ((up : ℕ) (parent depth writers work store : List ℕ) → Intact (arrays up parent depth (now (line .entry)) (now (held .entry)) (now (retained .entry)) writers work store) → Ready (arrays up parent depth (now (line .entry)) (now (held .entry)) (now (retained .entry)) writers work store) (transactionOf t) → Stepped (arrays up parent depth (now (line .entry)) (now (held .entry)) (now (retained .entry)) writers work store) (some (lock (transactionOf t) (recordOf r))) a (arrays up parent depth (now (line .entry)) (now (held .exit)) (now (retained .entry)) writers work store)) ⌝ }
+    requires { ⌜ (length (now held) ≡ 32) ⌝ }
+    ensures { λ a. ⌜ ((up : ℕ) (parent depth writers work store : List ℕ) → Intact (arrays up parent depth (now (line .entry)) (now (held .entry)) (now (retained .entry)) writers work store) → Ready (arrays up parent depth (now (line .entry)) (now (held .entry)) (now (retained .entry)) writers work store) (transactionOf t) → Stepped (arrays up parent depth (now (line .entry)) (now (held .entry)) (now (retained .entry)) writers work store) (some (lock (transactionOf t) (recordOf r) (accessWhen reading))) a (arrays up parent depth (now (line .entry)) (now (held .exit)) (now (retained .entry)) writers work store)) ⌝ }
 {
     let n = t.number();
     let q = r.index();
-    let ok = locks::lock(line, held, retained, n, q);
+    let ok = locks::lock(line, held, retained, n, q, reading);
     if ok {
         return Answer {
             number: 0,
@@ -58,11 +60,11 @@ pub fn lock_event(
     }
 }
 
-// A byte is read: the lock must be held by that very transaction.
+// A byte is read: the lock must be held by that very transaction, in any mode.
 pub fn read_event(
     parent: &[u8; 24],
     depth: &[u8; 24],
-    held: &[u32; 16],
+    held: &[u32; 32],
     writers: &[u32; 16],
     work: &[u8],
     store: &[u8],
@@ -75,7 +77,7 @@ pub fn read_event(
 {
     let n = t.number();
     let q = r.index();
-    if sets::contains(held[q], n) {
+    if locks::holds(held, n, q) {
         return Answer {
             number: 0,
             value: slots::read(parent, depth, writers, work, store, n, q, o),
@@ -87,11 +89,11 @@ pub fn read_event(
     }
 }
 
-// A byte is written, into the transaction's own version.
+// A byte is written, into the transaction's own version: the lock must be held by that very transaction, in write mode.
 pub fn write_event(
     parent: &[u8; 24],
     depth: &[u8; 24],
-    held: &[u32; 16],
+    held: &[u32; 32],
     writers: &mut [u32; 16],
     work: &mut [u8],
     store: &[u8],
@@ -105,7 +107,7 @@ pub fn write_event(
 {
     let n = t.number();
     let i = r.index();
-    if sets::contains(held[i], n) {
+    if locks::holds_writing(held, n, i) {
         slots::write(parent, depth, writers, work, store, n, i, o, v);
         return Answer {
             number: 0,
@@ -187,18 +189,18 @@ fn fall(
     parent: &mut [u8; 24],
     depth: &mut [u8; 24],
     line: &mut [u32; 24],
-    held: &mut [u32; 16],
-    retained: &mut [u32; 16],
+    held: &mut [u32; 32],
+    retained: &mut [u32; 32],
     writers: &mut [u32; 16],
 )
-    ensures { λ _. ⌜ (now (up .exit) ≡ 0) × (now (parent .exit) ≡ replicate 24 0) × (now (depth .exit) ≡ replicate 24 0) × (now (line .exit) ≡ replicate 24 0) × (now (held .exit) ≡ replicate 16 0) × (now (retained .exit) ≡ replicate 16 0) × (now (writers .exit) ≡ replicate 16 0) ⌝ }
+    ensures { λ _. ⌜ (now (up .exit) ≡ 0) × (now (parent .exit) ≡ replicate 24 0) × (now (depth .exit) ≡ replicate 24 0) × (now (line .exit) ≡ replicate 24 0) × (now (held .exit) ≡ replicate 32 0) × (now (retained .exit) ≡ replicate 32 0) × (now (writers .exit) ≡ replicate 16 0) ⌝ }
 {
     *up = 0;
     *parent = [0; 24];
     *depth = [0; 24];
     *line = [0; 24];
-    *held = [0; 16];
-    *retained = [0; 16];
+    *held = [0; 32];
+    *retained = [0; 32];
     *writers = [0; 16];
 }
 
@@ -208,8 +210,8 @@ pub fn crash_event(
     parent: &mut [u8; 24],
     depth: &mut [u8; 24],
     line: &mut [u32; 24],
-    held: &mut [u32; 16],
-    retained: &mut [u32; 16],
+    held: &mut [u32; 32],
+    retained: &mut [u32; 32],
     writers: &mut [u32; 16],
 ) -> Answer
     ensures { λ a. ⌜ ((work store : List ℕ) → Intact (arrays (now (up .entry)) (now (parent .entry)) (now (depth .entry)) (now (line .entry)) (now (held .entry)) (now (retained .entry)) (now (writers .entry)) work store) → Stepped (arrays (now (up .entry)) (now (parent .entry)) (now (depth .entry)) (now (line .entry)) (now (held .entry)) (now (retained .entry)) (now (writers .entry)) work store) (some (crash)) a (arrays (now (up .exit)) (now (parent .exit)) (now (depth .exit)) (now (line .exit)) (now (held .exit)) (now (retained .exit)) (now (writers .exit)) work store)) ⌝ }
@@ -227,15 +229,15 @@ fn commit_top(
     parent: &mut [u8; 24],
     depth: &mut [u8; 24],
     line: &mut [u32; 24],
-    held: &mut [u32; 16],
-    retained: &mut [u32; 16],
+    held: &mut [u32; 32],
+    retained: &mut [u32; 32],
     writers: &mut [u32; 16],
     work: &[u8],
     store: &mut [u8],
     t: u8,
     k: u8,
 ) -> Answer
-    requires { ⌜ (t < 24) × (length (now parent) ≡ 24) × (length (now depth) ≡ 24) × (length (now line) ≡ 24) × (length (now held) ≡ 16) × (length (now retained) ≡ 16) × (length (now writers) ≡ 16) × (length (now work) ≡ workBytes) × (length (now store) ≡ 1056) ⌝ }
+    requires { ⌜ (t < 24) × (length (now parent) ≡ 24) × (length (now depth) ≡ 24) × (length (now line) ≡ 24) × (length (now held) ≡ 32) × (length (now retained) ≡ 32) × (length (now writers) ≡ 16) × (length (now work) ≡ workBytes) × (length (now store) ≡ 1056) ⌝ }
     ensures { λ a. ⌜ (Intact (arrays (now (up .entry)) (now (parent .entry)) (now (depth .entry)) (now (line .entry)) (now (held .entry)) (now (retained .entry)) (now (writers .entry)) (now (work .entry)) (now (store .entry))) → Ready (arrays (now (up .entry)) (now (parent .entry)) (now (depth .entry)) (now (line .entry)) (now (held .entry)) (now (retained .entry)) (now (writers .entry)) (now (work .entry)) (now (store .entry))) t → hasChild (view (arrays (now (up .entry)) (now (parent .entry)) (now (depth .entry)) (now (line .entry)) (now (held .entry)) (now (retained .entry)) (now (writers .entry)) (now (work .entry)) (now (store .entry)))) t ≡ false → getD (now (depth .entry)) t 0 ≡ 1 → Stepped (arrays (now (up .entry)) (now (parent .entry)) (now (depth .entry)) (now (line .entry)) (now (held .entry)) (now (retained .entry)) (now (writers .entry)) (now (work .entry)) (now (store .entry))) (some (commit t k)) a (arrays (now (up .exit)) (now (parent .exit)) (now (depth .exit)) (now (line .exit)) (now (held .exit)) (now (retained .exit)) (now (writers .exit)) (now (work .entry)) (now (store .exit)))) ⌝ }
 {
     let map = commitpage::map_of(writers, t);
@@ -261,14 +263,14 @@ fn commit_child(
     parent: &mut [u8; 24],
     depth: &mut [u8; 24],
     line: &mut [u32; 24],
-    held: &mut [u32; 16],
-    retained: &mut [u32; 16],
+    held: &mut [u32; 32],
+    retained: &mut [u32; 32],
     writers: &mut [u32; 16],
     work: &mut [u8],
     t: u8,
     d: u8,
 ) -> Answer
-    requires { ⌜ (t < 24) × (length (now parent) ≡ 24) × (length (now depth) ≡ 24) × (length (now line) ≡ 24) × (length (now held) ≡ 16) × (length (now retained) ≡ 16) × (length (now writers) ≡ 16) × (length (now work) ≡ workBytes) × (1 < d) × (d ≡ getD (now depth) t 0) × Sources (now parent) (now depth) ⌝ }
+    requires { ⌜ (t < 24) × (length (now parent) ≡ 24) × (length (now depth) ≡ 24) × (length (now line) ≡ 24) × (length (now held) ≡ 32) × (length (now retained) ≡ 32) × (length (now writers) ≡ 16) × (length (now work) ≡ workBytes) × (1 < d) × (d ≡ getD (now depth) t 0) × Sources (now parent) (now depth) ⌝ }
     ensures { λ a. ⌜ ((up : ℕ) (k : ℕ) (store : List ℕ) → Intact (arrays up (now (parent .entry)) (now (depth .entry)) (now (line .entry)) (now (held .entry)) (now (retained .entry)) (now (writers .entry)) (now (work .entry)) store) → Ready (arrays up (now (parent .entry)) (now (depth .entry)) (now (line .entry)) (now (held .entry)) (now (retained .entry)) (now (writers .entry)) (now (work .entry)) store) t → hasChild (view (arrays up (now (parent .entry)) (now (depth .entry)) (now (line .entry)) (now (held .entry)) (now (retained .entry)) (now (writers .entry)) (now (work .entry)) store)) t ≡ false → Stepped (arrays up (now (parent .entry)) (now (depth .entry)) (now (line .entry)) (now (held .entry)) (now (retained .entry)) (now (writers .entry)) (now (work .entry)) store) (some (commit t k)) a (arrays up (now (parent .exit)) (now (depth .exit)) (now (line .exit)) (now (held .exit)) (now (retained .exit)) (now (writers .exit)) (now (work .exit)) store)) ⌝ }
 {
     let p = parent[t as usize];
@@ -287,15 +289,15 @@ pub fn commit_event(
     parent: &mut [u8; 24],
     depth: &mut [u8; 24],
     line: &mut [u32; 24],
-    held: &mut [u32; 16],
-    retained: &mut [u32; 16],
+    held: &mut [u32; 32],
+    retained: &mut [u32; 32],
     writers: &mut [u32; 16],
     work: &mut [u8],
     store: &mut [u8],
     t: TransactionNumber,
     k: u8,
 ) -> Answer
-    requires { ⌜ (length (now parent) ≡ 24) × (length (now depth) ≡ 24) × (length (now line) ≡ 24) × (length (now held) ≡ 16) × (length (now retained) ≡ 16) × (length (now writers) ≡ 16) × (length (now work) ≡ workBytes) × (length (now store) ≡ 1056) × (0 < getD (now depth) (transactionOf t) 0) × Sources (now parent) (now depth) ⌝ }
+    requires { ⌜ (length (now parent) ≡ 24) × (length (now depth) ≡ 24) × (length (now line) ≡ 24) × (length (now held) ≡ 32) × (length (now retained) ≡ 32) × (length (now writers) ≡ 16) × (length (now work) ≡ workBytes) × (length (now store) ≡ 1056) × (0 < getD (now depth) (transactionOf t) 0) × Sources (now parent) (now depth) ⌝ }
     ensures { λ a. ⌜ (Intact (arrays (now (up .entry)) (now (parent .entry)) (now (depth .entry)) (now (line .entry)) (now (held .entry)) (now (retained .entry)) (now (writers .entry)) (now (work .entry)) (now (store .entry))) → Ready (arrays (now (up .entry)) (now (parent .entry)) (now (depth .entry)) (now (line .entry)) (now (held .entry)) (now (retained .entry)) (now (writers .entry)) (now (work .entry)) (now (store .entry))) (transactionOf t) → Stepped (arrays (now (up .entry)) (now (parent .entry)) (now (depth .entry)) (now (line .entry)) (now (held .entry)) (now (retained .entry)) (now (writers .entry)) (now (work .entry)) (now (store .entry))) (some (commit (transactionOf t) k)) a (arrays (now (up .exit)) (now (parent .exit)) (now (depth .exit)) (now (line .exit)) (now (held .exit)) (now (retained .exit)) (now (writers .exit)) (now (work .exit)) (now (store .exit)))) ⌝ }
 {
     let n = t.number();
@@ -329,12 +331,12 @@ pub fn abort_event(
     parent: &mut [u8; 24],
     depth: &mut [u8; 24],
     line: &mut [u32; 24],
-    held: &mut [u32; 16],
-    retained: &mut [u32; 16],
+    held: &mut [u32; 32],
+    retained: &mut [u32; 32],
     writers: &mut [u32; 16],
     t: TransactionNumber,
 ) -> Answer
-    requires { ⌜ (length (now parent) ≡ 24) × (length (now depth) ≡ 24) × (length (now line) ≡ 24) × (length (now held) ≡ 16) × (length (now retained) ≡ 16) × (length (now writers) ≡ 16) ⌝ }
+    requires { ⌜ (length (now parent) ≡ 24) × (length (now depth) ≡ 24) × (length (now line) ≡ 24) × (length (now held) ≡ 32) × (length (now retained) ≡ 32) × (length (now writers) ≡ 16) ⌝ }
     ensures { λ a. ⌜ ((up : ℕ) (work store : List ℕ) → Intact (arrays up (now (parent .entry)) (now (depth .entry)) (now (line .entry)) (now (held .entry)) (now (retained .entry)) (now (writers .entry)) work store) → Ready (arrays up (now (parent .entry)) (now (depth .entry)) (now (line .entry)) (now (held .entry)) (now (retained .entry)) (now (writers .entry)) work store) (transactionOf t) → Stepped (arrays up (now (parent .entry)) (now (depth .entry)) (now (line .entry)) (now (held .entry)) (now (retained .entry)) (now (writers .entry)) work store) (some (abort (transactionOf t))) a (arrays up (now (parent .exit)) (now (depth .exit)) (now (line .exit)) (now (held .exit)) (now (retained .exit)) (now (writers .exit)) work store)) ⌝ }
 {
     let n = t.number();

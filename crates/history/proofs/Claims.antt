@@ -84,7 +84,7 @@ module _ (f : Form) (M : MediumLaws (f .geometry) (f .medium)) where
   act-settled : (s : StateOf f) (e : Event) → isRestart (some e) ≡ true → (r : ℕ) → now f (act f s e .state) r ≡ now f s r
   unfolding isRestart act finished down recovers
   act-settled s (begin p) k r = absurd (false≢true k)
-  act-settled s (lock t q) k r = absurd (false≢true k)
+  act-settled s (lock t q a) k r = absurd (false≢true k)
   act-settled s (write t q o v) k r = absurd (false≢true k)
   act-settled s (read t q o) k r = absurd (false≢true k)
   act-settled s (commit t n) k r = absurd (false≢true k)

@@ -131,7 +131,7 @@ module _ (f : Form) {s : StateOf f} (S : Sound f s) (φ : Root → Root) where
   fair-act : (e : Event) → refusal f s e ≡ none → Keeps e (act f s e)
   unfolding act finished locked wrote endedState down firstFree
   fair-act (begin p) q F = fair-begin p (firstFree s) (begin-ok f s p q .unborne) F
-  fair-act (lock t r) q F = F
+  fair-act (lock t r a) q F = F
   fair-act (write t r o v) q F = F
   fair-act (read t r o) q F = F
   fair-act (commit x k) q F = fair-commit x (commit-ok f s x k q) k (line x) refl F

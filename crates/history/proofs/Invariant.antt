@@ -57,7 +57,7 @@ module _ (f : Form) where
   -- what an accepted event does to the labels
   abbrev pub turnBy : StateOf f → Event → Answer → Root → Root
   turnBy s (begin p) a c = c
-  turnBy s (lock t r) a c = c
+  turnBy s (lock t r access) a c = c
   turnBy s (write t r o v) a c = c
   turnBy s (read t r o) a c = c
   turnBy s (commit x k) a c = commitTurn x (lineOf (s .bearer) x) (suffices a (changedOf s x)) c
@@ -213,7 +213,7 @@ module _ (f : Form) (M : MediumLaws (f .geometry) (f .medium)) {start : ℕ → 
   act-any : (e : Event) → refusal f s e ≡ none → Acted e (act f s e)
   unfolding act finished told effectOf effect after locked down valueOf firstFree
   act-any (begin p) q = act-begin p (begin-ok f s p q)
-  act-any (lock t r) q = record { root′ = root; turned = λ i k. refl; grown = omega arith; tells = H }
+  act-any (lock t r a) q = record { root′ = root; turned = λ i k. refl; grown = omega arith; tells = H }
   act-any (write t r o v) q = act-write t r o v (write-ok f s t r o v q)
   act-any (read t r o) q = nothing-done (λ c. refl)
   act-any (commit x k) q = act-commit x (commit-ok f s x k q) k (lineOf (s .bearer) x) refl

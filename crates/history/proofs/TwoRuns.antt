@@ -9,7 +9,7 @@ use Rattle.laws.proofs.Booleans.{clash}
 use Rattle.rules.specs.Geometry.{Geometry}
 use Rattle.rules.specs.Store.{Page}
 use Rattle.rules.specs.Event.{Event, begin, lock, write, read, commit, abort, crash, recover, decode}
-use Rattle.rules.specs.State.{lineOf, Versions, live, holds, down}
+use Rattle.rules.specs.State.{lineOf, Versions, live, holds, holdsWriting, down}
 use Rattle.rules.specs.Form.{Form}
 use Rattle.rules.specs.Step.{Answer, numberOf, valueOf, StateOf, hasChild, firstFree, begun, locked, finished, refusals, refusal, commitsChild, commits, act, judged, step}
 use Rattle.rules.specs.Run.{play}
@@ -44,7 +44,7 @@ module _ (f : Form) (M : MediumLaws (f .geometry) (f .medium)) {s : StateOf f} (
       → Next f M (before (some e) (o .answer)) φ (some e) o (act f (swap f s ver d) e)
   unfolding act finished begun locked firstFree live down
   twin-act (begin p) q F W = record { ver = ver; store = d; stands = refl; twin = record { shape = W .shape; alike = W .alike; stores = W .stores }; echo = same-answer refl }
-  twin-act (lock t r) q F W = record { ver = ver; store = d; stands = refl; twin = record { shape = W .shape; alike = W .alike; stores = W .stores }; echo = same-answer refl }
+  twin-act (lock t r a) q F W = record { ver = ver; store = d; stands = refl; twin = record { shape = W .shape; alike = W .alike; stores = W .stores }; echo = same-answer refl }
   twin-act (write t r o v) q F W = twin-write f M S F W t r o v v (write-ok f s t r o v q .up) (λ e. refl)
   twin-act (read t r o) q F W = twin-read f M S F W t r o (read-ok f s t r o q .up)
   twin-act (commit x k) q F W = twin-commit x k (commit-ok f s x k q) (lineOf (s .bearer) x) refl _ W
@@ -54,9 +54,9 @@ module _ (f : Form) (M : MediumLaws (f .geometry) (f .medium)) {s : StateOf f} (
 
   -- control looks at no version and no page but the commit page
   same-refusal : (e : Event) → M .Agree (s .store) d → refusal f (swap f s ver d) e ≡ refusal f s e
-  unfolding refusal refusals live holds hasChild
+  unfolding refusal refusals live holds holdsWriting hasChild
   same-refusal (begin p) A = refl
-  same-refusal (lock t r) A = refl
+  same-refusal (lock t r a) A = refl
   same-refusal (write t r o v) A = refl
   same-refusal (read t r o) A = refl
   same-refusal (commit x k) A = refl
@@ -66,7 +66,7 @@ module _ (f : Form) (M : MediumLaws (f .geometry) (f .medium)) {s : StateOf f} (
 
   -- nor at the value of a write
   same-refusal-value : (t r o v w : ℕ) → refusal f (swap f s ver d) (write t r o w) ≡ refusal f s (write t r o v)
-  unfolding refusal refusals live holds
+  unfolding refusal refusals live holdsWriting
   same-refusal-value t r o v w = refl
 
   twin-step : (e e′ : Option Event) → let o = step f s e in Fair (lineOf (s .bearer)) (before e (o .answer)) → Twin f M (before e (o .answer)) s ver d

@@ -22,7 +22,7 @@ seenBy h t i = survives h i || isWithin h (standsWith h i) (h .bearer t)
 unfoldable pub isRestart : Option Event → Bool
 isRestart none = false
 isRestart (some (begin p)) = false
-isRestart (some (lock t r)) = false
+isRestart (some (lock t r a)) = false
 isRestart (some (write t r o v)) = false
 isRestart (some (read t r o)) = false
 isRestart (some (commit t k)) = false

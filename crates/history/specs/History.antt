@@ -48,7 +48,7 @@ accepted (cut v) = true
 -- the transaction number that an event names; a crash and a recover name none
 unfoldable pub names : Event → Option ℕ
 names (begin p) = some p
-names (lock t r) = some t
+names (lock t r access) = some t
 names (write t r o v) = some t
 names (read t r o) = some t
 names (commit t k) = some t
@@ -156,7 +156,7 @@ suffices (cut v) n = under n v
 -- the table: a row for each kind of event, with its answer
 unfoldable pub effect : Event → Answer → Effect
 effect (begin p) a = begins p (valueOf a)
-effect (lock t r) a = nothing
+effect (lock t r access) a = nothing
 effect (write t r o v) a = writes t r o v
 effect (read t r o) a = nothing
 effect (commit t k) a = commits t (suffices a)

@@ -8,7 +8,7 @@ use Rattle.laws.specs.Tests.{same}
 use Rattle.laws.specs.Bytes.{sameList}
 use Rattle.rules.specs.Geometry.{nobody}
 use Rattle.rules.specs.Store.{blank}
-use Rattle.rules.specs.Event.{Event, begin, lock, write, read, commit, abort, recover}
+use Rattle.rules.specs.Event.{toWrite, Event, begin, lock, write, read, commit, abort, recover}
 use Rattle.rules.specs.Step.{Answer, done, refused, cut}
 use Rattle.history.specs.History.{Fate, bearing, committed, stored, ended, History, nothingYet, survives, overlaid, told}
 
@@ -60,14 +60,18 @@ allPass (t ∷ ts) = passes t && allPass ts
 abbrev ok : Answer
 ok = done 0
 
+-- a lock to write
+abbrev locks : ℕ → ℕ → Event
+locks t r = lock t r toWrite
+
 abbrev pub trials : List Trial
 trials =
     -- document 01's list in full
     record {
       lines =
-          (recover 63, ok) ∷ (begin nobody, done 0) ∷ (begin 0, done 1) ∷ (lock 1 3, ok) ∷ (write 1 3 2 165, ok) ∷ (commit 1 63, ok) ∷
-          (begin 0, done 1) ∷ (lock 1 3, ok) ∷ (write 1 3 2 17, ok) ∷ (abort 1, ok) ∷ (commit 0 2, cut 2) ∷ (read 0 3 2, refused 2) ∷
-          (recover 63, done 2) ∷ (begin nobody, done 0) ∷ (lock 0 3, ok) ∷ (read 0 3 2, done 165) ∷ [];
+          (recover 63, ok) ∷ (begin nobody, done 0) ∷ (begin 0, done 1) ∷ (locks 1 3, ok) ∷ (write 1 3 2 165, ok) ∷ (commit 1 63, ok) ∷
+          (begin 0, done 1) ∷ (locks 1 3, ok) ∷ (write 1 3 2 17, ok) ∷ (abort 1, ok) ∷ (commit 0 2, cut 2) ∷ (read 0 3 2, refused 2) ∷
+          (recover 63, done 2) ∷ (begin nobody, done 0) ∷ (locks 0 3, ok) ∷ (read 0 3 2, done 165) ∷ [];
       fates = 3 ∷ 2 ∷ 4 ∷ 1 ∷ [];
       survivors = 1 ∷ 2 ∷ [];
       place = (3, 2);
@@ -75,14 +79,14 @@ trials =
     } ∷
     -- one record changed: cut after 1 page write it is lost, after 2 it survives
     record {
-      lines = (recover 63, ok) ∷ (begin nobody, done 0) ∷ (lock 0 3, ok) ∷ (write 0 3 2 7, ok) ∷ (commit 0 1, cut 1) ∷ [];
+      lines = (recover 63, ok) ∷ (begin nobody, done 0) ∷ (locks 0 3, ok) ∷ (write 0 3 2 7, ok) ∷ (commit 0 1, cut 1) ∷ [];
       fates = 4 ∷ [];
       survivors = [];
       place = (3, 2);
       byte = 0;
     } ∷
     record {
-      lines = (recover 63, ok) ∷ (begin nobody, done 0) ∷ (lock 0 3, ok) ∷ (write 0 3 2 7, ok) ∷ (commit 0 2, cut 2) ∷ [];
+      lines = (recover 63, ok) ∷ (begin nobody, done 0) ∷ (locks 0 3, ok) ∷ (write 0 3 2 7, ok) ∷ (commit 0 2, cut 2) ∷ [];
       fates = 3 ∷ [];
       survivors = 1 ∷ [];
       place = (3, 2);
@@ -91,7 +95,7 @@ trials =
     -- n leaves out what an aborted child wrote, and counts what a committed one wrote
     record {
       lines =
-          (recover 63, ok) ∷ (begin nobody, done 0) ∷ (lock 0 3, ok) ∷ (write 0 3 2 7, ok) ∷ (begin 0, done 1) ∷ (lock 1 4, ok) ∷
+          (recover 63, ok) ∷ (begin nobody, done 0) ∷ (locks 0 3, ok) ∷ (write 0 3 2 7, ok) ∷ (begin 0, done 1) ∷ (locks 1 4, ok) ∷
           (write 1 4 2 9, ok) ∷ (abort 1, ok) ∷ (commit 0 2, cut 2) ∷ [];
       fates = 3 ∷ 4 ∷ [];
       survivors = 1 ∷ [];
@@ -100,7 +104,7 @@ trials =
     } ∷
     record {
       lines =
-          (recover 63, ok) ∷ (begin nobody, done 0) ∷ (lock 0 3, ok) ∷ (write 0 3 2 7, ok) ∷ (begin 0, done 1) ∷ (lock 1 4, ok) ∷
+          (recover 63, ok) ∷ (begin nobody, done 0) ∷ (locks 0 3, ok) ∷ (write 0 3 2 7, ok) ∷ (begin 0, done 1) ∷ (locks 1 4, ok) ∷
           (write 1 4 2 9, ok) ∷ (commit 1 63, ok) ∷ (commit 0 2, cut 2) ∷ [];
       fates = 4 ∷ 2 ∷ [];
       survivors = [];
@@ -117,7 +121,7 @@ trials =
       byte = 0;
     } ∷
     record {
-      lines = (recover 63, ok) ∷ (begin nobody, done 0) ∷ (begin 0, done 1) ∷ (lock 1 3, ok) ∷ (write 1 3 2 7, ok) ∷ (commit 1 63, ok) ∷ (abort 0, ok) ∷ [];
+      lines = (recover 63, ok) ∷ (begin nobody, done 0) ∷ (begin 0, done 1) ∷ (locks 1 3, ok) ∷ (write 1 3 2 7, ok) ∷ (commit 1 63, ok) ∷ (abort 0, ok) ∷ [];
       fates = 4 ∷ 2 ∷ [];
       survivors = [];
       place = (3, 2);
@@ -126,7 +130,7 @@ trials =
     -- a cut ends the other top transactions too; a refusal ends none
     record {
       lines =
-          (recover 63, ok) ∷ (begin nobody, done 0) ∷ (begin nobody, done 1) ∷ (lock 0 3, ok) ∷ (write 0 3 2 7, ok) ∷ (write 0 3 2 8, ok) ∷
+          (recover 63, ok) ∷ (begin nobody, done 0) ∷ (begin nobody, done 1) ∷ (locks 0 3, ok) ∷ (write 0 3 2 7, ok) ∷ (write 0 3 2 8, ok) ∷
           (commit 0 3, cut 3) ∷ (recover 0, cut 0) ∷ (recover 63, done 2) ∷ (begin nobody, done 0) ∷ (begin 0, done 1) ∷ (commit 0 63, refused 10) ∷ [];
       fates = 3 ∷ 4 ∷ 1 ∷ 1 ∷ [];
       survivors = 1 ∷ [];

@@ -1,18 +1,13 @@
 -- The tests and the change of a grant, as sets.
-use mathlib.Core.Path.{_≡_, refl, sym, ap, ap₂, _∙_, fun-ext}
-use mathlib.Core.Bool.{Bool, true, false, not, cond, _&&_, _||_, or-false}
-use mathlib.Core.List.{List}
-use Prim.Native.Nat.{ℕ, _<_}
-use lib.ListN.{length, set}
+use mathlib.Core.Path.{_≡_, ap, ap₂, _∙_}
+use mathlib.Core.Bool.{Bool, not, _&&_, _||_}
+use Prim.Native.Nat.{ℕ}
 use Rattle.laws.specs.Tests.{same}
 use Rattle.laws.specs.Counting.{all}
-use Rattle.laws.specs.Functions.{updated}
 use Rattle.laws.specs.Bits.{bits}
-use Rattle.laws.proofs.Tests.{same?, Same, is, isnt}
 use Rattle.sets.specs.Sets.{sets}
-use Rattle.sets.proofs.Sets.{sets-set}
 use Rattle.arrays.specs.View.{Owners}
-use Rattle.arrays.specs.Changes.{openTo, joined}
+use Rattle.arrays.specs.Changes.{openTo}
 
 pub open-is : (line : ℕ → Bool) (holds retains : Owners) (t r one : ℕ) (a b : Bool) → bits one ≡ (λ k. same k t)
     → a ≡ all 24 (λ k. not (holds r k) || bits one k) → b ≡ all 24 (λ k. not (retains r k) || line k)

@@ -4,11 +4,12 @@ use mathlib.Core.Bool.{Bool, cond}
 use mathlib.Core.List.{List}
 use Prim.Native.Nat.{ℕ}
 use lib.ListN.{length}
+use Rattle.rules.specs.Event.{Access}
 use Rattle.sets.specs.Sets.{sets}
-use Rattle.arrays.specs.Changes.{openTo, joined}
+use Rattle.arrays.specs.Changes.{barring, openTo, joinedFor}
 
 -- t, whose line is given, asks for the lock of r
-pub record Granting (line : ℕ → Bool) (held retained : List ℕ) (t r : ℕ) (answer : Bool) (after : List ℕ) : Type 0 where
-  pub says : answer ≡ openTo (sets held) (sets retained) line t r
-  pub does : sets after ≡ cond answer (joined t r (sets held)) (sets held)
-  pub long : length after ≡ 16
+pub record Granting (a : Access) (line : ℕ → Bool) (held retained : List ℕ) (t r : ℕ) (answer : Bool) (after : List ℕ) : Type 0 where
+  pub says : answer ≡ openTo (sets held) (sets retained) line t (barring a r)
+  pub does : sets after ≡ cond answer (joinedFor a t r (sets held)) (sets held)
+  pub long : length after ≡ 32

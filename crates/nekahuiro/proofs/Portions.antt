@@ -57,6 +57,8 @@ module _ (e : Engine) (work store : List ℕ) where
       lines = N .lines;
       flag = N .flag;
       tidy = N .tidy;
+      held-nested = N .held-nested;
+      retained-nested = N .retained-nested;
       parents = Z .parents;
       depths = Z .depths;
       long = Z .lines;
@@ -70,7 +72,14 @@ module _ (e : Engine) (work store : List ℕ) where
 
   pub encoded-of : Intact (whole e work store) → Encodes
   unfolding events.view lineIn
-  encoded-of I = record { sound = I .sound; lines = I .form .lines; flag = I .form .flag; tidy = I .form .tidy }
+  encoded-of I = record {
+    sound = I .sound;
+    lines = I .form .lines;
+    flag = I .form .flag;
+    tidy = I .form .tidy;
+    held-nested = I .form .held-nested;
+    retained-nested = I .form .retained-nested;
+  }
 
   pub sizes-of : Formed (whole e work store) → Sizes
   sizes-of F = record { parents = F .parents; depths = F .depths; lines = F .long; helds = F .helds; retaineds = F .retaineds; writerss = F .writerss; stores = F .stores }

@@ -27,7 +27,8 @@ view x = events.view (whole (x .engine) (x .work) (x .store))
 abbrev pub bytes : Kept → List ℕ
 bytes x = x .store
 
--- Written as a state is: the lengths are right, the lines are those of the parents and depths, and what stands for nothing is 0.
+-- Written as a state is: the lengths are right, the lines are those of the parents and depths, who has a lock in write mode has it, and what stands
+-- for nothing is 0.
 pub record Proper (x : Kept) : Type 0 where
   pub form : Formed (whole (x .engine) (x .work) (x .store))
   pub bare : x .engine .spare ≡ replicate 3 0
@@ -45,8 +46,8 @@ Portioned-as x events answers answer y answers′ = Promised edition1 view bytes
 abbrev pub zeros : Engine
 zeros = record {
   line = replicate 24 0;
-  held = replicate 16 0;
-  retained = replicate 16 0;
+  held = replicate 32 0;
+  retained = replicate 32 0;
   writers = replicate 16 0;
   parent = replicate 24 0;
   depth = replicate 24 0;

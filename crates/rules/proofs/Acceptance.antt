@@ -13,12 +13,13 @@ use Rattle.laws.proofs.Tests.{same-eq, same-refl}
 use Rattle.laws.proofs.Booleans.{or-cases, not-false}
 use Rattle.laws.proofs.Counting.{lowest-fails}
 use Rattle.rules.specs.Geometry.{transactions, nobody}
-use Rattle.rules.specs.Event.{Event, begin, lock, write, read, commit, abort, crash, recover}
-use Rattle.rules.specs.State.{depthIn, lineOf, State, live, holds}
+use Rattle.rules.specs.Event.{Event, Access, begin, lock, write, read, commit, abort, crash, recover}
+use Rattle.rules.specs.State.{depthIn, lineOf, State, live, holds, holdsWriting}
 use Rattle.rules.specs.Locks.{grantable}
 use Rattle.rules.specs.Commit.{Cut}
 use Rattle.rules.specs.Form.{Form}
 use Rattle.rules.specs.Step.{done, refused, firstOf, hasChild, firstFree, StateOf, OutcomeOf, refusals, refusal, ended, raised, concluded, finished, visible, commitsTop, commitsChild, commits, recovers, act, judged, step}
+use Rattle.rules.proofs.Grades.{writeMode, graded-lock}
 
 -- a test that did not refuse
 pub pass : (n : ℕ) (b : Bool) (rest : List (ℕ × Bool)) → firstOf ((n, b) ∷ rest) ≡ none → (b ≡ false) × (firstOf rest ≡ none)
@@ -41,17 +42,18 @@ first-number (x ∷ xs) n h e = go (x .1) e (λ q. first-number xs n (h .2) q)
     go false e rest = rest e
 
 module _ {S : Type 0} where
-  -- a lock: the state is up, t is live, and the rule grants r
-  pub record LockOk (s : State S) (t r : ℕ) : Type 0 where
+  -- a lock: the state is up, t is live, and the rule grants r for the access
+  pub record LockOk (s : State S) (t r : ℕ) (a : Access) : Type 0 where
     pub up : s .up ≡ true
     pub alive : live s t ≡ true
-    pub grant : grantable (s .held) (s .retained) (lineOf (s .bearer) t) t r ≡ true
+    pub grant : grantable a (s .held) (s .retained) (lineOf (s .bearer) t) t r ≡ true
 
-  -- a write, a read: up, live, and t holds r
+  -- a write: up, live, and t holds r in write mode; a read: in any mode
   pub record WriteOk (s : State S) (t r : ℕ) : Type 0 where
     pub up : s .up ≡ true
     pub alive : live s t ≡ true
     pub held : holds s r t ≡ true
+    pub writing : holdsWriting s r t ≡ true
 
   pub record ReadOk (s : State S) (t r : ℕ) : Type 0 where
     pub up : s .up ≡ true
@@ -98,21 +100,22 @@ module _ (f : Form) (s : StateOf f) where
         unborne = free .0;
       }
 
-  pub lock-ok : (t r : ℕ) → refusal f s (lock t r) ≡ none → LockOk s t r
+  pub lock-ok : (t r : ℕ) (a : Access) → refusal f s (lock t r a) ≡ none → LockOk s t r a
   unfolding refusal refusals
-  lock-ok t r e =
+  lock-ok t r access e =
       let a = pass 2 (not (s .up)) _ e in
       let b = pass 5 (not (live s t)) _ (a .1) in
-      let c = pass 8 (not (grantable (s .held) (s .retained) (lineOf (s .bearer) t) t r)) _ (b .1) in
+      let c = pass 8 (not (grantable access (s .held) (s .retained) (lineOf (s .bearer) t) t r)) _ (b .1) in
       record { up = not-false _ (a .0); alive = not-false _ (b .0); grant = not-false _ (c .0) }
 
   pub write-ok : (t r o v : ℕ) → refusal f s (write t r o v) ≡ none → WriteOk s t r
-  unfolding refusal refusals
+  unfolding refusal refusals holds holdsWriting
   write-ok t r o v e =
       let a = pass 2 (not (s .up)) _ e in
       let b = pass 5 (not (live s t)) _ (a .1) in
-      let c = pass 9 (not (holds s r t)) _ (b .1) in
-      record { up = not-false _ (a .0); alive = not-false _ (b .0); held = not-false _ (c .0) }
+      let c = pass 9 (not (holdsWriting s r t)) _ (b .1) in
+      let w = not-false (holdsWriting s r t) (c .0) in
+      record { up = not-false _ (a .0); alive = not-false _ (b .0); held = graded-lock writeMode (s .held r t) w; writing = w }
 
   pub read-ok : (t r o : ℕ) → refusal f s (read t r o) ≡ none → ReadOk s t r
   unfolding refusal refusals
@@ -166,7 +169,7 @@ module _ (f : Form) (s : StateOf f) where
   pub act-answer : (e : Event) (n : ℕ) → act f s e .answer ≡ refused n → ⊥
   unfolding act finished recovers
   act-answer (begin p) n e = done-answer (firstFree s) n e
-  act-answer (lock t r) n e = done-answer 0 n e
+  act-answer (lock t r a) n e = done-answer 0 n e
   act-answer (write t r o v) n e = done-answer 0 n e
   act-answer (read t r o) n e = done-answer (getD (visible f s t r) o 0) n e
   act-answer (commit t k) n e = commits-answer t k (lineOf (s .bearer) t) n e
@@ -210,7 +213,7 @@ module _ (f : Form) (s : StateOf f) where
   tabled : (e : Event) → Numbered (refusals f s e)
   unfolding refusals
   tabled (begin p) = omega arith
-  tabled (lock t r) = omega arith
+  tabled (lock t r a) = omega arith
   tabled (write t r o v) = omega arith
   tabled (read t r o) = omega arith
   tabled (commit t k) = omega arith

@@ -2,9 +2,11 @@
 pub mod Medium
 pub mod Tree
 pub mod Bearers
+pub mod Grades
 pub mod Acceptance
 pub mod Locks
 pub mod Owners
+pub mod Again
 pub mod Parts
 pub mod Soundness
 pub mod Portions
@@ -18,6 +20,7 @@ pub mod Shows
 pub mod Cuts
 pub mod Pages
 pub mod AtomicPages
+pub mod Words
 pub mod Event
 pub mod Durability
 pub mod Fresh

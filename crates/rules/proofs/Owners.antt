@@ -1,182 +1,226 @@
--- The laws of locks and versions are kept: by a lock that is granted, by a version made under it, when transactions end, and when a child
--- commits into its parent.
+-- The laws of locks and versions are kept: by a lock that is granted, by a version made under it, when transactions end, and when one leaves
+-- its locks to its parent. What becomes of modes is shown once for every grade of them.
 use mathlib.Core.Path.{_≡_, refl, sym, _∙_}
-use mathlib.Core.Bool.{Bool, true, false, cond, _&&_, _||_, false≢true, and-false, or-true}
+use mathlib.Core.Bool.{Bool, true, false, cond, _&&_, _||_, false≢true, or-true}
 use mathlib.Core.List.{[], _∷_}
 use mathlib.Core.Logic.{_≢_}
 use mathlib.Core.Option.{Option, none, some}
 use Prim.Native.Nat.{ℕ}
 use Rattle.laws.specs.Tests.{same}
-use Rattle.laws.proofs.Tests.{same?, Same, is, isnt, ne-false, Is, is?, yes′, no′}
-use Rattle.laws.proofs.Booleans.{or-cases, or-left, or-right, clash}
+use Rattle.laws.proofs.Tests.{same?, Same, is, isnt, same-eq, same-refl, ne-false, Is, is?, yes′, no′}
+use Rattle.laws.proofs.Booleans.{or-cases, or-left, or-right, and-left, and-right, clash}
 use Rattle.rules.specs.Store.{Page}
-use Rattle.rules.specs.State.{mem, Mode, nothing, reading, writing, isLock, stronger, Modes, Versions}
-use Rattle.rules.specs.Locks.{granted, inherited, discarded}
+use Rattle.rules.specs.Event.{Access, toWrite, toRead}
+use Rattle.rules.specs.State.{mem, Mode, isLock, isWriting, stronger, Modes, Versions}
+use Rattle.rules.specs.Locks.{modeFor, bars, granted, inherited, discarded}
 use Rattle.rules.specs.Versions.{isSome, also, withVersion, handedUp, dropped}
-use Rattle.rules.proofs.Tree.{Lines, Tree, isCons, own}
-use Rattle.rules.proofs.Locks.{has, Owned}
-
--- the stronger of two modes is a lock where one of them is
-pub is-stronger : (a b : Mode) → isLock (stronger a b) ≡ (isLock a || isLock b)
-unfolding isLock stronger
-is-stronger nothing b = refl
-is-stronger reading nothing = refl
-is-stronger reading reading = refl
-is-stronger reading writing = refl
-is-stronger writing b = refl
+use Rattle.rules.proofs.Tree.{Lines}
+use Rattle.rules.proofs.Grades.{Grade, anyMode, writeMode, allows, allowing, barring, graded-lock, meets, covers, has, has-as}
+use Rattle.rules.proofs.Locks.{Owned}
 
 pub is-also : (a b : Option Page) → isSome (also a b) ≡ (isSome a || isSome b)
 unfolding isSome also
 is-also none b = refl
 is-also (some p) b = refl
 
-module _ {limit : ℕ} {line : Lines} {held retained : Modes} {version : Versions} (T : Tree limit line) (L : Owned line held retained version) where
-  -- the lock of x is granted to a: no other holds it, and its retainers are on the line of a
-  module _ (a x : ℕ) (live : isCons (line a) ≡ true) (alone : (z : ℕ) → z ≢ a → isLock (held x z) ≡ false)
-      (over : (q : ℕ) → isLock (retained x q) ≡ true → mem q (line a) ≡ true) where
+module _ {line : Lines} {held retained : Modes} {version : Versions} (L : Owned line held retained version) where
+  -- The lock of x is granted to t, which is live: no other holds it in a mode that bars the access, and who retains it in such a mode is on
+  -- the line of t.
+  module _ (a : Access) (t x : ℕ) (own : mem t (line t) ≡ true) (alone : (z : ℕ) → z ≢ t → bars a (held x z) ≡ false)
+      (over : (q : ℕ) → bars a (retained x q) ≡ true → mem q (line t) ≡ true) where
     abbrev held′ : Modes
-    held′ = granted a x held
+    held′ = granted a t x held
 
-    -- who has the lock of x then is at or above a
-    reach : (q : ℕ) → has held′ retained x q ≡ true → Same q a → mem q (line a) ≡ true
-    unfolding granted isLock
-    reach q h (is e s _) = rw e (own T a live)
-    reach q h (isnt e s _) = over q (rw (s, and-false, alone q e) at h)
+    -- whose mode bars the access is at or above t
+    reach : (q : ℕ) → has (bars a) held retained x q ≡ true → Same q t → mem q (line t) ≡ true
+    reach q h (is e s _) = rw e own
+    reach q h (isnt e s _) = over q (rw (alone q e) at h)
 
-    grant-beneath : (r h q : ℕ) → isLock (held′ r h) ≡ true → has held′ retained r q ≡ true → Same r x → Same h a → mem q (line h) ≡ true
-    unfolding granted isLock
-    grant-beneath r h q p k (is f t _) (is e s _) = rw e (reach q (rw f at k) (same? q a))
-    grant-beneath r h q p k (is f t _) (isnt e s _) = clash p (rw (s, and-false, f, alone h e))
-    grant-beneath r h q p k (isnt f t _) d = L .beneath r h q (rw t at p) (rw t at k)
+    -- what passes a test then passed it before, or is what t was granted
+    data Gained (before : Type 0) (g : Grade) (r j : ℕ) : Type 0 where
+      had : before → Gained before g r j
+      got : r ≡ x → j ≡ t → g .test (modeFor a) ≡ true → Gained before g r j
 
-    grant-line : (r q z : ℕ) → has held′ retained r q ≡ true → has held′ retained r z ≡ true → Same r x → Same q a → Same z a → (mem q (line z) || mem z (line q)) ≡ true
-    unfolding granted isLock
-    grant-line r q z p k (isnt f t _) d d′ = L .in-line r q z (rw t at p) (rw t at k)
-    grant-line r q z p k (is f t _) d (is e s _) = rw (e, reach q (rw f at p) d)
-    grant-line r q z p k (is f t _) (is e s _) (isnt e′ s′ s″) = rw (e, reach z (rw f at k) (isnt e′ s′ s″)) (or-true (mem a (line z)))
-    grant-line r q z p k (is f t _) (isnt e s _) (isnt e′ s′ _) = L .in-line r q z (rw (s, and-false) at p) (rw (s′, and-false) at k)
+    holds-then : (g : Grade) (r j : ℕ) → g .test (held′ r j) ≡ true → Is (same r x && same j t) → Gained (g .test (held r j) ≡ true) g r j
+    unfolding granted
+    holds-then g r j e (no′ d) = had (rw d at e)
+    holds-then g r j e (yes′ d) = or-cases (g .test (held r j)) (g .test (modeFor a)) (sym (g .either (held r j) (modeFor a)) ∙ rw d at e)
+        (λ k. had k)
+        (λ k. got (same-eq r x (and-left (same r x) (same j t) d)) (same-eq j t (and-right (same r x) (same j t) d)) k)
 
-    grant-lock : (r t : ℕ) → has held retained r t ≡ true → Is (same r x && same t a) → has held′ retained r t ≡ true
-    unfolding granted isLock
-    grant-lock r t h (yes′ e) = rw e
-    grant-lock r t h (no′ e) = rw e h
+    has-then : (g : Grade) (r j : ℕ) → has (g .test) held′ retained r j ≡ true → Gained (has (g .test) held retained r j ≡ true) g r j
+    has-then g r j e = or-cases (g .test (held′ r j)) (g .test (retained r j)) e
+        (λ k. widen (holds-then g r j k (is? (same r x && same j t))))
+        (λ k. had (or-right (g .test (held r j)) (g .test (retained r j)) k))
+      where
+        widen : Gained (g .test (held r j) ≡ true) g r j → Gained (has (g .test) held retained r j ≡ true) g r j
+        widen (had k) = had (or-left (g .test (held r j)) (g .test (retained r j)) k)
+        widen (got u v k) = got u v k
+
+    -- and what passed it before passes it then
+    stays : (g : Grade) (r j : ℕ) → has (g .test) held retained r j ≡ true → Is (same r x && same j t) → has (g .test) held′ retained r j ≡ true
+    unfolding granted
+    stays g r j e (no′ d) = rw d e
+    stays g r j e (yes′ d) = rw (d, g .either (held r j) (modeFor a)) (or-cases (g .test (held r j)) (g .test (retained r j)) e
+        (λ k. rw k)
+        (λ k. or-right (g .test (held r j) || g .test (modeFor a)) (g .test (retained r j)) k))
+
+    grant-alive : (r j : ℕ) → Gained (has isLock held retained r j ≡ true) anyMode r j → mem j (line j) ≡ true
+    grant-alive r j (had k) = L .alive r j k
+    grant-alive r j (got e f m) = rw f own
+
+    grant-beneath : (b : Access) (r h q : ℕ) → Gained (allows b (held r h) ≡ true) (allowing b) r h
+        → Gained (has (bars b) held retained r q ≡ true) (barring b) r q → Same h t → mem q (line h) ≡ true
+    grant-beneath b r h q (had p) (had k) d = L .beneath b r h q p k
+    grant-beneath b r h q (had p) (got e f m) (is n _ _) = rw (f, n) own
+    grant-beneath b r h q (had p) (got e f m) (isnt n _ _) = clash (meets a b (held x h) m (rw e at p)) (alone h n)
+    grant-beneath b r h q (got e f m) (had k) d = rw f (reach q (has-as (bars b) (bars a) held retained x q (λ c l. covers a b c m l) (rw e at k)) (same? q t))
+    grant-beneath b r h q (got e f m) (got e′ f′ m′) d = rw (f, f′) own
+
+    grant-line : (r q z : ℕ) → Gained (has isWriting held retained r q ≡ true) writeMode r q → Gained (has isLock held retained r z ≡ true) anyMode r z
+        → (mem q (line z) || mem z (line q)) ≡ true
+    unfolding bars
+    grant-line r q z (had p) (had k) = L .in-line r q z p k
+    grant-line r q z (had p) (got e f m) =
+        rw (f, reach q (has-as isWriting (bars a) held retained x q (λ c l. meets a toWrite c m l) (rw e at p)) (same? q t))
+    grant-line r q z (got e f m) (had k) =
+        rw (f, reach z (has-as isLock (bars a) held retained x z (λ c l. covers a toWrite c m l) (rw e at k)) (same? z t)) (or-true (mem t (line z)))
+    grant-line r q z (got e f m) (got e′ f′ m′) = rw (f, f′, own)
 
     pub grant-owned : Owned line held′ retained version
     grant-owned = record {
-      beneath = λ r h q p k. grant-beneath r h q p k (same? r x) (same? h a);
-      in-line = λ r q z p k. grant-line r q z p k (same? r x) (same? q a) (same? z a);
-      by-lock = λ t r v. grant-lock r t (L .by-lock t r v) (is? (same r x && same t a));
+      alive = λ r j e. grant-alive r j (has-then anyMode r j e);
+      beneath = λ b r h q p k. grant-beneath b r h q (holds-then (allowing b) r h p (is? (same r x && same h t))) (has-then (barring b) r q k) (same? h t);
+      in-line = λ r q z p k. grant-line r q z (has-then writeMode r q p) (has-then anyMode r z k);
+      by-lock = λ j r v. stays writeMode r j (L .by-lock j r v) (is? (same r x && same j t));
     }
 
-  -- a version of a record that a holds
-  pub write-owned : (a x : ℕ) (p : Page) → isLock (held x a) ≡ true → Owned line held retained (withVersion a x p version)
+  -- a version of a record that t holds to write
+  pub write-owned : (t x : ℕ) (p : Page) → isWriting (held x t) ≡ true → Owned line held retained (withVersion t x p version)
   unfolding withVersion isSome
-  write-owned a x p e = record { beneath = L .beneath; in-line = L .in-line; by-lock = λ t r v. go t r v (same? t a) (same? r x) }
+  write-owned t x p e = record { alive = L .alive; beneath = L .beneath; in-line = L .in-line; by-lock = λ j r v. go j r v (same? j t) (same? r x) }
     where
-      go : (t r : ℕ) → isSome (withVersion a x p version t r) ≡ true → Same t a → Same r x → has held retained r t ≡ true
-      go t r v (is q s _) (is f k _) = rw (q, f, e)
-      go t r v (is q s _) (isnt f k _) = L .by-lock t r (rw (s, k) at v)
-      go t r v (isnt q s _) d = L .by-lock t r (rw s at v)
+      go : (j r : ℕ) → isSome (withVersion t x p version j r) ≡ true → Same j t → Same r x → has isWriting held retained r j ≡ true
+      go j r v (is q s _) (is f k _) = rw (q, f, e)
+      go j r v (is q s _) (isnt f k _) = L .by-lock j r (rw (s, k) at v)
+      go j r v (isnt q s _) d = L .by-lock j r (rw s at v)
 
   -- the transactions that `dead` picks end, and have nothing
   module _ (dead : ℕ → Bool) where
-    left-has : (r t : ℕ) → has (discarded dead held) (discarded dead retained) r t ≡ true → (dead t ≡ false) × (has held retained r t ≡ true)
-    unfolding discarded isLock
-    left-has r t e = go (is? (dead t))
-      where
-        go : Is (dead t) → (dead t ≡ false) × (has held retained r t ≡ true)
-        go (yes′ d) = absurd (false≢true (rw d at e))
-        go (no′ d) = (d, rw d at e)
-
-    left-holds : (r t : ℕ) → isLock (discarded dead held r t) ≡ true → (dead t ≡ false) × (isLock (held r t) ≡ true)
-    unfolding discarded isLock
-    left-holds r t e = go (is? (dead t))
-      where
-        go : Is (dead t) → (dead t ≡ false) × (isLock (held r t) ≡ true)
-        go (yes′ d) = absurd (false≢true (rw d at e))
-        go (no′ d) = (d, rw d at e)
-
-    pub ended-owned : Owned (λ j. cond (dead j) [] (line j)) (discarded dead held) (discarded dead retained) (dropped dead version)
-    unfolding discarded dropped isLock isSome
-    ended-owned = record {
-      beneath = λ r h q p k. let a = left-holds r h p in rw (a .0) (L .beneath r h q (a .1) (left-has r q k .1));
-      in-line = λ r q z p k. let a = left-has r q p in let b = left-has r z k in rw (a .0, b .0) (L .in-line r q z (a .1) (b .1));
-      by-lock = λ t r v. go t r v (is? (dead t));
-    }
-      where
-        go : (t r : ℕ) → isSome (dropped dead version t r) ≡ true → Is (dead t) → has (discarded dead held) (discarded dead retained) r t ≡ true
-        go t r v (yes′ d) = absurd (false≢true (rw d at v))
-        go t r v (no′ d) = rw d (L .by-lock t r (rw d at v))
-
-  -- a child x with no live child commits into y, which retains what x had
-  module _ (x y : ℕ) (leaf : (z : ℕ) → z ≢ x → mem x (line z) ≡ false) (under : line x ≡ x ∷ line y) (home : mem y (line y) ≡ true) where
-    abbrev gone : ℕ → Bool
-    gone j = same j x
-
     abbrev left : Modes
-    left = discarded gone held
+    left = discarded dead held
 
-    abbrev taken : Modes
-    taken = discarded gone (inherited x y held retained)
+    abbrev lines-left : Lines
+    lines-left j = cond (dead j) [] (line j)
 
-    -- who has a lock then: had it before, or is y and has it of x
-    data Took (r j : ℕ) : Type 0 where
-      old : same j x ≡ false → j ≢ x → has held retained r j ≡ true → Took r j
-      new : same j x ≡ false → j ≡ y → has held retained r x ≡ true → Took r j
+    left-holds : (g : Grade) (r j : ℕ) → g .test (left r j) ≡ true → Is (dead j) → (dead j ≡ false) × (g .test (held r j) ≡ true)
+    unfolding discarded
+    left-holds g r j e (yes′ d) = clash (rw d at e) (g .fails)
+    left-holds g r j e (no′ d) = (d, rw d at e)
 
-    took : (r j : ℕ) → has left taken r j ≡ true → Same j x → Same j y → Took r j
-    unfolding discarded inherited isLock
-    took r j e (is q s _) k = absurd (false≢true (rw s at e))
-    took r j e (isnt q s _) (isnt f t _) = old s q (rw (s, t) at e)
-    took r j e (isnt q s _) (is f t _) = or-cases (isLock (held r j)) (isLock (stronger (retained r y) (stronger (held r x) (retained r x)))) (rw (s, t) at e)
-        (λ d. old s q (or-left (isLock (held r j)) (isLock (retained r j)) d))
-        (λ d. or-cases (isLock (retained r y)) (isLock (stronger (held r x) (retained r x))) (sym (is-stronger (retained r y) (stronger (held r x) (retained r x))) ∙ d)
-        (λ c. old s q (or-right (isLock (held r j)) (isLock (retained r j)) (rw f c)))
-        (λ c. new s f (sym (is-stronger (held r x) (retained r x)) ∙ c)))
+    left-has : (g : Grade) (r j : ℕ) → has (g .test) left (discarded dead retained) r j ≡ true → Is (dead j) → (dead j ≡ false) × (has (g .test) held retained r j ≡ true)
+    unfolding discarded
+    left-has g r j e (yes′ d) = absurd (false≢true (rw (d, g .fails) at e))
+    left-has g r j e (no′ d) = (d, rw d at e)
 
-    -- who has what x has is above y
-    above-y : (r z : ℕ) → has held retained r x ≡ true → z ≢ x → has held retained r z ≡ true → mem z (line y) ≡ true
-    unfolding mem
-    above-y r z p n k =
-        or-cases (mem x (line z)) (mem z (line x)) (L .in-line r x z p k) (λ e. clash e (leaf z n)) (λ e. rw (under, ne-false z x n) at e)
+    left-lock : (j r : ℕ) → isSome (dropped dead version j r) ≡ true → Is (dead j) → has isWriting left (discarded dead retained) r j ≡ true
+    unfolding discarded dropped isSome
+    left-lock j r v (yes′ d) = absurd (false≢true (rw d at v))
+    left-lock j r v (no′ d) = rw d (L .by-lock j r (rw d at v))
 
-    abbrev line′ : Lines
-    line′ j = cond (gone j) [] (line j)
-
-    child-beneath : (r h q : ℕ) → isLock (left r h) ≡ true → Took r q → Same h x → mem q (line′ h) ≡ true
-    unfolding discarded isLock
-    child-beneath r h q p k (is e s _) = absurd (false≢true (rw s at p))
-    child-beneath r h q p (old s′ n k) (isnt e s _) = rw s (L .beneath r h q (rw s at p) k)
-    child-beneath r h q p (new s′ n k) (isnt e s _) = clash (L .beneath r h x (rw s at p) k) (leaf h e)
-
-    child-line : (r q z : ℕ) → Took r q → Took r z → (mem q (line′ z) || mem z (line′ q)) ≡ true
-    child-line r q z (old s n k) (old s′ n′ k′) = rw (s, s′) (L .in-line r q z k k′)
-    child-line r q z (old s n k) (new s′ e k′) = rw (s′, e, above-y r q k′ n k)
-    child-line r q z (new s e k) (old s′ n′ k′) = rw (s, e, above-y r z k n′ k′) (or-true (mem y (line′ z)))
-    child-line r q z (new s e k) (new s′ e′ k′) = rw (s′, e, e′, home)
-
-    child-lock : (j r : ℕ) → isSome (dropped gone (handedUp x y version) j r) ≡ true → Same j x → Same j y → has left taken r j ≡ true
-    unfolding discarded inherited dropped handedUp isLock isSome
-    child-lock j r v (is e s _) k = absurd (false≢true (rw s at v))
-    child-lock j r v (isnt e s _) (isnt f t _) = rw (s, t) (L .by-lock j r (rw (s, t) at v))
-    child-lock j r v (isnt e s _) (is f t _) = rw (s, t, is-stronger (retained r y) (stronger (held r x) (retained r x)), is-stronger (held r x) (retained r x), f)
-        (or-cases (isSome (version x r)) (isSome (version y r)) (sym (is-also (version x r) (version y r)) ∙ rw (s, t) at v)
-        (λ d. or-right (isLock (held r y)) _ (or-right (isLock (retained r y)) _ (L .by-lock x r d)))
-        (λ d. or-cases (isLock (held r y)) (isLock (retained r y)) (L .by-lock y r d)
-        (λ c. or-left (isLock (held r y)) _ c) (λ c. or-right (isLock (held r y)) _ (or-left (isLock (retained r y)) _ c))))
-
-    pub child-owned : Owned line′ left taken (dropped gone (handedUp x y version))
-    child-owned = record {
-      beneath = λ r h q p k. child-beneath r h q p (took r q k (same? q x) (same? q y)) (same? h x);
-      in-line = λ r q z p k. child-line r q z (took r q p (same? q x) (same? q y)) (took r z k (same? z x) (same? z y));
-      by-lock = λ j r v. child-lock j r v (same? j x) (same? j y);
+    pub ended-owned : Owned lines-left left (discarded dead retained) (dropped dead version)
+    ended-owned = record {
+      alive = λ r j e. let a = left-has anyMode r j e (is? (dead j)) in rw (a .0) (L .alive r j (a .1));
+      beneath = λ b r h q p k. let a = left-holds (allowing b) r h p (is? (dead h)) in rw (a .0) (L .beneath b r h q (a .1) (left-has (barring b) r q k (is? (dead q)) .1));
+      in-line = λ r q z p k. let a = left-has writeMode r q p (is? (dead q)) in let b = left-has anyMode r z k (is? (dead z)) in rw (a .0, b .0) (L .in-line r q z (a .1) (b .1));
+      by-lock = λ j r v. left-lock j r v (is? (dead j));
     }
+
+    -- x and all beneath it are among them, and the parent y of x retains what x had
+    module _ (x y : ℕ) (apart : (z : ℕ) → dead z ≡ false → mem x (line z) ≡ false) (under : line x ≡ x ∷ line y) (home : mem y (line y) ≡ true) where
+      abbrev taken : Modes
+      taken = discarded dead (inherited x y held retained)
+
+      -- who has a lock then had it before, or is y and has it of x
+      data Took (g : Grade) (r j : ℕ) : Type 0 where
+        kept : dead j ≡ false → has (g .test) held retained r j ≡ true → Took g r j
+        heir : dead j ≡ false → j ≡ y → has (g .test) held retained r x ≡ true → Took g r j
+
+      took : (g : Grade) (r j : ℕ) → has (g .test) left taken r j ≡ true → Is (dead j) → Same j y → Took g r j
+      unfolding discarded inherited
+      took g r j e (yes′ d) k = absurd (false≢true (rw (d, g .fails) at e))
+      took g r j e (no′ d) (isnt f s _) = kept d (rw (d, s) at e)
+      took g r j e (no′ d) (is f s _) = or-cases (g .test (held r j)) (g .test (stronger (retained r y) (stronger (held r x) (retained r x)))) (rw (d, s) at e)
+          (λ c. kept d (or-left (g .test (held r j)) (g .test (retained r j)) c))
+          (λ c. or-cases (g .test (retained r y)) (g .test (stronger (held r x) (retained r x))) (sym (g .either (retained r y) (stronger (held r x) (retained r x))) ∙ c)
+          (λ k. kept d (or-right (g .test (held r j)) (g .test (retained r j)) (rw f k)))
+          (λ k. heir d f (sym (g .either (held r x) (retained r x)) ∙ k)))
+
+      -- what y retains then: what it retained, or what x held or retained
+      gives : (g : Grade) (r : ℕ) → dead y ≡ false → (g .test (held r y) || (g .test (retained r y) || has (g .test) held retained r x)) ≡ true → has (g .test) left taken r y ≡ true
+      unfolding discarded inherited
+      gives g r d e = rw (d, same-refl y, g .either (retained r y) (stronger (held r x) (retained r x)), g .either (held r x) (retained r x)) e
+
+      passes : (g : Grade) (r j : ℕ) → Took g r j → Same j y → has (g .test) left taken r j ≡ true
+      unfolding discarded inherited
+      passes g r j (kept d e) (isnt f s _) = rw (d, s) e
+      passes g r j (kept d e) (is f s _) = rw f (gives g r (rw f at d) (or-cases (g .test (held r y)) (g .test (retained r y)) (rw f at e)
+          (λ k. or-left (g .test (held r y)) (g .test (retained r y) || has (g .test) held retained r x) k)
+          (λ k. or-right (g .test (held r y)) (g .test (retained r y) || has (g .test) held retained r x) (or-left (g .test (retained r y)) (has (g .test) held retained r x) k))))
+      passes g r j (heir d f e) k =
+          rw f (gives g r (rw f at d) (or-right (g .test (held r y)) (g .test (retained r y) || has (g .test) held retained r x) (or-right (g .test (retained r y)) (has (g .test) held retained r x) e)))
+
+      -- who is on the line of x and has not ended is at or above y
+      above-y : (z : ℕ) → dead z ≡ false → mem z (line x) ≡ true → mem z (line y) ≡ true
+      unfolding mem
+      above-y z d e = rw (under, ne-false z x (λ q. clash own (rw q at (apart z d)))) at e
+        where
+          own : mem x (line x) ≡ true
+          own = rw (under, same-refl x)
+
+      taken-alive : (r j : ℕ) → Took anyMode r j → mem j (lines-left j) ≡ true
+      taken-alive r j (kept d k) = rw d (L .alive r j k)
+      taken-alive r j (heir d e k) = rw (d, e) home
+
+      taken-beneath : (b : Access) (r h q : ℕ) → (dead h ≡ false) × (allows b (held r h) ≡ true) → Took (barring b) r q → mem q (lines-left h) ≡ true
+      taken-beneath b r h q p (kept d k) = rw (p .0) (L .beneath b r h q (p .1) k)
+      taken-beneath b r h q p (heir d e k) = clash (L .beneath b r h x (p .1) k) (apart h (p .0))
+
+      taken-line : (r q z : ℕ) → Took writeMode r q → Took anyMode r z → (mem q (lines-left z) || mem z (lines-left q)) ≡ true
+      taken-line r q z (kept d k) (kept d′ k′) = rw (d, d′) (L .in-line r q z k k′)
+      taken-line r q z (kept d k) (heir d′ e k′) =
+          rw (d′, e, or-cases (mem q (line x)) (mem x (line q)) (L .in-line r q x k k′) (above-y q d) (λ c. clash c (apart q d)))
+      taken-line r q z (heir d e k) (kept d′ k′) =
+          rw (d, e, or-cases (mem x (line z)) (mem z (line x)) (L .in-line r x z k k′) (λ c. clash c (apart z d′)) (above-y z d′)) (or-true (mem y (lines-left z)))
+      taken-line r q z (heir d e k) (heir d′ e′ k′) = rw (d′, e, e′, home)
+
+      -- the versions are such as their owners then had, or y has of x
+      taken-owned : (version′ : Versions) → ((j r : ℕ) → isSome (version′ j r) ≡ true → Took writeMode r j) → Owned lines-left left taken version′
+      taken-owned version′ from = record {
+        alive = λ r j e. taken-alive r j (took anyMode r j e (is? (dead j)) (same? j y));
+        beneath = λ b r h q p k. taken-beneath b r h q (left-holds (allowing b) r h p (is? (dead h))) (took (barring b) r q k (is? (dead q)) (same? q y));
+        in-line = λ r q z p k. taken-line r q z (took writeMode r q p (is? (dead q)) (same? q y)) (took anyMode r z k (is? (dead z)) (same? z y));
+        by-lock = λ j r v. passes writeMode r j (from j r v) (same? j y);
+      }
+
+      -- a child's commit hands its versions up
+      pub child-owned : Owned lines-left left taken (dropped dead (handedUp x y version))
+      unfolding dropped handedUp isSome
+      child-owned = taken-owned (dropped dead (handedUp x y version)) (λ j r v. go j r v (is? (dead j)) (same? j y))
+        where
+          go : (j r : ℕ) → isSome (dropped dead (handedUp x y version) j r) ≡ true → Is (dead j) → Same j y → Took writeMode r j
+          go j r v (yes′ d) k = absurd (false≢true (rw d at v))
+          go j r v (no′ d) (isnt f s _) = kept d (L .by-lock j r (rw (d, s) at v))
+          go j r v (no′ d) (is f s _) = or-cases (isSome (version x r)) (isSome (version y r)) (sym (is-also (version x r) (version y r)) ∙ rw (d, s) at v)
+              (λ c. heir d f (L .by-lock x r c))
+              (λ c. kept d (rw f (L .by-lock y r c)))
 
 -- the laws go by the lines of those that have locks
 pub relined : {line line′ : Lines} {held retained : Modes} {version : Versions} → Owned line held retained version
-    → ((r j : ℕ) → has held retained r j ≡ true → line′ j ≡ line j) → Owned line′ held retained version
+    → ((r j : ℕ) → has isLock held retained r j ≡ true → line′ j ≡ line j) → Owned line′ held retained version
 relined {held} {retained} L h = record {
-  beneath = λ r a q p k. rw (h r a (or-left (isLock (held r a)) (isLock (retained r a)) p)) (L .beneath r a q p k);
-  in-line = λ r q z p k. rw (h r q p, h r z k) (L .in-line r q z p k);
+  alive = λ r j e. rw (h r j e) (L .alive r j e);
+  beneath = λ b r a q p k. rw (h r a (or-left (isLock (held r a)) (isLock (retained r a)) (graded-lock (allowing b) (held r a) p))) (L .beneath b r a q p k);
+  in-line = λ r q z p k. rw (h r q (has-as isWriting isLock held retained r q (graded-lock writeMode) p), h r z k) (L .in-line r q z p k);
   by-lock = L .by-lock;
 }

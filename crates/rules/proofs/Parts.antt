@@ -1,6 +1,6 @@
 -- Soundness by its parts, in the form in which events keep them: the tree, the locks and versions over its lines, the pages, the store.
-use mathlib.Core.Path.{_≡_, refl, sym, ap, _∙_}
-use mathlib.Core.Bool.{true, false, false≢true, or-self}
+use mathlib.Core.Path.{_≡_, refl, ap}
+use mathlib.Core.Bool.{true, false, false≢true}
 use mathlib.Core.Logic.{_⊎_, inl, inr}
 use mathlib.Core.Option.{some}
 use Prim.Native.Nat.{ℕ, _<_, _≤_}
@@ -9,14 +9,17 @@ use lib.ListN.{length}
 use Rattle.laws.proofs.Booleans.{or-left, or-right, clash}
 use Rattle.rules.specs.Geometry.{records, transactions, nobody, pageSize}
 use Rattle.rules.specs.Store.{Page}
-use Rattle.rules.specs.State.{Bearer, free, active, isActive, depthIn, lineOf, mem, isLock, live, holds, retains, down, open-state}
+use Rattle.rules.specs.Event.{toWrite, toRead}
+use Rattle.rules.specs.State.{Bearer, free, active, isActive, depthIn, lineOf, isLock, isWriting, live, holds, retains, holdsWriting, retainsWriting, down, open-state}
+use Rattle.rules.specs.Locks.{bars}
 use Rattle.rules.specs.Versions.{isSome}
 use Rattle.rules.specs.Form.{Form}
 use Rattle.rules.specs.Step.{StateOf}
 use Rattle.rules.specs.Sound.{Sound, inLine}
 use Rattle.rules.proofs.Tree.{antisym}
 use Rattle.rules.proofs.Bearers.{Rooted, rooted-tree, line-of-member}
-use Rattle.rules.proofs.Locks.{has, Owned}
+use Rattle.rules.proofs.Grades.{allowing, has}
+use Rattle.rules.proofs.Locks.{Owned}
 
 pub record Parts (f : Form) (s : StateOf f) : Type 0 where
   pub tree : Rooted transactions nobody (s .bearer)
@@ -28,7 +31,7 @@ pub record Parts (f : Form) (s : StateOf f) : Type 0 where
   pub calm : s .up ≡ true → f .medium .emptied (s .store) ≡ true
 
 pub sound-of : {f : Form} {s : StateOf f} → Parts f s → Sound f s
-unfolding holds retains live inLine isActive depthIn
+unfolding holds retains holdsWriting retainsWriting live inLine isActive depthIn bars
 sound-of {f} {s} P = record {
   numbered = λ t h. numbered t (s .bearer t) refl h;
   parented = λ t p d e. parented t p d e (s .bearer p) refl;
@@ -36,9 +39,11 @@ sound-of {f} {s} P = record {
   shallow = P .shallow;
   holder-live = λ r t h. has-active r t (or-left (isLock (s .held r t)) (isLock (s .retained r t)) h);
   retainer-live = λ r t h. has-active r t (or-right (isLock (s .held r t)) (isLock (s .retained r t)) h);
-  one-holder = λ r t u h k. antisym (rooted-tree (P .tree)) t u (P .owned .beneath r u t k (or-left _ (isLock (s .retained r t)) h)) (P .owned .beneath r t u h (or-left _ (isLock (s .retained r u)) k));
-  on-one-line = λ r t u h k. P .owned .in-line r t u (or-right (isLock (s .held r t)) _ h) (or-right (isLock (s .held r u)) _ k);
-  beneath = λ r t u h k. P .owned .beneath r t u h (or-right (isLock (s .held r u)) _ k);
+  on-one-line = λ r t u h k. P .owned .in-line r t u (or-right (isWriting (s .held r t)) _ h) (or-right (isLock (s .held r u)) _ k);
+  beneath = λ r t u h k. P .owned .beneath toRead r t u h (or-right (isWriting (s .held r u)) _ k);
+  one-holder = λ r t u h k.
+      antisym (rooted-tree (P .tree)) t u (P .owned .beneath toRead r u t k (or-left _ (isWriting (s .retained r t)) h)) (P .owned .beneath toWrite r t u h (or-left _ (isLock (s .retained r u)) k));
+  beneath-writing = λ r t u h k. P .owned .beneath toWrite r t u h (or-right (isLock (s .held r u)) _ k);
   by-lock = P .owned .by-lock;
   ranged = P .ranged;
   paged = P .paged;
@@ -54,8 +59,8 @@ sound-of {f} {s} P = record {
     parented t p d e free q = inl (P .tree .rooted t p d e (ap depthIn q))
     parented t p d e (active a b) q = inr (ap isActive q)
 
-    has-active : (r t : ℕ) → has (s .held) (s .retained) r t ≡ true → isActive (s .bearer t) ≡ true
-    has-active r t h = line-of-member (P .tree) t t (sym (or-self (mem t (lineOf (s .bearer) t))) ∙ P .owned .in-line r t t h h)
+    has-active : (r t : ℕ) → has isLock (s .held) (s .retained) r t ≡ true → isActive (s .bearer t) ≡ true
+    has-active r t h = line-of-member (P .tree) t t (P .owned .alive r t h)
 
 -- a state that is down with nothing live
 pub sound-down : (f : Form) (store : f .medium .Store) → Sound f (down store)
@@ -63,7 +68,7 @@ unfolding open-state isSome
 sound-down f store = sound-of (record {
   tree = record { level = λ t p d e. cc; rooted = λ t p d e z. cc; bounded = λ t p d e. absurd (false≢true (ap isActive e)) };
   shallow = λ t. omega arith;
-  owned = record { beneath = λ r h q p k. p; in-line = λ r q z p k. p; by-lock = λ t r v. v };
+  owned = record { alive = λ r t e. absurd (false≢true e); beneath = λ a r h q p k. clash p (allowing a .fails); in-line = λ r q z p k. absurd (false≢true p); by-lock = λ t r v. v };
   ranged = λ t r v. absurd (false≢true v);
   paged = λ t r p e. absurd (false≢true (ap isSome e));
   idle = λ t e. refl;

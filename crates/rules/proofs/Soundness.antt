@@ -1,6 +1,6 @@
 -- Every event keeps a sound state sound: the live transactions stay a tree, and the locks and versions go by its lines. So every state that
 -- a run reaches is sound, and while it is up its commit page is empty.
-use mathlib.Core.Path.{_≡_, refl, sym, subst⁻¹, _∙_, fun-ext}
+use mathlib.Core.Path.{_≡_, refl, subst⁻¹, _∙_, fun-ext}
 use mathlib.Core.Bool.{Bool, true, false, cond, _&&_, true≢false, false≢true}
 use mathlib.Core.List.{List, [], _∷_}
 use mathlib.Core.Logic.{_≢_, _⊎_, inl, inr}
@@ -14,8 +14,8 @@ use Rattle.laws.proofs.Tests.{same?, Same, is, isnt, same-eq, same-refl, Is, is
 use Rattle.laws.proofs.Booleans.{and-right, clash}
 use Rattle.rules.specs.Geometry.{Geometry, records, nobody, pageSize}
 use Rattle.rules.specs.Store.{Page}
-use Rattle.rules.specs.Event.{Event, begin, lock, write, read, commit, abort, crash, recover, decode, fits}
-use Rattle.rules.specs.State.{free, isActive, depthIn, lineOf, mem, Modes, Versions, live, holds, retains, down}
+use Rattle.rules.specs.Event.{Event, Access, begin, lock, write, read, commit, abort, crash, recover, decode, fits}
+use Rattle.rules.specs.State.{free, isActive, depthIn, lineOf, mem, Modes, isLock, Versions, live, holdsWriting, down}
 use Rattle.rules.specs.Versions.{isSome, else, also, nearest, withVersion, handedUp, dropped}
 use Rattle.rules.specs.Commit.{Cut}
 use Rattle.rules.specs.Form.{Form}
@@ -27,7 +27,8 @@ use Rattle.rules.proofs.Bearers.{begun-line, begun-rooted, ended-line, 
 use Rattle.rules.proofs.Medium.{MediumLaws}
 use Rattle.rules.proofs.Event.{decode-fits}
 use Rattle.rules.proofs.Acceptance.{BeginOk, LockOk, WriteOk, CommitOk, RecoverOk, begin-ok, lock-ok, write-ok, commit-ok, abort-ok, recover-ok, Judged, acts, refuses, judge?}
-use Rattle.rules.proofs.Locks.{has, Owned, Leaf, ChildOf, rooted-of, tree-of, owned-of, has-live, live-line, no-child, beneath-closed, child-line, grant-alone, grant-above}
+use Rattle.rules.proofs.Grades.{has}
+use Rattle.rules.proofs.Locks.{Owned, Leaf, ChildOf, rooted-of, owned-of, has-live, own-line, no-child, beneath-closed, child-line, grant-alone, grant-above}
 use Rattle.rules.proofs.Parts.{sound-of, sound-down}
 use Rattle.rules.proofs.Owners.{grant-owned, write-owned, ended-owned, child-owned, relined}
 
@@ -117,18 +118,18 @@ module _ {f : Form} {s : StateOf f} (S : Sound f s) where
       deep t (is e d _) = rw d (room (ok .room) (S .shallow p))
       deep t (isnt e d _) = rw d (S .shallow t)
 
-      other : (r j : ℕ) → has (s .held) (s .retained) r j ≡ true → Same j (firstFree s)
+      other : (r j : ℕ) → has isLock (s .held) (s .retained) r j ≡ true → Same j (firstFree s)
           → cond (same j (firstFree s)) (firstFree s ∷ lineOf (s .bearer) p) (lineOf (s .bearer) j) ≡ lineOf (s .bearer) j
       other r j h (is e d _) = clash (has-live S r j h) (rw e (ok .unborne))
       other r j h (isnt e d _) = rw d
 
   -- a lock
-  pub sound-locked : (t r : ℕ) → LockOk s t r → Sound f (locked s t r)
-  unfolding locked holds retains live
-  sound-locked t r ok = sound-of (record {
+  pub sound-locked : (t r : ℕ) (a : Access) → LockOk s t r a → Sound f (locked s t r a)
+  unfolding locked live
+  sound-locked t r a ok = sound-of (record {
     tree = rooted-of S;
     shallow = S .shallow;
-    owned = grant-owned (tree-of S) (owned-of S) t r (sym (live-line S t) ∙ ok .alive) (grant-alone S t r ok) (grant-above S t r ok);
+    owned = grant-owned (owned-of S) a t r (own-line S t (ok .alive)) (grant-alone S t r a ok) (grant-above S t r a ok);
     ranged = S .ranged;
     paged = S .paged;
     idle = S .idle;
@@ -137,11 +138,11 @@ module _ {f : Form} {s : StateOf f} (S : Sound f s) where
 
   -- a write: a page that is a version of a record
   pub sound-wrote : (t r : ℕ) (page : Page) → WriteOk s t r → r < records (f .geometry) → length page ≡ pageSize → Sound f (wrote s t r page)
-  unfolding wrote withVersion isSome holds live
+  unfolding wrote withVersion isSome holdsWriting live
   sound-wrote t r page ok small long = sound-of (record {
     tree = rooted-of S;
     shallow = S .shallow;
-    owned = write-owned (tree-of S) (owned-of S) t r page (ok .held);
+    owned = write-owned (owned-of S) t r page (ok .writing);
     ranged = λ j q v. in-range j q v (is? (same j t && same q r));
     paged = λ j q p e. is-page j q p e (is? (same j t && same q r));
     idle = S .idle;
@@ -178,7 +179,7 @@ module _ {f : Form} {s : StateOf f} (S : Sound f s) where
 
     pub sound-ended : Sound f (ended s dead store)
     unfolding ended
-    sound-ended = sound-left _ _ _ (ended-owned (tree-of S) (owned-of S) dead) (dropped-from dead (s .version))
+    sound-ended = sound-left _ _ _ (ended-owned (owned-of S) dead) (dropped-from dead (s .version))
 
   -- a commit: x, with no live child, ends alone
   module _ (x : ℕ) (ok : CommitOk s x) where
@@ -193,7 +194,7 @@ module _ {f : Form} {s : StateOf f} (S : Sound f s) where
     unfolding ended passed
     sound-passed y under =
         sound-left (λ j. same j x) alone-closed (s .store) (ok .up) (S .calm (ok .up)) _ _ _
-        (child-owned (tree-of S) (owned-of S) x y leaf (under .under) (under .own-line))
+        (child-owned (owned-of S) (λ j. same j x) x y (λ z n. alone-closed z x n (same-refl x)) (under .under) (under .own-line))
         (λ t r p e. let a = dropped-from (λ j. same j x) (handedUp x y (s .version)) t r p e in handed-from x y (s .version) (a .0) r p (a .1))
 
     -- of a top transaction, over what the page writes left
@@ -237,7 +238,7 @@ module _ (f : Form) (M : MediumLaws (f .geometry) (f .medium)) {s : StateOf f} (
   pub sound-act : (e : Event) → fits (f .geometry) e ≡ true → refusal f s e ≡ none → Sound f (act f s e .state)
   unfolding act finished fits
   sound-act (begin p) h q = sound-begun S p (begin-ok f s p q)
-  sound-act (lock t r) h q = sound-locked S t r (lock-ok f s t r q)
+  sound-act (lock t r a) h q = sound-locked S t r a (lock-ok f s t r a q)
   sound-act (write t r o v) h q =
       let small = write-record (f .geometry) t r o v h in
       sound-wrote S t r (set (visible f s t r) o v) (write-ok f s t r o v q) small (length-set (visible f s t r) o v ∙ visible-paged t r small)
@@ -281,7 +282,7 @@ module _ (f : Form) (M : MediumLaws (f .geometry) (f .medium)) {s : StateOf f} (
   pub shaped-act : (e : Event) → M .Shaped (act f s e .state .store)
   unfolding act finished begun locked wrote ended down recovers raised
   shaped-act (begin p) = shaped
-  shaped-act (lock t r) = shaped
+  shaped-act (lock t r a) = shaped
   shaped-act (write t r o v) = shaped
   shaped-act (read t r o) = shaped
   shaped-act (commit t k) = shaped-commits t k (lineOf (s .bearer) t)

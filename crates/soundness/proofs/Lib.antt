@@ -6,4 +6,3 @@ pub mod Tree
 pub mod Locks
 pub mod Whole
 pub mod Unique
-pub mod Start

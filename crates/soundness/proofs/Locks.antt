@@ -1,103 +1,167 @@
--- What each transaction has of each lock is right exactly if the holders, retainers and versions are as soundness asks.
+-- The locks, each by itself and with each live transaction's share, are right exactly if holders, retainers and versions are as soundness asks.
 use mathlib.Core.Path.{_≡_, sym, ap, ap₂, _∙_}
 use mathlib.Core.Bool.{Bool, true, not, _||_, true≢false, Bool·not-not}
 use mathlib.Core.List.{List}
 use mathlib.Core.Logic.{dite}
 use native.Mathlib.Decide.{decLt}
 use native.Mathlib.Omega.{arith}
-use Prim.Native.Nat.{ℕ, _<_}
+use Prim.Native.Nat.{ℕ, _+_, _*_, _<_}
 use lib.ListN.{length, getD}
 use Rattle.laws.specs.Tests.{same}
 use Rattle.laws.proofs.Tests.{same-eq, same-refl}
-use Rattle.laws.proofs.Booleans.{or-cases}
-use Rattle.rules.specs.State.{isActive, lineOf, mem, live, holds, retains}
+use Rattle.laws.proofs.Booleans.{or-cases, or-left, or-right}
+use Rattle.rules.specs.State.{isActive, lineOf, mem, live, holds, retains, holdsWriting, retainsWriting}
 use Rattle.rules.specs.Sound.{Sound, inLine}
 use Rattle.rules.specs.Editions.{edition1}
 use Rattle.sets.specs.Sets.{sets}
 use Rattle.sets.proofs.Sets.{sets-past}
-use Rattle.arrays.specs.View.{bearersOf}
-use Rattle.arrays.proofs.View.{free-is, some-is}
-use Rattle.arrays.proofs.Modes.{lock-is}
-use Rattle.soundness.specs.Clauses.{Numbered, ShareOf, Shares}
+use Rattle.arrays.specs.View.{bearersOf, anyMode, writeMode, Nested}
+use Rattle.arrays.proofs.View.{free-is, deep-is, some-is}
+use Rattle.arrays.proofs.Modes.{lock-is, writing-is}
+use Rattle.soundness.specs.Clauses.{LockOf, Locks, ShareOf, Shares}
 use Rattle.soundness.specs.Encoded.{stateOf}
 
--- a set that isn't empty is a record's
-pub in-range : (words : List ℕ) (r t : ℕ) → length words ≡ 16 → sets words r t ≡ true → r < 16
-in-range words r t long e = dite (decLt r 16) (λ lt. lt) (λ ge. absurd (true≢false (sym e ∙ sets-past words r t (omega arith))))
+-- a set that isn't empty is one of the array's
+pub in-range : (words : List ℕ) (k t : ℕ) → sets words k t ≡ true → k < length words
+in-range words k t e = dite (decLt k (length words)) (λ lt. lt) (λ ge. absurd (true≢false (sym e ∙ sets-past words k t (omega arith))))
+
+any-range : (words : List ℕ) (r t : ℕ) → length words ≡ 32 → anyMode (sets words) r t ≡ true → r < 16
+unfolding anyMode
+any-range words r t long e = let h = in-range words (2 * r) t e in omega arith
+
+write-range : (words : List ℕ) (r t : ℕ) → length words ≡ 32 → writeMode (sets words) r t ≡ true → r < 16
+unfolding writeMode
+write-range words r t long e = let h = in-range words (2 * r + 1) t e in omega arith
 
 -- a depth that isn't 0 tells a live transaction
-live-is : (parent depth : List ℕ) (t : ℕ) → not (same (getD depth t 0) 0) ≡ isActive (bearersOf parent depth t)
+abbrev pub living : List ℕ → ℕ → Bool
+living depth t = not (same (getD depth t 0) 0)
+
+live-is : (parent depth : List ℕ) (t : ℕ) → living depth t ≡ isActive (bearersOf parent depth t)
 live-is parent depth t = ap not (free-is parent depth t) ∙ Bool·not-not (isActive (bearersOf parent depth t))
 
--- the locks, as owners over the lines
+-- the locks, by modes, over the lines
 pub record Locked (parent depth held retained writers : List ℕ) : Type 0 where
-  pub holder-live : (r t : ℕ) → sets held r t ≡ true → isActive (bearersOf parent depth t) ≡ true
-  pub retainer-live : (r t : ℕ) → sets retained r t ≡ true → isActive (bearersOf parent depth t) ≡ true
-  pub one-holder : (r t u : ℕ) → sets held r t ≡ true → sets held r u ≡ true → t ≡ u
-  pub on-one-line : (r t u : ℕ) → sets retained r t ≡ true → sets retained r u ≡ true → inLine (bearersOf parent depth) t u ≡ true
-  pub beneath : (r t u : ℕ) → sets held r t ≡ true → sets retained r u ≡ true → mem u (lineOf (bearersOf parent depth) t) ≡ true
-  pub by-lock : (t r : ℕ) → sets writers r t ≡ true → (sets held r t || sets retained r t) ≡ true
+  pub holder-live : (r t : ℕ) → anyMode (sets held) r t ≡ true → isActive (bearersOf parent depth t) ≡ true
+  pub retainer-live : (r t : ℕ) → anyMode (sets retained) r t ≡ true → isActive (bearersOf parent depth t) ≡ true
+  pub held-nested : Nested (sets held)
+  pub retained-nested : Nested (sets retained)
+  pub on-one-line : (r t u : ℕ) → writeMode (sets retained) r t ≡ true → anyMode (sets retained) r u ≡ true → inLine (bearersOf parent depth) t u ≡ true
+  pub beneath : (r t u : ℕ) → anyMode (sets held) r t ≡ true → writeMode (sets retained) r u ≡ true → mem u (lineOf (bearersOf parent depth) t) ≡ true
+  pub one-holder : (r t u : ℕ) → writeMode (sets held) r t ≡ true → anyMode (sets held) r u ≡ true → t ≡ u
+  pub beneath-writing : (r t u : ℕ) → writeMode (sets held) r t ≡ true → anyMode (sets retained) r u ≡ true → mem u (lineOf (bearersOf parent depth) t) ≡ true
+  pub by-lock : (t r : ℕ) → sets writers r t ≡ true → (writeMode (sets held) r t || writeMode (sets retained) r t) ≡ true
 
 module _ (parent depth line held retained writers : List ℕ) (lines : sets line ≡ (λ t u. mem u (lineOf (bearersOf parent depth) t))) where
   on : (t u : ℕ) → sets line t u ≡ mem u (lineOf (bearersOf parent depth) t)
   on t u = ap (λ (f : ℕ → ℕ → Bool). f t u) lines
 
-  pub locked-by : length held ≡ 16 → length retained ≡ 16 → length writers ≡ 16 → Numbered held → Numbered retained → Numbered writers
-      → Shares depth line held retained writers → Locked parent depth held retained writers
-  unfolding inLine
-  locked-by h m w H M W C = record {
-    holder-live = λ r t e. sym (live-is parent depth t) ∙ holder r t e .holder-live e;
-    retainer-live = λ r t e. sym (live-is parent depth t) ∙ retainer r t e .retainer-live e;
-    one-holder = λ r t u e f. sym (same-eq u t (holder r t e .one-holder e u (H r (in-range held r u h f) u f) f));
-    on-one-line = λ r t u e f. sym (ap₂ _||_ (on u t) (on t u)) ∙ retainer r u f .on-one-line f t (M r (in-range retained r t m e) t e) e;
-    beneath = λ r t u e f. sym (on t u) ∙ holder r t e .holder-beneath e u (M r (in-range retained r u m f) u f) f;
-    by-lock = λ t r e. let k = in-range writers r t w e in C t (W r k t e) r k .by-lock e;
-  }
-    where
-      holder : (r t : ℕ) → sets held r t ≡ true → ShareOf depth line held retained writers t r
-      holder r t e = let k = in-range held r t h e in C t (H r k t e) r k
+  module _ (h : length held ≡ 32) (m : length retained ≡ 32) (w : length writers ≡ 16)
+      (C : Locks (living depth) held retained writers) (D : Shares depth line held retained) where
+    -- whoever is in a set of one lock bears a transaction number
+    held-low : (r t : ℕ) → r < 16 → anyMode (sets held) r t ≡ true → t < 24
+    held-low r t k e = C r k .numbered t (or-left _ _ (or-left _ _ (or-left _ _ (or-left _ _ e))))
 
-      retainer : (r t : ℕ) → sets retained r t ≡ true → ShareOf depth line held retained writers t r
-      retainer r t e = let k = in-range retained r t m e in C t (M r k t e) r k
+    held-writing-low : (r t : ℕ) → r < 16 → writeMode (sets held) r t ≡ true → t < 24
+    held-writing-low r t k e = C r k .numbered t (or-left _ _ (or-left _ _ (or-left _ _ (or-right (anyMode (sets held) r t) _ e))))
 
-  pub shares-of : Locked parent depth held retained writers → Shares depth line held retained writers
+    retained-low : (r t : ℕ) → r < 16 → anyMode (sets retained) r t ≡ true → t < 24
+    retained-low r t k e = C r k .numbered t (or-left _ _ (or-left _ _ (or-right (anyMode (sets held) r t || writeMode (sets held) r t) _ e)))
+
+    retained-writing-low : (r t : ℕ) → r < 16 → writeMode (sets retained) r t ≡ true → t < 24
+    retained-writing-low r t k e = C r k .numbered t (or-left _ _ (or-right ((anyMode (sets held) r t || writeMode (sets held) r t) || anyMode (sets retained) r t) _ e))
+
+    writers-low : (r t : ℕ) → r < 16 → sets writers r t ≡ true → t < 24
+    writers-low r t k e = C r k .numbered t (or-right (((anyMode (sets held) r t || writeMode (sets held) r t) || anyMode (sets retained) r t) || writeMode (sets retained) r t) _ e)
+
+    held-live : (r t : ℕ) → anyMode (sets held) r t ≡ true → isActive (bearersOf parent depth t) ≡ true
+    held-live r t e = let k = any-range held r t h e in sym (live-is parent depth t) ∙ C r k .holders-live t (held-low r t k e) e
+
+    retained-live : (r t : ℕ) → anyMode (sets retained) r t ≡ true → isActive (bearersOf parent depth t) ≡ true
+    retained-live r t e = let k = any-range retained r t m e in sym (live-is parent depth t) ∙ C r k .retainers-live t (retained-low r t k e) e
+
+    holds-writing : Nested (sets held)
+    holds-writing r t e = let k = write-range held r t h e in C r k .held-nested t (held-writing-low r t k e) e
+
+    retains-writing : Nested (sets retained)
+    retains-writing r t e = let k = write-range retained r t m e in C r k .retained-nested t (retained-writing-low r t k e) e
+
+    holder : (r t : ℕ) → anyMode (sets held) r t ≡ true → ShareOf line held retained t r
+    holder r t e = let k = any-range held r t h e in D t (held-low r t k e) (deep-is parent depth t (held-live r t e)) r k
+
+    retainer : (r t : ℕ) → anyMode (sets retained) r t ≡ true → ShareOf line held retained t r
+    retainer r t e = let k = any-range retained r t m e in D t (retained-low r t k e) (deep-is parent depth t (retained-live r t e)) r k
+
+    pub locked-by : Locked parent depth held retained writers
+    unfolding inLine
+    locked-by = record {
+      holder-live = held-live;
+      retainer-live = retained-live;
+      held-nested = holds-writing;
+      retained-nested = retains-writing;
+      on-one-line = λ r t u e f.
+          sym (ap₂ _||_ (on u t) (on t u)) ∙ retainer r u f .on-one-line f t (retained-writing-low r t (write-range retained r t m e) e) e;
+      beneath = λ r t u e f. sym (on t u) ∙ holder r t e .holder-beneath e u (retained-writing-low r u (write-range retained r u m f) f) f;
+      one-holder = λ r t u e f. sym (same-eq u t (holder r t (holds-writing r t e) .writer-alone e u (held-low r u (any-range held r u h f) f) f));
+      beneath-writing = λ r t u e f.
+          sym (on t u) ∙ holder r t (holds-writing r t e) .writer-beneath e u (retained-low r u (any-range retained r u m f) f) f;
+      by-lock = λ t r e. let k : r < 16 = let l = in-range writers r t e in omega arith in C r k .by-lock t (writers-low r t k e) e;
+    }
+
+  pub shares-of : Locked parent depth held retained writers → Shares depth line held retained
   unfolding inLine
-  shares-of L t h r k = record {
-    holder-live = λ e. live-is parent depth t ∙ L .holder-live r t e;
-    retainer-live = λ e. live-is parent depth t ∙ L .retainer-live r t e;
-    one-holder = λ e u l f. rw (L .one-holder r u t f e) (same-refl t);
+  shares-of L t h d r k = record {
     holder-beneath = λ e u l f. on t u ∙ L .beneath r t u e f;
+    writer-alone = λ e u l f. rw (sym (L .one-holder r t u e f)) (same-refl t);
+    writer-beneath = λ e u l f. on t u ∙ L .beneath-writing r t u e f;
     on-one-line = λ e u l f. ap₂ _||_ (on t u) (on u t) ∙ L .on-one-line r u t f e;
-    by-lock = λ e. L .by-lock t r e;
   }
+
+pub locks-of : (parent depth held retained writers : List ℕ) → ((t : ℕ) → isActive (bearersOf parent depth t) ≡ true → t < 24)
+    → Locked parent depth held retained writers → Locks (living depth) held retained writers
+locks-of parent depth held retained writers low L r k = record {
+  numbered = λ u e. low u (has-live u e);
+  holders-live = λ u l e. live-is parent depth u ∙ L .holder-live r u e;
+  retainers-live = λ u l e. live-is parent depth u ∙ L .retainer-live r u e;
+  held-nested = λ u l e. L .held-nested r u e;
+  retained-nested = λ u l e. L .retained-nested r u e;
+  by-lock = λ u l e. L .by-lock u r e;
+}
+  where
+    held-live : (u : ℕ) → writeMode (sets held) r u ≡ true → isActive (bearersOf parent depth u) ≡ true
+    held-live u e = L .holder-live r u (L .held-nested r u e)
+
+    retained-live : (u : ℕ) → writeMode (sets retained) r u ≡ true → isActive (bearersOf parent depth u) ≡ true
+    retained-live u e = L .retainer-live r u (L .retained-nested r u e)
+
+    has-live : (u : ℕ) → ((((anyMode (sets held) r u || writeMode (sets held) r u) || anyMode (sets retained) r u) || writeMode (sets retained) r u) || sets writers r u) ≡ true
+        → isActive (bearersOf parent depth u) ≡ true
+    has-live u e =
+        or-cases _ (sets writers r u) e
+        (λ f. or-cases _ (writeMode (sets retained) r u) f
+        (λ g. or-cases _ (anyMode (sets retained) r u) g
+        (λ i. or-cases (anyMode (sets held) r u) (writeMode (sets held) r u) i (L .holder-live r u) (held-live u))
+        (L .retainer-live r u))
+        (retained-live u))
+        (λ f. or-cases (writeMode (sets held) r u) (writeMode (sets retained) r u) (L .by-lock u r f) (held-live u) (retained-live u))
 
 -- the locks of a sound state
-module _ (up : ℕ) (parent depth held retained writers work store : List ℕ) (S : Sound edition1 (stateOf up parent depth held retained writers work store)) where
-  held-is : (r t : ℕ) → holds (stateOf up parent depth held retained writers work store) r t ≡ sets held r t
-  unfolding holds
-  held-is r t = lock-is (sets held) r t
-
-  retained-is : (r t : ℕ) → retains (stateOf up parent depth held retained writers work store) r t ≡ sets retained r t
-  unfolding retains
-  retained-is r t = lock-is (sets retained) r t
-
-  pub locked-of : Locked parent depth held retained writers
-  unfolding live
-  locked-of = record {
-    holder-live = λ r t e. S .holder-live r t (held-is r t ∙ e);
-    retainer-live = λ r t e. S .retainer-live r t (retained-is r t ∙ e);
-    one-holder = λ r t u e f. S .one-holder r t u (held-is r t ∙ e) (held-is r u ∙ f);
-    on-one-line = λ r t u e f. S .on-one-line r t u (retained-is r t ∙ e) (retained-is r u ∙ f);
-    beneath = λ r t u e f. S .beneath r t u (held-is r t ∙ e) (retained-is r u ∙ f);
-    by-lock = λ t r e. sym (ap₂ _||_ (held-is r t) (retained-is r t)) ∙ S .by-lock t r (some-is depth writers work t r ∙ e);
-  }
-
-  pub held-numbered : Numbered held
-  held-numbered r k t e = S .numbered t (S .holder-live r t (held-is r t ∙ e))
-
-  pub retained-numbered : Numbered retained
-  retained-numbered r k t e = S .numbered t (S .retainer-live r t (retained-is r t ∙ e))
-
-  pub writers-numbered : Numbered writers
-  writers-numbered r k t e =
-      or-cases (sets held r t) (sets retained r t) (locked-of .by-lock t r e) (held-numbered r k t) (retained-numbered r k t)
+pub locked-of : (up : ℕ) (parent depth held retained writers work store : List ℕ) → Nested (sets held) → Nested (sets retained)
+    → Sound edition1 (stateOf up parent depth held retained writers work store) → Locked parent depth held retained writers
+unfolding live holds retains holdsWriting retainsWriting
+locked-of up parent depth held retained writers work store H M S =
+    let h = lock-is (sets held) H in
+    let m = lock-is (sets retained) M in
+    let v = writing-is (sets held) in
+    let w = writing-is (sets retained) in
+    record {
+      holder-live = λ r t e. S .holder-live r t (h r t ∙ e);
+      retainer-live = λ r t e. S .retainer-live r t (m r t ∙ e);
+      held-nested = H;
+      retained-nested = M;
+      on-one-line = λ r t u e f. S .on-one-line r t u (w r t ∙ e) (m r u ∙ f);
+      beneath = λ r t u e f. S .beneath r t u (h r t ∙ e) (w r u ∙ f);
+      one-holder = λ r t u e f. S .one-holder r t u (v r t ∙ e) (h r u ∙ f);
+      beneath-writing = λ r t u e f. S .beneath-writing r t u (v r t ∙ e) (m r u ∙ f);
+      by-lock = λ t r e. sym (ap₂ _||_ (v r t) (w r t)) ∙ S .by-lock t r (some-is depth writers work t r ∙ e);
+    }

@@ -3,21 +3,23 @@
 use mathlib.Core.Path.{_≡_, refl, sym, ap, _∙_, fun-ext}
 use mathlib.Core.Bool.{Bool}
 use mathlib.Core.List.{List}
+use mathlib.Core.Logic.{dite}
+use native.Mathlib.Decide.{decLt}
 use native.Mathlib.Omega.{arith}
-use Prim.Native.Nat.{ℕ, zero, suc, _≤_}
+use Prim.Native.Nat.{ℕ, zero, suc, _+_, _*_, _/_, _%_, _≤_}
 use lib.ListN.{length, getD}
 use lib.Seq.{ext-getD}
 use Rattle.laws.specs.Tests.{same}
 use Rattle.laws.proofs.Tests.{same?, Same, is, isnt}
 use Rattle.laws.proofs.Booleans.{clash}
-use Rattle.rules.specs.State.{Bearers, Modes, depthIn, parentIn, isLock, lineOf, mem}
+use Rattle.rules.specs.State.{Bearers, Modes, depthIn, parentIn, isLock, isWriting, lineOf, mem}
 use Rattle.rules.specs.Step.{StateOf}
 use Rattle.rules.specs.Versions.{isSome}
 use Rattle.rules.specs.Editions.{edition1}
 use Rattle.sets.specs.Sets.{sets}
-use Rattle.arrays.specs.View.{bearersOf, modesOf}
+use Rattle.arrays.specs.View.{bearersOf, anyMode, writeMode, modesOf, Nested}
 use Rattle.arrays.proofs.View.{depth-is, parent-is, some-is}
-use Rattle.arrays.proofs.Modes.{lock-is}
+use Rattle.arrays.proofs.Modes.{lock-is, writing-is}
 use Rattle.soundness.specs.Encoded.{stateOf, Encoded, Sized, Alike}
 use Rattle.soundness.proofs.Words.{bits-same}
 
@@ -25,10 +27,21 @@ same-sets : (l m : List ℕ) → length l ≡ length m → sets l ≡ sets m →
 unfolding sets
 same-sets l m long e = ext-getD 0 l m long (λ i h. bits-same (getD l i 0) (getD m i 0) (ap (λ (f : ℕ → ℕ → Bool). f i) e))
 
-same-locks : (l m : List ℕ) → length l ≡ length m → modesOf (sets l) ≡ modesOf (sets m) → l ≡ m
-same-locks l m long e =
-    same-sets l m long
-    (fun-ext (λ r. fun-ext (λ t. sym (lock-is (sets l) r t) ∙ ap (λ (f : Modes). isLock (f r t)) e ∙ lock-is (sets m) r t)))
+-- a place is one of the two of a record
+data Place (k : ℕ) : Type 0 where
+  any-at : (r : ℕ) → k ≡ 2 * r → Place k
+  write-at : (r : ℕ) → k ≡ 2 * r + 1 → Place k
+
+place? : (k : ℕ) → Place k
+place? k = dite (decLt (k % 2) 1) (λ lt. any-at (k / 2) (omega arith)) (λ ge. write-at (k / 2) (omega arith))
+
+same-locks : (l m : List ℕ) → length l ≡ length m → Nested (sets l) → Nested (sets m) → modesOf (sets l) ≡ modesOf (sets m) → l ≡ m
+unfolding anyMode writeMode
+same-locks l m long L M e = same-sets l m long (fun-ext (λ k. fun-ext (λ t. go k t (place? k))))
+  where
+    go : (k t : ℕ) → Place k → sets l k t ≡ sets m k t
+    go k t (any-at r q) = rw q (sym (lock-is (sets l) L r t) ∙ ap (λ (f : Modes). isLock (f r t)) e ∙ lock-is (sets m) M r t)
+    go k t (write-at r q) = rw q (sym (writing-is (sets l) r t) ∙ ap (λ (f : Modes). isWriting (f r t)) e ∙ writing-is (sets m) r t)
 
 same-flag : (a b : ℕ) → a ≤ 1 → b ≤ 1 → same a 1 ≡ same b 1 → a ≡ b
 same-flag a b h k e = go (same? a 1) (same? b 1)
@@ -67,7 +80,7 @@ module _ (up : ℕ) (parent depth line held retained writers work store : List �
     depths = ext-getD 0 depth depth′ (Z .depths ∙ sym (Z′ .depths)) (λ t h. depth-same t);
     lines = same-sets line line′ (Z .lines ∙ sym (Z′ .lines))
         (N .lines ∙ ap {B = ℕ → ℕ → Bool} (λ (b : Bearers) (t u : ℕ). mem u (lineOf b t)) bearers ∙ sym (N′ .lines));
-    helds = same-locks held held′ (Z .helds ∙ sym (Z′ .helds)) (ap (λ (s : StateOf edition1). s .held) e);
-    retaineds = same-locks retained retained′ (Z .retaineds ∙ sym (Z′ .retaineds)) (ap (λ (s : StateOf edition1). s .retained) e);
+    helds = same-locks held held′ (Z .helds ∙ sym (Z′ .helds)) (N .held-nested) (N′ .held-nested) (ap (λ (s : StateOf edition1). s .held) e);
+    retaineds = same-locks retained retained′ (Z .retaineds ∙ sym (Z′ .retaineds)) (N .retained-nested) (N′ .retained-nested) (ap (λ (s : StateOf edition1). s .retained) e);
     writerss = same-sets writers writers′ (Z .writerss ∙ sym (Z′ .writerss)) writers-same;
   }

@@ -12,24 +12,24 @@ use Rattle.laws.specs.Tests.{same}
 use Rattle.laws.proofs.Booleans.{or-cases, refute}
 use Rattle.rules.specs.Geometry.{records}
 use Rattle.rules.specs.Store.{Page, pagesOf}
-use Rattle.rules.specs.State.{isActive, live, holds, retains}
+use Rattle.rules.specs.State.{isActive, live, holds, retains, holdsWriting, retainsWriting}
 use Rattle.rules.specs.Sound.{Sound}
 use Rattle.rules.specs.Editions.{edition1, depths, workBytes}
 use Rattle.sets.specs.Sets.{sets}
-use Rattle.arrays.specs.View.{bearersOf, slot, versionsOf}
+use Rattle.arrays.specs.View.{bearersOf, writeMode, slot, versionsOf}
 use Rattle.arrays.proofs.View.{depth-is, deep-is, active-is, idle-is, some-is}
-use Rattle.arrays.proofs.Modes.{lock-is}
+use Rattle.arrays.proofs.Modes.{lock-is, writing-is}
 use Rattle.soundness.specs.Decides.{Decides}
-use Rattle.soundness.specs.Clauses.{Entry, Entries, Numbered, Shares, Phase}
+use Rattle.soundness.specs.Clauses.{Entry, Entries, Locks, Shares, Phase}
 use Rattle.soundness.specs.Encoded.{stateOf, Encoded, Sized}
 use Rattle.soundness.proofs.Decides.{decides-as, decides-and}
 use Rattle.soundness.proofs.Tree.{below, everywhere, tree-rooted, tree-lines, tree-parented, tree-shallow, entry-of}
-use Rattle.soundness.proofs.Locks.{Locked, in-range, locked-by, shares-of, locked-of, held-numbered, retained-numbered, writers-numbered}
+use Rattle.soundness.proofs.Locks.{living, Locked, in-range, locked-by, shares-of, locks-of, locked-of}
 
 -- the clauses, in the order of the code's tests
 abbrev Clauses : ℕ → List ℕ → List ℕ → List ℕ → List ℕ → List ℕ → List ℕ → List ℕ → Type 0
 Clauses up parent depth line held retained writers store =
-    ((((Entries parent depth line × Numbered held) × Numbered retained) × Numbered writers) × Shares depth line held retained writers) × Phase up depth store
+    ((Entries parent depth line × Locks (living depth) held retained writers) × Shares depth line held retained) × Phase up depth store
 
 page-long : (work : List ℕ) (n : ℕ) → 32 * n + 32 ≤ length work → length (pagesOf work n) ≡ 32
 unfolding pagesOf
@@ -45,69 +45,75 @@ version-is true q p e = (refl, cc)
 version-is false q p e = let z : _≡_ {A = ℕ} 0 1 = cc in absurd (omega arith)
 
 module _ (up : ℕ) (parent depth line held retained writers work store : List ℕ) (Z : Sized parent depth line held retained writers store) (long : length work ≡ workBytes) where
-  -- a transaction that has a version is live
+  -- a version is a record's, by a live transaction
+  writer-low : (r t : ℕ) → sets writers r t ≡ true → r < 16
+  writer-low r t e = let l = in-range writers r t e in let z = Z .writerss in omega arith
+
   writer-live : Locked parent depth held retained writers → (r t : ℕ) → sets writers r t ≡ true → 0 < getD depth t 0
   writer-live L r t e =
-      deep-is parent depth t (or-cases (sets held r t) (sets retained r t) (L .by-lock t r e) (L .holder-live r t) (L .retainer-live r t))
+      deep-is parent depth t
+      (or-cases (writeMode (sets held) r t) (writeMode (sets retained) r t) (L .by-lock t r e)
+      (λ f. L .holder-live r t (L .held-nested r t f)) (λ f. L .retainer-live r t (L .retained-nested r t f)))
 
   state-sound : ((t : ℕ) → Entry parent depth line t) → Locked parent depth held retained writers → Phase up depth store
       → Sound edition1 (stateOf up parent depth held retained writers work store)
-  unfolding live holds retains versionsOf records
-  state-sound E L P = record {
-    numbered = λ t e. below depth t (Z .depths) (deep-is parent depth t e);
-    parented = tree-parented parent depth line (Z .depths) E;
-    level = tree-rooted parent depth line (Z .depths) E .level;
-    shallow = λ t. let k = tree-shallow parent depth line (Z .depths) E t in let l = depth-is parent depth t in omega arith;
-    holder-live = λ r t e. L .holder-live r t (sym (lock-is (sets held) r t) ∙ e);
-    retainer-live = λ r t e. L .retainer-live r t (sym (lock-is (sets retained) r t) ∙ e);
-    one-holder = λ r t u e f. L .one-holder r t u (sym (lock-is (sets held) r t) ∙ e) (sym (lock-is (sets held) r u) ∙ f);
-    on-one-line = λ r t u e f. L .on-one-line r t u (sym (lock-is (sets retained) r t) ∙ e) (sym (lock-is (sets retained) r u) ∙ f);
-    beneath = λ r t u e f. L .beneath r t u (sym (lock-is (sets held) r t) ∙ e) (sym (lock-is (sets retained) r u) ∙ f);
-    by-lock = λ t r e. ap₂ _||_ (lock-is (sets held) r t) (lock-is (sets retained) r t) ∙ L .by-lock t r (sym (some-is depth writers work t r) ∙ e);
-    ranged = λ t r e. in-range writers r t (Z .writerss) (sym (some-is depth writers work t r) ∙ e);
-    paged = λ t r p e. let v = version-is (sets writers r t) (pagesOf work (slot r (getD depth t 0))) p e in
-        sym (ap length (v .1)) ∙ page-long work (slot r (getD depth t 0))
-        (let s = slot-low r (getD depth t 0) (in-range writers r t (Z .writerss) (v .0)) (writer-live L r t (v .0)) (tree-shallow parent depth line (Z .depths) E t) in omega arith);
-    idle = λ t e. dite (decLt t 24)
-        (λ lt. idle-is parent depth t (P .idle e t lt))
-        (λ ge. refute (isActive (bearersOf parent depth t)) (λ a. let k : t < 24 = below depth t (Z .depths) (deep-is parent depth t a) in omega arith));
-    calm = P .calm;
-  }
+  unfolding live holds retains holdsWriting retainsWriting versionsOf records
+  state-sound E L P =
+      let h = lock-is (sets held) (L .held-nested) in
+      let m = lock-is (sets retained) (L .retained-nested) in
+      let v = writing-is (sets held) in
+      let w = writing-is (sets retained) in
+      record {
+        numbered = λ t e. below depth t (Z .depths) (deep-is parent depth t e);
+        parented = tree-parented parent depth line (Z .depths) E;
+        level = tree-rooted parent depth line (Z .depths) E .level;
+        shallow = λ t. let k = tree-shallow parent depth line (Z .depths) E t in let l = depth-is parent depth t in omega arith;
+        holder-live = λ r t e. L .holder-live r t (sym (h r t) ∙ e);
+        retainer-live = λ r t e. L .retainer-live r t (sym (m r t) ∙ e);
+        on-one-line = λ r t u e f. L .on-one-line r t u (sym (w r t) ∙ e) (sym (m r u) ∙ f);
+        beneath = λ r t u e f. L .beneath r t u (sym (h r t) ∙ e) (sym (w r u) ∙ f);
+        one-holder = λ r t u e f. L .one-holder r t u (sym (v r t) ∙ e) (sym (h r u) ∙ f);
+        beneath-writing = λ r t u e f. L .beneath-writing r t u (sym (v r t) ∙ e) (sym (m r u) ∙ f);
+        by-lock = λ t r e. ap₂ _||_ (v r t) (w r t) ∙ L .by-lock t r (sym (some-is depth writers work t r) ∙ e);
+        ranged = λ t r e. writer-low r t (sym (some-is depth writers work t r) ∙ e);
+        paged = λ t r p e. let v = version-is (sets writers r t) (pagesOf work (slot r (getD depth t 0))) p e in
+            sym (ap length (v .1)) ∙ page-long work (slot r (getD depth t 0))
+            (let s = slot-low r (getD depth t 0) (writer-low r t (v .0)) (writer-live L r t (v .0)) (tree-shallow parent depth line (Z .depths) E t) in omega arith);
+        idle = λ t e. dite (decLt t 24)
+            (λ lt. idle-is parent depth t (P .idle e t lt))
+            (λ ge. refute (isActive (bearersOf parent depth t)) (λ a. let k : t < 24 = below depth t (Z .depths) (deep-is parent depth t a) in omega arith));
+        calm = P .calm;
+      }
 
   encoded-by : Clauses up parent depth line held retained writers store → Encoded up parent depth line held retained writers work store
   encoded-by x =
-      let E = everywhere parent depth line (Z .parents) (Z .depths) (Z .lines) (x .0 .0 .0 .0 .0) in
+      let E = everywhere parent depth line (Z .parents) (Z .depths) (Z .lines) (x .0 .0 .0) in
       let T = tree-lines parent depth line (Z .depths) E in
-      let L = locked-by parent depth line held retained writers T (Z .helds) (Z .retaineds) (Z .writerss) (x .0 .0 .0 .0 .1) (x .0 .0 .0 .1) (x .0 .0 .1) (x .0 .1) in
-      record { sound = state-sound E L (x .1); lines = T; flag = x .1 .flag; tidy = λ t e. E t .vacant e .parentless }
+      let L = locked-by parent depth line held retained writers T (Z .helds) (Z .retaineds) (Z .writerss) (x .0 .0 .1) (x .0 .1) in
+      record {
+        sound = state-sound E L (x .1);
+        lines = T;
+        flag = x .1 .flag;
+        tidy = λ t e. E t .vacant e .parentless;
+        held-nested = L .held-nested;
+        retained-nested = L .retained-nested;
+      }
 
   down-free : Sound edition1 (stateOf up parent depth held retained writers work store) → same up 1 ≡ false → (t : ℕ) → getD depth t 0 ≡ 0
   unfolding live
   down-free S e t = dite (decLt 0 (getD depth t 0)) (λ lt. absurd (true≢false (sym (active-is parent depth t lt) ∙ S .idle t e))) (λ ge. omega arith)
 
   clauses-of : Encoded up parent depth line held retained writers work store → Clauses up parent depth line held retained writers store
+  unfolding live
   clauses-of N =
       let S = N .sound in
       let E = entry-of up parent depth line held retained writers work store S (N .lines) (N .tidy) in
-      let L = locked-of up parent depth held retained writers work store S in (
-        (
-          (
-            (
-              (
-                (λ t h. E t),
-                held-numbered up parent depth held retained writers work store S,
-              ),
-              retained-numbered up parent depth held retained writers work store S,
-            ),
-            writers-numbered up parent depth held retained writers work store S,
-          ),
-          shares-of parent depth line held retained writers (N .lines) L,
-        ),
+      let L = locked-of up parent depth held retained writers work store (N .held-nested) (N .retained-nested) S in (
+        (((λ t h. E t), locks-of parent depth held retained writers (S .numbered) L), shares-of parent depth line held retained writers (N .lines) L),
         record { flag = N .flag; idle = λ e t h. down-free S e t; calm = S .calm },
       )
 
-  pub whole-decided : {a b c d e f : Bool} → Decides a (Entries parent depth line) → Decides b (Numbered held) → Decides c (Numbered retained) → Decides d (Numbered writers)
-      → Decides e (Shares depth line held retained writers) → Decides f (Phase up depth store)
-      → Decides (((((a && b) && c) && d) && e) && f) (Encoded up parent depth line held retained writers work store)
-  whole-decided a b c d e f =
-      decides-as encoded-by clauses-of (decides-and (decides-and (decides-and (decides-and (decides-and a b) c) d) e) f)
+  pub whole-decided : {a b c d : Bool} → Decides a (Entries parent depth line) → Decides b (Locks (living depth) held retained writers)
+      → Decides c (Shares depth line held retained) → Decides d (Phase up depth store)
+      → Decides (((a && b) && c) && d) (Encoded up parent depth line held retained writers work store)
+  whole-decided a b c d = decides-as encoded-by clauses-of (decides-and (decides-and (decides-and a b) c) d)

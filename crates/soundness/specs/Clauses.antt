@@ -1,5 +1,5 @@
--- The clauses of soundness, said of the arrays themselves: of one transaction number, of one transaction and one record, of the flag and the
--- commit page.
+-- The clauses of soundness, said of the arrays themselves: of one transaction number, of one lock, of one transaction and one lock, of the flag
+-- and the commit page.
 use mathlib.Core.Path.{_≡_}
 use mathlib.Core.Bool.{Bool, true, false, not, _||_}
 use mathlib.Core.List.{List}
@@ -11,6 +11,7 @@ use Rattle.rules.specs.Geometry.{transactions, nobody}
 use Rattle.rules.specs.Store.{pagesOf, emptied}
 use Rattle.rules.specs.Editions.{geometry1}
 use Rattle.sets.specs.Sets.{sets}
+use Rattle.arrays.specs.View.{anyMode, writeMode}
 
 -- a free number has parent 0 and no line
 pub record Vacant (parent line : List ℕ) (t : ℕ) : Type 0 where
@@ -32,30 +33,52 @@ pub record Entry (parent depth line : List ℕ) (t : ℕ) : Type 0 where
 abbrev pub Entries : List ℕ → List ℕ → List ℕ → Type 0
 Entries parent depth line = (t : ℕ) → t < transactions → Entry parent depth line t
 
--- the sets have transaction numbers only
-abbrev pub Numbered : List ℕ → Type 0
-Numbered words = (r : ℕ) → r < 16 → (t : ℕ) → sets words r t ≡ true → t < transactions
+-- one set is within another
+abbrev pub Within : (ℕ → Bool) → (ℕ → Bool) → Type 0
+Within p q = (u : ℕ) → u < transactions → p u ≡ true → q u ≡ true
 
--- What t has of one lock, with the transactions at or above t and at or beneath it, and the lock's holders, retainers and writers.
-pub record Share (live : Bool) (above beneath held retained writers : ℕ → Bool) (t : ℕ) : Type 0 where
+-- The sets of one lock: who holds and retains it in any mode and in write mode, and who has a version.
+pub record Lock (live held heldWriting retained retainedWriting writers : ℕ → Bool) : Type 0 where
+  -- all are transaction numbers
+  pub numbered : (u : ℕ) → ((((held u || heldWriting u) || retained u) || retainedWriting u) || writers u) ≡ true → u < transactions
   -- holders and retainers are live
-  pub holder-live : held t ≡ true → live ≡ true
-  pub retainer-live : retained t ≡ true → live ≡ true
-  -- a lock has one holder; its retainers are on one line, and the holder is at or beneath the last
-  pub one-holder : held t ≡ true → (u : ℕ) → u < transactions → held u ≡ true → same u t ≡ true
-  pub holder-beneath : held t ≡ true → (u : ℕ) → u < transactions → retained u ≡ true → above u ≡ true
-  pub on-one-line : retained t ≡ true → (u : ℕ) → u < transactions → retained u ≡ true → (above u || beneath u) ≡ true
-  -- who has a version holds or retains the lock
-  pub by-lock : writers t ≡ true → (held t || retained t) ≡ true
+  pub holders-live : Within held live
+  pub retainers-live : Within retained live
+  -- who has it in write mode has it
+  pub held-nested : Within heldWriting held
+  pub retained-nested : Within retainedWriting retained
+  -- who has a version has the lock in write mode
+  pub by-lock : Within writers (λ u. heldWriting u || retainedWriting u)
 
-abbrev pub ShareOf : List ℕ → List ℕ → List ℕ → List ℕ → List ℕ → ℕ → ℕ → Type 0
-ShareOf depth line held retained writers t r =
-    Share (not (same (getD depth t 0) 0)) (sets line t) (λ u. sets line u t) (sets held r) (sets retained r) (sets writers r) t
+abbrev pub LockOf : (ℕ → Bool) → List ℕ → List ℕ → List ℕ → ℕ → Type 0
+LockOf live held retained writers r =
+    Lock live (anyMode (sets held) r) (writeMode (sets held) r) (anyMode (sets retained) r) (writeMode (sets retained) r) (sets writers r)
 
--- the locks
-abbrev pub Shares : List ℕ → List ℕ → List ℕ → List ℕ → List ℕ → Type 0
-Shares depth line held retained writers =
-    (t : ℕ) → t < transactions → (r : ℕ) → r < 16 → ShareOf depth line held retained writers t r
+-- the locks, each by itself
+abbrev pub Locks : (ℕ → Bool) → List ℕ → List ℕ → List ℕ → Type 0
+Locks live held retained writers = (r : ℕ) → r < 16 → LockOf live held retained writers r
+
+-- What t has of one lock, beside what others have: with the transactions at or above t and at or beneath it.
+pub record Share (above beneath held heldWriting retained retainedWriting : ℕ → Bool) (t : ℕ) : Type 0 where
+  -- a holder is at or beneath all write-mode retainers
+  pub holder-beneath : held t ≡ true → Within retainedWriting above
+  -- a write holder is alone, and at or beneath every retainer
+  pub writer-alone : heldWriting t ≡ true → Within held (λ u. same u t)
+  pub writer-beneath : heldWriting t ≡ true → Within retained above
+  -- a retainer is on one line with each write-mode retainer
+  pub on-one-line : retained t ≡ true → Within retainedWriting (λ u. above u || beneath u)
+
+abbrev pub ShareOf : List ℕ → List ℕ → List ℕ → ℕ → ℕ → Type 0
+ShareOf line held retained t r =
+    Share (sets line t) (λ u. sets line u t) (anyMode (sets held) r) (writeMode (sets held) r) (anyMode (sets retained) r) (writeMode (sets retained) r) t
+
+-- what t has of each lock
+abbrev pub SharesOf : List ℕ → List ℕ → List ℕ → ℕ → Type 0
+SharesOf line held retained t = (r : ℕ) → r < 16 → ShareOf line held retained t r
+
+-- what each live transaction has of each lock
+abbrev pub Shares : List ℕ → List ℕ → List ℕ → List ℕ → Type 0
+Shares depth line held retained = (t : ℕ) → t < transactions → 0 < getD depth t 0 → SharesOf line held retained t
 
 -- up is 0 or 1; nothing is live while down; the commit page is empty while up
 pub record Phase (up : ℕ) (depth store : List ℕ) : Type 0 where

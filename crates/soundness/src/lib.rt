@@ -1,4 +1,5 @@
-// Whether any bytes in the engine's arrays encode a sound state. Every test is made, and the results are joined at the end.
+// Whether any bytes in the engine's arrays encode a sound state. The results of the tests are joined at the end, so that there are few branches; what a
+// free number has of the locks isn't looked at, since holders and retainers are live.
 ghost use mathlib.Core.Path.{_≡_};
 ghost use mathlib.Core.Bool.{true};
 ghost use mathlib.Core.List.{List};
@@ -7,9 +8,8 @@ ghost use lib.ListN.{length, getD};
 ghost use Rattle.laws.specs.Bits.{bits};
 ghost use Rattle.rules.specs.Editions.{workBytes};
 ghost use Rattle.rules.specs.Geometry.{transactions};
-ghost use Rattle.sets.specs.Sets.{sets};
 ghost use Rattle.soundness.specs.Decides.{Decides};
-ghost use Rattle.soundness.specs.Clauses.{Vacant, Seated, Entry, Entries, Numbered, Share, ShareOf, Shares, Phase};
+ghost use Rattle.soundness.specs.Clauses.{Vacant, Seated, Entry, Entries, Lock, Locks, Share, SharesOf, Shares, Phase};
 ghost use Rattle.soundness.specs.Encoded.{Encoded, Sized};
 
 // How deep transactions nest.
@@ -105,82 +105,125 @@ fn is_set(s: u32) -> bool
     s / 16777216 == 0
 }
 
-// The sets have transaction numbers only.
-fn are_sets(words: &[u32; 16]) -> bool
-    requires { ⌜ length (now words) ≡ 16 ⌝ }
-    ensures { λ r. ⌜ Decides r (Numbered (now (words .entry))) ⌝ }
+// The sets of one lock fit each other: transaction numbers, live, write mode within any mode, versions only in write mode.
+fn is_lock(
+    live: u32,
+    held: u32,
+    held_writing: u32,
+    retained: u32,
+    retained_writing: u32,
+    writers: u32,
+) -> bool
+    ensures { λ r. ⌜ Decides r (Lock (bits live) (bits held) (bits «held_writing») (bits retained) (bits «retained_writing») (bits writers)) ⌝ }
+{
+    let numbered = is_set(held | held_writing | retained | retained_writing | writers);
+    let holders_live = sets::within(held, live);
+    let retainers_live = sets::within(retained, live);
+    let held_nested = sets::within(held_writing, held);
+    let retained_nested = sets::within(retained_writing, retained);
+    let by_lock = sets::within(writers, held_writing | retained_writing);
+    numbered & holders_live & retainers_live & held_nested & retained_nested & by_lock
+}
+
+// The sets of each lock fit each other.
+fn are_locks(live: u32, held: &[u32; 32], retained: &[u32; 32], writers: &[u32; 16]) -> bool
+    requires { ⌜ (length (now held) ≡ 32) × (length (now retained) ≡ 32) × (length (now writers) ≡ 16) ⌝ }
+    ensures { λ b. ⌜ Decides b (Locks (bits live) (now (held .entry)) (now (retained .entry)) (now (writers .entry))) ⌝ }
 {
     let mut ok = true;
     for r in 0..16usize {
-        ok = ok & is_set(words[r]);
+        let any = 2 * r;
+        let writing = any + 1;
+        ok = ok
+            & is_lock(
+                live,
+                held[any],
+                held[writing],
+                retained[any],
+                retained[writing],
+                writers[r],
+            );
     }
     ok
 }
 
-// What t has of one lock is as it must be, with the transactions at or above t and at or beneath it.
+// What t has of one lock goes with what others have, by the transactions at or above t and at or beneath it.
 fn is_share(
-    live: bool,
     above: u32,
     beneath: u32,
     held: u32,
+    held_writing: u32,
     retained: u32,
-    writers: u32,
+    retained_writing: u32,
     t: u8,
 ) -> bool
     requires { ⌜ t < 24 ⌝ }
-    ensures { λ r. ⌜ Decides r (Share live (bits above) (bits beneath) (bits held) (bits retained) (bits writers) t) ⌝ }
+    ensures { λ r. ⌜ Decides r (Share (bits above) (bits beneath) (bits held) (bits «held_writing») (bits retained) (bits «retained_writing») t) ⌝ }
 {
     let holds = sets::contains(held, t);
+    let writes = sets::contains(held_writing, t);
     let retains = sets::contains(retained, t);
-    let writes = sets::contains(writers, t);
+    let below_writers = sets::within(retained_writing, above);
     let alone = sets::within(held, sets::single(t));
-    let highest = sets::within(retained, above);
-    let aligned = sets::within(retained, above | beneath);
-    let holder_live = !holds | live;
-    let retainer_live = !retains | live;
-    let one_holder = !holds | alone;
-    let holder_beneath = !holds | highest;
+    let below_all = sets::within(retained, above);
+    let aligned = sets::within(retained_writing, above | beneath);
+    let holder_beneath = !holds | below_writers;
+    let writer_alone = !writes | alone;
+    let writer_beneath = !writes | below_all;
     let on_one_line = !retains | aligned;
-    let by_lock = !writes | (holds | retains);
-    holder_live & retainer_live & one_holder & holder_beneath & on_one_line & by_lock
+    holder_beneath & writer_alone & writer_beneath & on_one_line
 }
 
-// What t has of each lock is as it must be.
-fn are_shares_of(
-    depth: &[u8; 24],
-    line: &[u32; 24],
-    held: &[u32; 16],
-    retained: &[u32; 16],
-    writers: &[u32; 16],
-    t: u8,
-) -> bool
-    requires { ⌜ (t < 24) × (length (now depth) ≡ 24) × (length (now line) ≡ 24) × (length (now held) ≡ 16) × (length (now retained) ≡ 16) × (length (now writers) ≡ 16) ⌝ }
-    ensures { λ b. ⌜ Decides b ((r : ℕ) → r < 16 → ShareOf (now (depth .entry)) (now (line .entry)) (now (held .entry)) (now (retained .entry)) (now (writers .entry)) t r) ⌝ }
+// What t has of each lock goes with what others have.
+fn are_shares_of(line: &[u32; 24], held: &[u32; 32], retained: &[u32; 32], t: u8) -> bool
+    requires { ⌜ (t < 24) × (length (now line) ≡ 24) × (length (now held) ≡ 32) × (length (now retained) ≡ 32) ⌝ }
+    ensures { λ b. ⌜ Decides b (SharesOf (now (line .entry)) (now (held .entry)) (now (retained .entry)) t) ⌝ }
 {
-    let live = depth[t as usize] != 0;
     let above = line[t as usize];
     let beneath = transactions::descendants(line, t);
     let mut ok = true;
     for r in 0..16usize {
-        ok = ok & is_share(live, above, beneath, held[r], retained[r], writers[r], t);
+        let any = 2 * r;
+        let writing = any + 1;
+        ok = ok
+            & is_share(
+                above,
+                beneath,
+                held[any],
+                held[writing],
+                retained[any],
+                retained[writing],
+                t,
+            );
     }
     ok
 }
 
-// What each transaction has of each lock is as it must be.
-fn are_shares(
+// The number t is free, or what its transaction has of each lock goes with what others have.
+fn are_shares_at(
     depth: &[u8; 24],
     line: &[u32; 24],
-    held: &[u32; 16],
-    retained: &[u32; 16],
-    writers: &[u32; 16],
+    held: &[u32; 32],
+    retained: &[u32; 32],
+    t: u8,
 ) -> bool
-    requires { ⌜ (length (now depth) ≡ 24) × (length (now line) ≡ 24) × (length (now held) ≡ 16) × (length (now retained) ≡ 16) × (length (now writers) ≡ 16) ⌝ }
-    ensures { λ b. ⌜ Decides b (Shares (now (depth .entry)) (now (line .entry)) (now (held .entry)) (now (retained .entry)) (now (writers .entry))) ⌝ }
+    requires { ⌜ (t < 24) × (length (now depth) ≡ 24) × (length (now line) ≡ 24) × (length (now held) ≡ 32) × (length (now retained) ≡ 32) ⌝ }
+    ensures { λ b. ⌜ Decides b (0 < getD (now (depth .entry)) t 0 → SharesOf (now (line .entry)) (now (held .entry)) (now (retained .entry)) t) ⌝ }
+{
+    if depth[t as usize] == 0 {
+        return true;
+    }
+    are_shares_of(line, held, retained, t)
+}
+
+// What each live transaction has of each lock goes with what others have.
+fn are_shares(depth: &[u8; 24], line: &[u32; 24], held: &[u32; 32], retained: &[u32; 32]) -> bool
+    requires { ⌜ (length (now depth) ≡ 24) × (length (now line) ≡ 24) × (length (now held) ≡ 32) × (length (now retained) ≡ 32) ⌝ }
+    ensures { λ b. ⌜ Decides b (Shares (now (depth .entry)) (now (line .entry)) (now (held .entry)) (now (retained .entry))) ⌝ }
 {
     let mut ok = true;
     for t in 0..24u8 {
-        ok = ok & are_shares_of(depth, line, held, retained, writers, t);
+        ok = ok & are_shares_at(depth, line, held, retained, t);
     }
     ok
 }
@@ -220,8 +263,8 @@ pub fn is_sound(
     parent: &[u8; 24],
     depth: &[u8; 24],
     line: &[u32; 24],
-    held: &[u32; 16],
-    retained: &[u32; 16],
+    held: &[u32; 32],
+    retained: &[u32; 32],
     writers: &[u32; 16],
     store: &[u8],
 ) -> bool
@@ -229,10 +272,9 @@ pub fn is_sound(
     ensures { λ r. ⌜ ((work : List ℕ) → length work ≡ workBytes → Decides r (Encoded up (now (parent .entry)) (now (depth .entry)) (now (line .entry)) (now (held .entry)) (now (retained .entry)) (now (writers .entry)) work (now (store .entry)))) ⌝ }
 {
     let tree = is_tree(parent, depth, line);
-    let helds = are_sets(held);
-    let retaineds = are_sets(retained);
-    let writerss = are_sets(writers);
-    let shares = are_shares(depth, line, held, retained, writers);
+    let live = transactions::live_set(depth);
+    let locks = are_locks(live, held, retained, writers);
+    let shares = are_shares(depth, line, held, retained);
     let phase = is_phase(up, depth, store);
-    tree & helds & retaineds & writerss & shares & phase
+    tree & locks & shares & phase
 }

@@ -57,6 +57,19 @@ fn with_if(s: u32, b: bool, j: u8) -> u32
     s
 }
 
+// The live transactions.
+pub fn live_set(depth: &[u8; 24]) -> u32
+    requires { ⌜ length (now depth) ≡ 24 ⌝ }
+    ensures { λ r. ⌜ bits r ≡ (λ u. not (same (getD (now (depth .entry)) u 0) 0)) ⌝ }
+{
+    let mut m = 0u32;
+    for j in 0..24 {
+        let live = depth[j] != 0;
+        m = with_if(m, live, (j % 256) as u8);
+    }
+    m
+}
+
 // t and its live descendants.
 pub fn descendants(line: &[u32; 24], t: u8) -> u32
     requires { ⌜ (t < 24) × (length (now line) ≡ 24) ⌝ }

@@ -8,7 +8,7 @@ use Rattle.laws.specs.Tests.{same}
 use Rattle.laws.specs.Bytes.{bytes, sameList}
 use Rattle.rules.specs.Geometry.{Geometry, pageSize, nobody, wordSize, workSize}
 use Rattle.rules.specs.Store.{Page, blank, fresh, settled, home, pagesOf}
-use Rattle.rules.specs.Event.{Event, begin, lock, write, read, commit, abort, crash, recover, encode}
+use Rattle.rules.specs.Event.{toWrite, toRead, Event, begin, lock, write, read, commit, abort, crash, recover, encode}
 use Rattle.rules.specs.Form.{Form, Medium}
 use Rattle.rules.specs.Run.{Result, run}
 use Rattle.rules.specs.Age.{Age, ahead, live, stale, refused, ageOf}
@@ -96,6 +96,13 @@ on e a = (encode geometry1 e, a)
 abbrev top : Event
 top = begin nobody
 
+-- a lock to write, a lock to read
+abbrev locks : ℕ → ℕ → Event
+locks t r = lock t r toWrite
+
+abbrev shares : ℕ → ℕ → Event
+shares t r = lock t r toRead
+
 -- a row on a fresh store that is brought up first
 abbrev onFresh : List Line → List Due → Trial
 onFresh ls ds = plays freshBytes (on (recover 63) 0x0000 ∷ ls) ds
@@ -118,14 +125,14 @@ nested (suc n) = nested n ++ (on (begin n) (suc n) ∷ [])
 
 -- transaction 0 writes A5 into record 3 at 2; a child 1 of it writes 11 there and commits
 abbrev writesA5 : List Line
-writesA5 = on top 0x0000 ∷ on (lock 0 3) 0x0000 ∷ on (write 0 3 2 0xA5) 0x0000 ∷ []
+writesA5 = on top 0x0000 ∷ on (locks 0 3) 0x0000 ∷ on (write 0 3 2 0xA5) 0x0000 ∷ []
 
 abbrev childWrites11 : List Line
-childWrites11 = on top 0x0000 ∷ on (begin 0) 0x0001 ∷ on (lock 1 3) 0x0000 ∷ on (write 1 3 2 0x11) 0x0000 ∷ on (commit 1 0) 0x0000 ∷ []
+childWrites11 = on top 0x0000 ∷ on (begin 0) 0x0001 ∷ on (locks 1 3) 0x0000 ∷ on (write 1 3 2 0x11) 0x0000 ∷ on (commit 1 0) 0x0000 ∷ []
 
 -- transaction 0 writes A5 into records 3 and 9 at 2, and both then or neither
 abbrev writesTwo : List Line
-writesTwo = writesA5 ++ (on (lock 0 9) 0x0000 ∷ on (write 0 9 2 0xA5) 0x0000 ∷ [])
+writesTwo = writesA5 ++ (on (locks 0 9) 0x0000 ∷ on (write 0 9 2 0xA5) 0x0000 ∷ [])
 
 abbrev bothA5 : List Due
 bothA5 = value 3 withA5 ∷ value 9 withA5 ∷ []
@@ -143,11 +150,11 @@ trials =
     -- 3: the deepest begins, one deeper is refused
     onFresh (nested (geometry1 .depthLimit - 1) ++ (on (begin (geometry1 .depthLimit - 1)) 0x0600 ∷ [])) [] ∷
     -- 5: two top transactions, one record
-    onFresh (on top 0x0000 ∷ on top 0x0001 ∷ on (lock 0 3) 0x0000 ∷ on (lock 1 3) 0x0800 ∷ []) [] ∷
+    onFresh (on top 0x0000 ∷ on top 0x0001 ∷ on (locks 0 3) 0x0000 ∷ on (locks 1 3) 0x0800 ∷ []) [] ∷
     -- 6: a child asks for what its parent holds; for what it only retains
     onFresh (
-    on top 0x0000 ∷ on (lock 0 3) 0x0000 ∷ on (begin 0) 0x0001 ∷ on (lock 1 3) 0x0800 ∷
-    on (lock 1 4) 0x0000 ∷ on (commit 1 0) 0x0000 ∷ on (begin 0) 0x0001 ∷ on (lock 1 4) 0x0000 ∷ []) [] ∷
+    on top 0x0000 ∷ on (locks 0 3) 0x0000 ∷ on (begin 0) 0x0001 ∷ on (locks 1 3) 0x0800 ∷
+    on (locks 1 4) 0x0000 ∷ on (commit 1 0) 0x0000 ∷ on (begin 0) 0x0001 ∷ on (locks 1 4) 0x0000 ∷ []) [] ∷
     -- 7: one record, cut after 1 write: lost; after 2: survives
     onFresh (writesA5 ++ (on (commit 0 1) 0x0B01 ∷ [])) (value 3 blank ∷ []) ∷
     onFresh (writesA5 ++ (on (commit 0 1) 0x0B01 ∷ on (recover 63) 0x0000 ∷ [])) (value 3 blank ∷ []) ∷
@@ -168,17 +175,17 @@ trials =
     -- 13: commit with a live child, then abort takes both
     onFresh (
     on top 0x0000 ∷ on (begin 0) 0x0001 ∷ on (commit 0 63) 0x0A00 ∷ on (abort 0) 0x0000 ∷
-    on (lock 1 3) 0x0500 ∷ on (lock 0 3) 0x0500 ∷ []) [] ∷
+    on (locks 1 3) 0x0500 ∷ on (locks 0 3) 0x0500 ∷ []) [] ∷
     -- 14: clock 5, stamp 7
     ages (set freshBytes (pageSize * home geometry1 3 + 3) 7) 3 5 10 (ahead (negsuc 1)) ∷
     -- 16: abort of a parent undoes what a committed child left it
     onFresh (
-    on top 0x0000 ∷ on (lock 0 3) 0x0000 ∷ on (write 0 3 2 0x22) 0x0000 ∷ on (begin 0) 0x0001 ∷ on (begin 1) 0x0002 ∷
-    on (lock 2 5) 0x0000 ∷ on (write 2 5 2 0x11) 0x0000 ∷ on (commit 2 0) 0x0000 ∷
-    on (lock 1 5) 0x0000 ∷ on (read 1 5 2) 0x0011 ∷ on (abort 1) 0x0000 ∷
-    on (lock 0 5) 0x0000 ∷ on (read 0 5 2) 0x0000 ∷ on (read 0 3 2) 0x0022 ∷ []) [] ∷
+    on top 0x0000 ∷ on (locks 0 3) 0x0000 ∷ on (write 0 3 2 0x22) 0x0000 ∷ on (begin 0) 0x0001 ∷ on (begin 1) 0x0002 ∷
+    on (locks 2 5) 0x0000 ∷ on (write 2 5 2 0x11) 0x0000 ∷ on (commit 2 0) 0x0000 ∷
+    on (locks 1 5) 0x0000 ∷ on (read 1 5 2) 0x0011 ∷ on (abort 1) 0x0000 ∷
+    on (locks 0 5) 0x0000 ∷ on (read 0 5 2) 0x0000 ∷ on (read 0 3 2) 0x0022 ∷ []) [] ∷
     -- Shortcut 1, a child's locks freed when it commits: a stranger is refused what the parent now retains.
-    onFresh (childWrites11 ++ (on top 0x0001 ∷ on (lock 1 3) 0x0800 ∷ [])) [] ∷
+    onFresh (childWrites11 ++ (on top 0x0001 ∷ on (locks 1 3) 0x0800 ∷ [])) [] ∷
     -- Shortcut 2, home pages before the commit page: at every cut both records or neither.
     onFresh (writesTwo ++ (on (commit 0 2) 0x0B02 ∷ [])) (value 3 blank ∷ value 9 blank ∷ page 20 blank ∷ []) ∷
     onFresh (writesTwo ++ (on (commit 0 3) 0x0B03 ∷ [])) (value 3 withA5 ∷ value 9 withA5 ∷ page 20 blank ∷ []) ∷
@@ -191,21 +198,51 @@ trials =
     onFresh (writesTwo ++ (on (commit 0 1) 0x0B01 ∷ on (recover 63) 0x0000 ∷ [])) neither ∷
     -- Shortcut 4, an aborted child's record restored from the home page: it is its ancestor's version again.
     onFresh (childWrites11 ++ (
-    on (begin 0) 0x0001 ∷ on (lock 1 3) 0x0000 ∷ on (write 1 3 5 0x12) 0x0000 ∷ on (read 1 3 2) 0x0011 ∷ on (abort 1) 0x0000 ∷
-    on (lock 0 3) 0x0000 ∷ on (read 0 3 2) 0x0011 ∷ on (read 0 3 5) 0x0000 ∷ [])) [] ∷
+    on (begin 0) 0x0001 ∷ on (locks 1 3) 0x0000 ∷ on (write 1 3 5 0x12) 0x0000 ∷ on (read 1 3 2) 0x0011 ∷ on (abort 1) 0x0000 ∷
+    on (locks 0 3) 0x0000 ∷ on (read 0 3 2) 0x0011 ∷ on (read 0 3 5) 0x0000 ∷ [])) [] ∷
     -- Shortcut 5, a retainer writes or reads without locking again.
-    onFresh (childWrites11 ++ (on (write 0 3 2 0x12) 0x0900 ∷ on (read 0 3 2) 0x0900 ∷ on (lock 0 3) 0x0000 ∷ on (read 0 3 2) 0x0011 ∷ [])) [] ∷
+    onFresh (childWrites11 ++ (on (write 0 3 2 0x12) 0x0900 ∷ on (read 0 3 2) 0x0900 ∷ on (locks 0 3) 0x0000 ∷ on (read 0 3 2) 0x0011 ∷ [])) [] ∷
     -- A parent that has a version takes its child's newer one.
     onFresh (childWrites11 ++ (
-    on (begin 0) 0x0001 ∷ on (lock 1 3) 0x0000 ∷ on (write 1 3 2 0x22) 0x0000 ∷ on (commit 1 0) 0x0000 ∷
+    on (begin 0) 0x0001 ∷ on (locks 1 3) 0x0000 ∷ on (write 1 3 2 0x22) 0x0000 ∷ on (commit 1 0) 0x0000 ∷
     on (commit 0 63) 0x0004 ∷ [])) (value 3 (set blank 2 0x22) ∷ []) ∷
     -- No changed record, no page write and no cut; a write of the byte that is there already counts; a child's count has no effect.
-    onFresh (on top 0x0000 ∷ on (lock 0 3) 0x0000 ∷ on (commit 0 0) 0x0000 ∷ on top 0x0000 ∷ []) [] ∷
-    onFresh (on top 0x0000 ∷ on (lock 0 3) 0x0000 ∷ on (write 0 3 2 0) 0x0000 ∷ on (commit 0 63) 0x0004 ∷ []) [] ∷
+    onFresh (on top 0x0000 ∷ on (locks 0 3) 0x0000 ∷ on (commit 0 0) 0x0000 ∷ on top 0x0000 ∷ []) [] ∷
+    onFresh (on top 0x0000 ∷ on (locks 0 3) 0x0000 ∷ on (write 0 3 2 0) 0x0000 ∷ on (commit 0 63) 0x0004 ∷ []) [] ∷
     -- Names: 24 to 30 are never live, 31 only in begin is no name; stray bits are 1 before all else.
     onFresh (
-    on (begin 24) 0x0500 ∷ on (begin 30) 0x0500 ∷ on (lock 31 3) 0x0500 ∷ (0x70000001, 0x0100) ∷ (0x90000000, 0x0100) ∷ (0x00000000, 0x0100) ∷
+    on (begin 24) 0x0500 ∷ on (begin 30) 0x0500 ∷ on (locks 31 3) 0x0500 ∷ (0x70000001, 0x0100) ∷ (0x90000000, 0x0100) ∷ (0x00000000, 0x0100) ∷
     (0x20000002, 0x0100) ∷ on (recover 63) 0x0300 ∷ []) [] ∷
+    -- Read locks. What is held and what is retained are apart: a retainer in write mode that holds to read does not write.
+    plays freshBytes (
+    (0x80003F00, 0x0000) ∷ (0x1F800000, 0x0000) ∷ (0x10000000, 0x0001) ∷ (0x20980000, 0x0000) ∷ (0x50803F00, 0x0000) ∷
+    (0x20180001, 0x0000) ∷ (0x30180001, 0x0900) ∷ (0x20180000, 0x0000) ∷ (0x30180001, 0x0000) ∷ []) [] ∷
+    -- Two read together and neither writes; raising is refused and leaves the read hold, and is granted when the other has ended.
+    onFresh (
+    on top 0x0000 ∷ on top 0x0001 ∷ on (shares 0 3) 0x0000 ∷ on (shares 1 3) 0x0000 ∷ on (read 0 3 2) 0x0000 ∷ on (read 1 3 2) 0x0000 ∷
+    on (write 0 3 2 7) 0x0900 ∷ on (locks 0 3) 0x0800 ∷ on (locks 1 3) 0x0800 ∷ on (read 0 3 2) 0x0000 ∷ on (abort 1) 0x0000 ∷
+    on (locks 0 3) 0x0000 ∷ on (write 0 3 2 7) 0x0000 ∷ []) [] ∷
+    -- Asking for less than is held changes nothing; nobody reads beside one that holds to write.
+    onFresh (writesA5 ++ (on (shares 0 3) 0x0000 ∷ on (write 0 3 2 7) 0x0000 ∷ on top 0x0001 ∷ on (shares 1 3) 0x0800 ∷ [])) [] ∷
+    -- A parent inherits the stronger mode, whichever comes first.
+    onFresh (
+    on top 0x0000 ∷ on (begin 0) 0x0001 ∷ on (locks 1 3) 0x0000 ∷ on (commit 1 0) 0x0000 ∷ on (begin 0) 0x0001 ∷ on (shares 1 3) 0x0000 ∷
+    on (commit 1 0) 0x0000 ∷ on top 0x0001 ∷ on (shares 1 3) 0x0800 ∷ []) [] ∷
+    onFresh (
+    on top 0x0000 ∷ on (begin 0) 0x0001 ∷ on (shares 1 3) 0x0000 ∷ on (commit 1 0) 0x0000 ∷ on (begin 0) 0x0001 ∷ on (locks 1 3) 0x0000 ∷
+    on (commit 1 0) 0x0000 ∷ on top 0x0001 ∷ on (shares 1 3) 0x0800 ∷ []) [] ∷
+    -- Who retains to read stops a stranger's write and not its read; a child of the retainer is stopped by the stranger alone.
+    onFresh (
+    on top 0x0000 ∷ on (begin 0) 0x0001 ∷ on (shares 1 3) 0x0000 ∷ on (commit 1 0) 0x0000 ∷ on top 0x0001 ∷ on (locks 1 3) 0x0800 ∷
+    on (shares 1 3) 0x0000 ∷ on (begin 0) 0x0002 ∷ on (locks 2 3) 0x0800 ∷ on (abort 1) 0x0000 ∷ on (locks 2 3) 0x0000 ∷ []) [] ∷
+    -- Two that retain to read need not be on one line: a child of the one reads and does not write.
+    onFresh (
+    on top 0x0000 ∷ on top 0x0001 ∷ on (begin 0) 0x0002 ∷ on (begin 1) 0x0003 ∷ on (shares 2 3) 0x0000 ∷ on (shares 3 3) 0x0000 ∷
+    on (commit 2 0) 0x0000 ∷ on (commit 3 0) 0x0000 ∷ on (begin 0) 0x0002 ∷ on (shares 2 3) 0x0000 ∷ on (locks 2 3) 0x0800 ∷
+    on (commit 1 0) 0x0000 ∷ on (locks 2 3) 0x0000 ∷ []) [] ∷
+    -- A lock takes the values 0 and 1; another is 1, also while down.
+    plays freshBytes ((0x20180002, 0x0100) ∷ (0x20180001, 0x0200) ∷ []) [] ∷
+    onFresh (on top 0x0000 ∷ (0x20180002, 0x0100) ∷ (0x201800FF, 0x0100) ∷ (0x20180001, 0x0000) ∷ []) [] ∷
     -- Refused before the first event, in the order 22, 24, 20, 21, with nothing touched.
     refuses 1055 5 (workSize geometry1 - 1) 0 22 ∷ refuses 1056 5 (workSize geometry1 - 1) 0 24 ∷ refuses 1056 5 (workSize geometry1) 0 20 ∷
     refuses 1056 16388 (workSize geometry1) 8194 20 ∷ refuses 1056 8 (workSize geometry1) 3 21 ∷

@@ -1,14 +1,14 @@
 -- The record number is checked; then the event is lock, write or read by its kind.
-use mathlib.Core.Path.{_≡_, refl, sym, ap, ap₂, subst, subst⁻¹, _∙_, fun-ext}
-use mathlib.Core.Bool.{Bool, true, false, not, cond, _&&_, _||_}
-use mathlib.Core.List.{List}
-use Prim.Native.Nat.{ℕ, suc, _+_, _*_, _-_, _/_, _%_, _<_, _≤_}
+use mathlib.Core.Path.{sym, ap, ap₂, _∙_}
+use Prim.Native.Nat.{ℕ, _-_}
 use native.Mathlib.Omega.{arith}
-use lib.ListN.{length, getD, set}
 use mathlib.Core.Option.{some}
-use Rattle.rules.specs.Event.{begin, lock, write, read, commit, abort, crash, recover}
-use Rattle.event.proofs.Meaning.{means-bad, means-begin, means-lock, means-write, means-read, means-commit, means-abort, means-crash, means-recover}
+use Rattle.laws.specs.Tests.{same}
+use Rattle.rules.specs.Event.{Access, lock, write, read, accessOf}
+use Rattle.event.proofs.Meaning.{means-lock, means-write, means-read}
+use Rattle.numbers.specs.Named.{transactionOf, recordOf}
 use Rattle.events.proofs.Steps.{retold, sources}
+use Rattle.engine.proofs.ByKind.{access-is}
 use borrow.Author.Needs.{needs}
 use Rattle.engine.proofs.record_event.Statement.{statement}
 use Rattle.engine.proofs.record_event.Tie as tie
@@ -31,7 +31,10 @@ read-event-requires : tie.Need-read-event-requires
 read-event-requires c κs = let F = c .before .before .before .before .before .before .before .before .before .before .pre .5 .form in (c .before .before .before .before .before .before .before .before .before .before .pre .4 .offset, F .works, F .stores, sources _ (c .before .before .before .before .before .before .before .before .before .before .pre .5))
 
 returns : tie.Need-returns
-returns c = retold _ _ _ _ _ (means-lock (c .before .before .before .before .before .before .before .before .args .e) (c .before .before .before .before .match .keys1) ∙ ap₂ (λ (t r : ℕ). some (lock t r)) (sym (c .before .before .before .before .before .before .before .before .pre .0)) (sym (c .before .before .before .before .before .before .before .before .pre .1))) (c .lock-event .ensures _ _ _ _ _ _ (c .before .before .before .before .before .before .before .before .pre .5) (c .before .before .before .before .before .before .before .before .pre .6))
+unfolding same
+returns c = let a = c .before .before .before .before .before .before .before .before .before .args in let pre = c .before .before .before .before .before .before .before .before .before .pre in
+    retold _ _ _ _ _ (means-lock (a .e) (c .before .before .before .before .before .match .keys1) ∙ ap₂ (λ (t r : ℕ). some (lock t r (accessOf (a .e .value)))) (sym (pre .0)) (sym (pre .1)) ∙ ap (λ (q : Access). some (lock (transactionOf (a .t)) (recordOf (a .r)) q)) (access-is (a .e .value)))
+    (c .lock-event .ensures _ _ _ _ _ _ (pre .5) (pre .6))
 
 same-length : tie.Need-same-length
 same-length c = search needs

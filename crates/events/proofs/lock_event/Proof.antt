@@ -1,11 +1,8 @@
 -- The grant is the grant of the rules, and a lock that is not granted is refused with 8.
-use mathlib.Core.Path.{_≡_, refl, sym, ap, ap₂, subst, subst⁻¹, _∙_, fun-ext}
-use mathlib.Core.Bool.{Bool, true, false, not, cond, _&&_, _||_}
-use mathlib.Core.List.{List}
-use Prim.Native.Nat.{ℕ, suc, _+_, _*_, _-_, _/_, _%_, _<_, _≤_}
-use native.Mathlib.Omega.{arith}
-use lib.ListN.{length, getD, set}
-use Rattle.rules.specs.Event.{lock, write, read, commit, abort}
+use mathlib.Core.Bool.{not}
+use Prim.Native.Nat.{_-_}
+use Rattle.rules.specs.Event.{lock}
+use Rattle.arrays.specs.Changes.{accessWhen}
 use Rattle.events.proofs.Steps.{numbered, lock-steps, lock-refuses}
 use borrow.Author.Needs.{needs}
 use Rattle.events.proofs.lock_event.Statement.{statement}
@@ -26,10 +23,12 @@ lock-requires : tie.Need-lock-requires
 lock-requires c κs = search needs
 
 returns : tie.Need-returns
-returns c = λ up parent depth writers work store I R. numbered _ _ _ (lock) _ _ _ _ (c .before .before .before .before .number .ensures .0) (c .before .before .before .index .ensures .0) (λ R. lock-steps _ I _ _ R _ _ (c .before .lock .ensures) (c .if1 .taken)) R
+returns c = λ up parent depth writers work store I R. let q = accessWhen (c .before .before .before .before .before .args .reading) in
+    numbered _ _ _ (λ t r. lock t r q) _ _ _ _ (c .before .before .before .before .number .ensures .0) (c .before .before .before .index .ensures .0) (λ R. lock-steps _ I q _ _ R _ _ (c .before .lock .ensures) (c .if1 .taken)) R
 
 returns-2 : tie.Need-returns-2
-returns-2 c = λ up parent depth writers work store I R. numbered _ _ _ (lock) _ _ _ _ (c .before .before .before .before .number .ensures .0) (c .before .before .before .index .ensures .0) (λ R. lock-refuses _ I _ _ R _ _ (c .before .lock .ensures) (c .if1 .left)) R
+returns-2 c = λ up parent depth writers work store I R. let q = accessWhen (c .before .before .before .before .before .args .reading) in
+    numbered _ _ _ (λ t r. lock t r q) _ _ _ _ (c .before .before .before .before .number .ensures .0) (c .before .before .before .index .ensures .0) (λ R. lock-refuses _ I q _ _ R _ _ (c .before .lock .ensures) (c .if1 .left)) R
 
 pub lock-event-spec : {M : Type 1} → statement M
 lock-event-spec =

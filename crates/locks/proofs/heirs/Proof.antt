@@ -1,17 +1,11 @@
 -- Without t, and with p where t had a part.
-use mathlib.Core.Path.{_≡_, refl, sym, ap, ap₂, _∙_, fun-ext}
-use mathlib.Core.Bool.{Bool, true, false, not, cond, _&&_, _||_, or-false, and-false, and-true}
-use mathlib.Core.List.{List}
-use Prim.Native.Nat.{ℕ, suc, _+_, _*_, _-_, _/_, _%_, _<_, _≤_}
-use native.Mathlib.Omega.{arith}
-use lib.ListN.{length, getD, set}
+use mathlib.Core.Path.{sym, ap, _∙_, fun-ext}
+use mathlib.Core.Bool.{Bool, not, _&&_, _||_, or-false, and-false, and-true}
+use Prim.Native.Nat.{ℕ, _-_}
 use borrow.Author.Needs.{needs}
-use Rattle.arrays.specs.Changes.{openTo, joined, less, leaving, heirsOf, Row, Rows, places, cleared, Cleared}
-use Rattle.arrays.proofs.Sweep.{Swept, swept-none, swept-all, Upto, upto-none, upto-more, upto-all, leaving-past, heirs-past, Clearing, clearing-none, clearing-more, clearing-all, cleared-one, lowest-more, any-more, fills-more}
+use Rattle.arrays.specs.Changes.{heirsOf}
 use Rattle.laws.specs.Bits.{bits}
-use Rattle.sets.specs.Sets.{sets}
 use Rattle.laws.specs.Tests.{same}
-use Rattle.sets.proofs.Sets.{sets-past}
 use Rattle.locks.proofs.heirs.Statement.{statement}
 use Rattle.locks.proofs.heirs.Tie as tie
 use Rattle.locks.proofs.heirs.Reads as reads

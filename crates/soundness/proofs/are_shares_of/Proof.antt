@@ -1,13 +1,13 @@
 -- So far what t has of each lock is right.
 use mathlib.Core.Path.{subst}
-use mathlib.Core.Bool.{Bool, not}
-use Prim.Native.Nat.{ℕ, _-_, _<_, _≤_}
+use mathlib.Core.Bool.{Bool}
+use Prim.Native.Nat.{ℕ, _+_, _*_, _-_, _<_, _≤_}
 use native.Mathlib.Omega.{arith}
 use lib.ListN.{getD}
 use borrow.Author.Needs.{needs}
-use Rattle.laws.specs.Tests.{same}
 use Rattle.laws.specs.Bits.{bits}
 use Rattle.sets.specs.Sets.{sets}
+use Rattle.arrays.specs.View.{anyMode, writeMode}
 use Rattle.soundness.specs.Decides.{Decides}
 use Rattle.soundness.specs.Clauses.{Share, ShareOf}
 use Rattle.soundness.proofs.Decides.{decides-none, decides-more, decides-bound}
@@ -19,80 +19,73 @@ use Rattle.soundness.proofs.is_share.Reads as is-share-reads
 use Rattle.transactions.proofs.descendants.Reads as descendants-reads
 
 abbrev Inv-loop : tie.InvT-loop
-Inv-loop depth line held retained writers t live above beneath ok₀ r₀ ok r =
-    (r ≤ 16) × Decides ok ((k : ℕ) → k < r → ShareOf depth line held retained writers t k)
+Inv-loop line held retained t above beneath ok₀ r₀ ok r =
+    (r ≤ 16) × Decides ok ((k : ℕ) → k < r → ShareOf line held retained t k)
 
 abbrev μ-loop : tie.MeasureT-loop
-μ-loop depth line held retained writers t live above beneath ok₀ r₀ ok r = 16 - r
+μ-loop line held retained t above beneath ok₀ r₀ ok r = 16 - r
 
--- src/lib.rt:152:16
-element-copy-out-live : tie.Need-element-copy-out-live Inv-loop μ-loop
-element-copy-out-live c = search needs
-
--- src/lib.rt:153:17
 mul-above : tie.Need-mul-above Inv-loop μ-loop
 mul-above c = search needs
 
--- src/lib.rt:153:17
 element-copy-out-above : tie.Need-element-copy-out-above Inv-loop μ-loop
 element-copy-out-above c = search needs
 
--- src/lib.rt:154:9
 descendants-requires : tie.Need-descendants-requires Inv-loop μ-loop
 descendants-requires c κs = search needs
 
--- src/lib.rt:156:5
 loop-holds : tie.Need-loop-holds Inv-loop μ-loop
 loop-holds c = (search needs, decides-none _)
 
--- src/lib.rt:157:50
+mul-any : tie.Need-mul-any Inv-loop μ-loop
+mul-any c = search needs
+
+add-writing : tie.Need-add-writing Inv-loop μ-loop
+add-writing c = search needs
+
 mul-is-share : tie.Need-mul-is-share Inv-loop μ-loop
 mul-is-share c = search needs
 
--- src/lib.rt:157:50
 element-copy-out-is-share : tie.Need-element-copy-out-is-share Inv-loop μ-loop
 element-copy-out-is-share c = search needs
 
--- src/lib.rt:157:59
 mul-is-share-2 : tie.Need-mul-is-share-2 Inv-loop μ-loop
 mul-is-share-2 c = search needs
 
--- src/lib.rt:157:59
 element-copy-out-is-share-2 : tie.Need-element-copy-out-is-share-2 Inv-loop μ-loop
 element-copy-out-is-share-2 c = search needs
 
--- src/lib.rt:157:72
 mul-is-share-3 : tie.Need-mul-is-share-3 Inv-loop μ-loop
 mul-is-share-3 c = search needs
 
--- src/lib.rt:157:72
 element-copy-out-is-share-3 : tie.Need-element-copy-out-is-share-3 Inv-loop μ-loop
 element-copy-out-is-share-3 c = search needs
 
--- src/lib.rt:157:19
+mul-is-share-4 : tie.Need-mul-is-share-4 Inv-loop μ-loop
+mul-is-share-4 c = search needs
+
+element-copy-out-is-share-4 : tie.Need-element-copy-out-is-share-4 Inv-loop μ-loop
+element-copy-out-is-share-4 c = search needs
+
 is-share-requires : tie.Need-is-share-requires Inv-loop μ-loop
 is-share-requires c κs = search needs
 
--- src/lib.rt:156:9
 add-r : tie.Need-add-r Inv-loop μ-loop
 add-r c = search needs
 
--- src/lib.rt:156:5
 loop-less : tie.Need-loop-less Inv-loop μ-loop
 loop-less c = search needs
 
--- src/lib.rt:156:5
 loop-again : tie.Need-loop-again Inv-loop μ-loop
-unfolding sets same
-loop-again c = let a = c .before .before .before .before .before .before .before .before .before .args in let l = c .before .before .before .before .before .loop in (
+unfolding sets anyMode writeMode
+loop-again c = let a = c .before .before .before .before .before .before .before .before .before .args in let l = c .before .before .before .before .before .before .loop in (
   search needs,
-  decides-more (ShareOf (a .depth .now) (a .line .now) (a .held .now) (a .retained .now) (a .writers .now) (a .t)) (l .r) (l .inv .1)
-      (subst (λ (f : ℕ → Bool). Decides (c .is-share .result) (Share (not (same (getD (a .depth .now) (a .t) 0) 0)) (bits (getD (a .line .now) (a .t) 0)) f (bits (getD (a .held .now) (l .r) 0)) (bits (getD (a .retained .now) (l .r) 0)) (bits (getD (a .writers .now) (l .r) 0)) (a .t))) (c .before .before .before .before .before .before .descendants .ensures) (c .is-share .ensures)),
+  decides-more (ShareOf (a .line .now) (a .held .now) (a .retained .now) (a .t)) (l .r) (l .inv .1)
+      (subst (λ (f : ℕ → Bool). Decides (c .is-share .result) (Share (bits (getD (a .line .now) (a .t) 0)) f (bits (getD (a .held .now) (2 * l .r) 0)) (bits (getD (a .held .now) (2 * l .r + 1) 0)) (bits (getD (a .retained .now) (2 * l .r) 0)) (bits (getD (a .retained .now) (2 * l .r + 1) 0)) (a .t))) (c .before .before .before .before .before .before .before .descendants .ensures) (c .is-share .ensures)),
 )
 
--- src/lib.rt:141:1
 returns : tie.Need-returns Inv-loop μ-loop
-returns c = let a = c .before .before .before .before .before .args in let l = c .before .loop in decides-bound (ShareOf (a .depth .now) (a .line .now) (a .held .now) (a .retained .now) (a .writers .now) (a .t)) (l .r) 16 (omega arith) (l .inv .1)
+returns c = let a = c .before .before .before .before .args in let l = c .before .loop in decides-bound (ShareOf (a .line .now) (a .held .now) (a .retained .now) (a .t)) (l .r) 16 (omega arith) (l .inv .1)
 
 pub are-shares-of-spec : {M : Type 1} → statement M
 are-shares-of-spec =
@@ -100,17 +93,20 @@ are-shares-of-spec =
     (tie.spec
     Inv-loop
     μ-loop
-    element-copy-out-live
     mul-above
     element-copy-out-above
     descendants-requires
     loop-holds
+    mul-any
+    add-writing
     mul-is-share
     element-copy-out-is-share
     mul-is-share-2
     element-copy-out-is-share-2
     mul-is-share-3
     element-copy-out-is-share-3
+    mul-is-share-4
+    element-copy-out-is-share-4
     is-share-requires
     add-r
     loop-less

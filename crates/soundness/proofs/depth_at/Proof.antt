@@ -9,19 +9,15 @@ use Rattle.soundness.proofs.depth_at.Reads as reads
 use Rattle.soundness.proofs.depth_at.Lts as lts
 use Rattle.soundness.proofs.wide.Reads as wide-reads
 
--- src/lib.rt:33:21
 element-copy-out-wide : tie.Need-element-copy-out-wide
 element-copy-out-wide c = search needs
 
--- src/lib.rt:33:9
 wide-requires : tie.Need-wide-requires
 wide-requires c κs = search needs
 
--- src/lib.rt:33:9
 returns : tie.Need-returns
 returns c = search needs
 
--- src/lib.rt:28:1
 returns-2 : tie.Need-returns-2
 returns-2 c = let a = c .before .args in let e : getD (a .depth .now) (a .p) 0 ≡ 0 = List·getD-eq-default (a .depth .now) 0 (omega arith) in (sym e, search needs)
 

@@ -9,23 +9,18 @@ use Rattle.soundness.proofs.is_entry.Lts as lts
 use Rattle.soundness.proofs.is_seated.Reads as is-seated-reads
 use Rattle.soundness.proofs.is_vacant.Reads as is-vacant-reads
 
--- src/lib.rt:82:8
 element-copy-out-if1 : tie.Need-element-copy-out-if1
 element-copy-out-if1 c = search needs
 
--- src/lib.rt:83:9
 is-vacant-requires : tie.Need-is-vacant-requires
 is-vacant-requires c κs = search needs
 
--- src/lib.rt:85:9
 is-seated-requires : tie.Need-is-seated-requires
 is-seated-requires c κs = search needs
 
--- src/lib.rt:78:1
 returns : tie.Need-returns
 returns c = let a = c .before .before .before .args in entry-vacant (a .parent .now) (a .depth .now) (a .line .now) (a .t) (c .before .if1 .taken) (c .is-vacant .ensures)
 
--- src/lib.rt:78:1
 returns-2 : tie.Need-returns-2
 returns-2 c = let a = c .before .before .before .args in let n = c .before .if1 .left in entry-seated (a .parent .now) (a .depth .now) (a .line .now) (a .t) (omega arith) (c .is-seated .ensures)
 

@@ -19,28 +19,22 @@ Inv-loop depth ok₀ t₀ ok t =
 abbrev μ-loop : tie.MeasureT-loop
 μ-loop depth ok₀ t₀ ok t = 24 - t
 
--- src/lib.rt:186:5
 loop-holds : tie.Need-loop-holds Inv-loop μ-loop
 loop-holds c = (search needs, decides-none _)
 
--- src/lib.rt:187:20
 element-copy-out-ok : tie.Need-element-copy-out-ok Inv-loop μ-loop
 element-copy-out-ok c = search needs
 
--- src/lib.rt:186:9
 add-t : tie.Need-add-t Inv-loop μ-loop
 add-t c = search needs
 
--- src/lib.rt:186:5
 loop-less : tie.Need-loop-less Inv-loop μ-loop
 loop-less c = search needs
 
--- src/lib.rt:186:5
 loop-again : tie.Need-loop-again Inv-loop μ-loop
 unfolding same
 loop-again c = let a = c .before .before .before .args in let l = c .before .before .loop in (search needs, decides-more (λ k. getD (a .depth .now) k 0 ≡ 0) (l .t) (l .inv .1) (decides-same (getD (a .depth .now) (l .t) 0) 0))
 
--- src/lib.rt:181:1
 returns : tie.Need-returns Inv-loop μ-loop
 returns c = let a = c .before .before .args in let l = c .before .loop in decides-bound (λ k. getD (a .depth .now) k 0 ≡ 0) (l .t) 24 (omega arith) (l .inv .1)
 

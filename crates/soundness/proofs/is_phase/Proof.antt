@@ -17,19 +17,15 @@ use Rattle.commitpage.proofs.read_commit.Reads as read-commit-reads
 use Rattle.page.proofs.get_page.Reads as get-page-reads
 use Rattle.soundness.proofs.is_idle.Reads as is-idle-reads
 
--- src/lib.rt:197:9
 is-idle-requires : tie.Need-is-idle-requires
 is-idle-requires c κs = search needs
 
--- src/lib.rt:198:9
 get-page-requires : tie.Need-get-page-requires
 get-page-requires c κs = search needs
 
--- src/lib.rt:199:9
 read-commit-requires : tie.Need-read-commit-requires
 read-commit-requires c κs = search needs
 
--- src/lib.rt:193:1
 returns : tie.Need-returns
 unfolding same
 returns c = let a = c .before .before .before .before .before .args in

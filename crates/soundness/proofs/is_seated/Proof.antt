@@ -10,35 +10,27 @@ use Rattle.sets.proofs.with.Reads as with-reads
 use Rattle.soundness.proofs.depth_at.Reads as depth-at-reads
 use Rattle.soundness.proofs.line_at.Reads as line-at-reads
 
--- src/lib.rt:64:13
 element-copy-out-p : tie.Need-element-copy-out-p
 element-copy-out-p c = search needs
 
--- src/lib.rt:65:9
 depth-at-requires : tie.Need-depth-at-requires
 depth-at-requires c κs = search needs
 
--- src/lib.rt:66:9
 depth-at-requires-2 : tie.Need-depth-at-requires-2
 depth-at-requires-2 c κs = search needs
 
--- src/lib.rt:67:9
 line-at-requires : tie.Need-line-at-requires
 line-at-requires c κs = search needs
 
--- src/lib.rt:68:26
 line-at-requires-2 : tie.Need-line-at-requires-2
 line-at-requires-2 c κs = search needs
 
--- src/lib.rt:68:9
 with-requires : tie.Need-with-requires
 with-requires c κs = search needs
 
--- src/lib.rt:71:22
 add-level : tie.Need-add-level
 add-level c = search needs
 
--- src/lib.rt:60:1
 returns : tie.Need-returns
 unfolding same
 returns c = let a = c .before .before .before .before .before .before .args in let e = c .with .ensures in seated-decided (a .parent .now) (a .depth .now) (a .line .now) (a .t) _ _ _ _ _ (c .before .before .before .before .depth-at .ensures .0) (c .before .before .before .depth-at2 .ensures .0) (c .before .before .line-at .ensures) (c .before .line-at2 .ensures) e

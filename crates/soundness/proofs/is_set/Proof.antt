@@ -6,7 +6,6 @@ use Rattle.soundness.proofs.is_set.Tie as tie
 use Rattle.soundness.proofs.is_set.Reads as reads
 use Rattle.soundness.proofs.is_set.Lts as lts
 
--- src/lib.rt:102:1
 returns : tie.Need-returns
 unfolding same
 returns c = decides-numbered 24 (c .args .s)

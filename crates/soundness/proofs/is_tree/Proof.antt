@@ -18,27 +18,21 @@ Inv-loop parent depth line ok₀ t₀ ok t =
 abbrev μ-loop : tie.MeasureT-loop
 μ-loop parent depth line ok₀ t₀ ok t = 24 - t
 
--- src/lib.rt:95:5
 loop-holds : tie.Need-loop-holds Inv-loop μ-loop
 loop-holds c = (search needs, decides-none _)
 
--- src/lib.rt:96:19
 is-entry-requires : tie.Need-is-entry-requires Inv-loop μ-loop
 is-entry-requires c κs = search needs
 
--- src/lib.rt:95:9
 add-t : tie.Need-add-t Inv-loop μ-loop
 add-t c = search needs
 
--- src/lib.rt:95:5
 loop-less : tie.Need-loop-less Inv-loop μ-loop
 loop-less c = search needs
 
--- src/lib.rt:95:5
 loop-again : tie.Need-loop-again Inv-loop μ-loop
 loop-again c = let a = c .before .before .before .args in let l = c .before .before .loop in (search needs, decides-more (Entry (a .parent .now) (a .depth .now) (a .line .now)) (l .t) (l .inv .1) (c .is-entry .ensures))
 
--- src/lib.rt:90:1
 returns : tie.Need-returns Inv-loop μ-loop
 returns c = let a = c .before .before .args in let l = c .before .loop in decides-bound (Entry (a .parent .now) (a .depth .now) (a .line .now)) (l .t) 24 (omega arith) (l .inv .1)
 

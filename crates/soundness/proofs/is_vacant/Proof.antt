@@ -7,19 +7,15 @@ use Rattle.soundness.proofs.is_vacant.Tie as tie
 use Rattle.soundness.proofs.is_vacant.Reads as reads
 use Rattle.soundness.proofs.is_vacant.Lts as lts
 
--- src/lib.rt:54:22
 element-copy-out-parentless : tie.Need-element-copy-out-parentless
 element-copy-out-parentless c = search needs
 
--- src/lib.rt:55:20
 mul-lineless : tie.Need-mul-lineless
 mul-lineless c = search needs
 
--- src/lib.rt:55:20
 element-copy-out-lineless : tie.Need-element-copy-out-lineless
 element-copy-out-lineless c = search needs
 
--- src/lib.rt:50:1
 returns : tie.Need-returns
 unfolding same
 returns c = let a = c .before .before .args in vacant-decided (a .parent .now) (a .line .now) (a .t)

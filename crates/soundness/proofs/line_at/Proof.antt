@@ -8,19 +8,15 @@ use Rattle.soundness.proofs.line_at.Tie as tie
 use Rattle.soundness.proofs.line_at.Reads as reads
 use Rattle.soundness.proofs.line_at.Lts as lts
 
--- src/lib.rt:44:16
 mul-result : tie.Need-mul-result
 mul-result c = search needs
 
--- src/lib.rt:44:16
 element-copy-out-result : tie.Need-element-copy-out-result
 element-copy-out-result c = search needs
 
--- src/lib.rt:44:9
 returns : tie.Need-returns
 returns c = search needs
 
--- src/lib.rt:39:1
 returns-2 : tie.Need-returns-2
 returns-2 c = let a = c .before .args in let e : getD (a .line .now) (a .p) 0 ≡ 0 = List·getD-eq-default (a .line .now) 0 (omega arith) in sym e
 

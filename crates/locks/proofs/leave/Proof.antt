@@ -1,0 +1,73 @@
+-- The sweep takes those that are gone out of place after place.
+use mathlib.Core.Path.{refl, ap}
+use mathlib.Core.Bool.{Bool}
+use Prim.Native.Nat.{ℕ, _-_, _≤_}
+use native.Mathlib.Omega.{arith}
+use borrow.Author.Needs.{needs}
+use Rattle.laws.specs.Bits.{bits}
+use Rattle.sets.specs.Sets.{sets}
+use Rattle.arrays.specs.Changes.{less, leaving}
+use Rattle.arrays.proofs.Sweep.{Upto, upto-none, upto-more, upto-all, leaving-past}
+use Rattle.locks.proofs.leave.Statement.{statement}
+use Rattle.locks.proofs.leave.Tie as tie
+use Rattle.locks.proofs.leave.Reads as reads
+use Rattle.locks.proofs.leave.Lts as lts
+use Rattle.sets.proofs.minus.Reads as minus-reads
+
+abbrev Inv-loop : tie.InvT-loop
+Inv-loop s₀ gone k₀ s k =
+    (k ≤ 32) × Upto 32 (leaving (bits gone) (sets s₀)) s s₀ k
+
+abbrev μ-loop : tie.MeasureT-loop
+μ-loop s₀ gone k₀ s k = 32 - k
+
+loop-holds : tie.Need-loop-holds Inv-loop μ-loop
+loop-holds c = (search needs, upto-none 32 _ _ (c .pre))
+
+mul-minus : tie.Need-mul-minus Inv-loop μ-loop
+mul-minus c = search needs
+
+element-copy-out-minus : tie.Need-element-copy-out-minus Inv-loop μ-loop
+element-copy-out-minus c = search needs
+
+minus-requires : tie.Need-minus-requires Inv-loop μ-loop
+minus-requires c κs = search needs
+
+mul-s : tie.Need-mul-s Inv-loop μ-loop
+mul-s c = search needs
+
+element-write-s : tie.Need-element-write-s Inv-loop μ-loop
+element-write-s c = search needs
+
+add-k : tie.Need-add-k Inv-loop μ-loop
+add-k c = search needs
+
+loop-less : tie.Need-loop-less Inv-loop μ-loop
+loop-less c = search needs
+
+loop-again : tie.Need-loop-again Inv-loop μ-loop
+unfolding sets less leaving
+loop-again c = let l = c .before .before .before .loop in let a = c .before .before .before .before .args in (
+  search needs,
+  upto-more 32 _ (l .s) (a .s .now) _ (l .k) _ (l .inv .1) (omega arith) (record { word = _; is = refl; holds = c .minus .ensures }) (ap {B = ℕ → Bool} (less (bits (a .gone))) (l .inv .1 .swept .above (l .k) (omega arith))),
+)
+
+returns : tie.Need-returns Inv-loop μ-loop
+returns c = let l = c .before .loop in let a = c .before .before .args in upto-all 32 _ _ _ _ (l .inv .1) (λ k h. leaving-past (bits (a .gone)) (a .s .now) k (omega arith))
+
+pub leave-spec : {M : Type 1} → statement M
+leave-spec =
+    tie.close
+    (tie.spec
+    Inv-loop
+    μ-loop
+    loop-holds
+    mul-minus
+    element-copy-out-minus
+    minus-requires
+    mul-s
+    element-write-s
+    add-k
+    loop-less
+    loop-again
+    returns)
