@@ -80,44 +80,26 @@ impl Facts {
 
     fn fault_of_locks(&self) -> Option<Fault> {
         let (holders, retainers) = (Bearer::all(&self.holders), Bearer::all(&self.retainers));
-        let on_one_line = |one, two| self.is_beneath(one, two) || self.is_beneath(two, one);
+        let beneath = |low: Bearer, high: Bearer| self.is_beneath(low.transaction, high.transaction);
+        // Every retainer on one line with each write-mode retainer.
+        let on_one_line = Bearer::pairs(&retainers, &retainers, |t, w| w.reads() || beneath(t, w) || beneath(w, t));
+        // Every holder at or beneath all write-mode retainers.
+        let holders_beneath = Bearer::pairs(&holders, &retainers, |t, w| w.reads() || beneath(t, w));
+        // A write holder alone and at or beneath every retainer.
+        let alone = Bearer::pairs(&holders, &holders, |w, t| w.reads() || w.transaction == t.transaction);
+        let writer_beneath = Bearer::pairs(&holders, &retainers, |w, t| w.reads() || beneath(w, t));
+        // Versions only in write mode.
+        let writes = |told: Option<&Mode>| told == Some(&Mode::Write);
+        let in_write_mode = self.versions.keys().all(|(writer, record)| {
+            let lock = (*record, *writer);
+            writes(self.holders.get(&lock)) || writes(self.retainers.get(&lock))
+        });
         let checks = [
-            // Every retainer on one line with each write-mode retainer.
-            (
-                Fault::Line,
-                Bearer::pairs(&retainers, &retainers, |one, two| {
-                    two.mode == Mode::Read || on_one_line(one.transaction, two.transaction)
-                }),
-            ),
-            // Every holder at or beneath all write-mode retainers.
-            (
-                Fault::Beneath,
-                Bearer::pairs(&holders, &retainers, |holder, retainer| {
-                    retainer.mode == Mode::Read || self.is_beneath(holder.transaction, retainer.transaction)
-                }),
-            ),
-            // A write holder alone ..
-            (
-                Fault::NotAlone,
-                Bearer::pairs(&holders, &holders, |one, two| {
-                    one.mode == Mode::Read || one.transaction == two.transaction
-                }),
-            ),
-            // .. and at or beneath every retainer.
-            (
-                Fault::WriterBeneath,
-                Bearer::pairs(&holders, &retainers, |holder, retainer| {
-                    holder.mode == Mode::Read || self.is_beneath(holder.transaction, retainer.transaction)
-                }),
-            ),
-            // Versions only in write mode.
-            (
-                Fault::Version,
-                self.versions.keys().all(|(writer, record)| {
-                    let lock = (*record, *writer);
-                    [self.holders.get(&lock), self.retainers.get(&lock)].contains(&Some(&Mode::Write))
-                }),
-            ),
+            (Fault::Line, on_one_line),
+            (Fault::Beneath, holders_beneath),
+            (Fault::NotAlone, alone),
+            (Fault::WriterBeneath, writer_beneath),
+            (Fault::Version, in_write_mode),
         ];
         checks.into_iter().find(|(_, holds)| !holds).map(|(fault, _)| fault)
     }
@@ -158,9 +140,14 @@ impl Bearer {
         told.iter().map(|((record, t), mode)| Bearer { record: *record, transaction: *t, mode: *mode }).collect()
     }
 
+    /// Whether it is in read mode, to which the clauses on write mode don't apply.
+    fn reads(self) -> bool {
+        self.mode == Mode::Read
+    }
+
     /// Whether something holds of each two that have to do with the same lock.
     fn pairs(some: &[Bearer], others: &[Bearer], holds: impl Fn(Bearer, Bearer) -> bool) -> bool {
         let of = |one: &Bearer| others.iter().filter(|two| two.record == one.record).all(|two| holds(*one, *two));
-        some.iter().all(|one| of(one))
+        some.iter().all(of)
     }
 }
