@@ -75,7 +75,16 @@ same "a dry run leaves the store" store before
 # Portions and state files: as one run over the joined lists.
 number() { awk -v name="NEKAHUIRO_$1" '$2 == name { print $3 }' "$root/include/nekahuiro.h"; }
 state_bytes=$(number STATE_BYTES)
-kept_bytes=$((state_bytes + $(number WORK_BYTES)))
+head_bytes=32 # of a state file: a line, then two digests
+kept_bytes=$((head_bytes + state_bytes + $(number WORK_BYTES)))
+digest() { # FILE: 8 raw bytes, FNV-1a with the least byte first
+    local value=$((0xCBF29CE484222325)) number
+    for number in $(od -An -v -tu1 "$1"); do value=$(((value ^ number) * 0x100000001B3)); done
+    for number in 0 8 16 24 32 40 48 56; do printf "\\x$(printf %02x $((value >> number & 255)))"; done
+}
+state_file() { # STORE CONTENT FILE: what a state file of this store and content should be
+    { echo "nekahuiro state"; digest "$1"; digest "$2"; cat "$2"; } >"$3"
+}
 "$run" fresh whole >out && "$run" fresh cut >out && cp cut cut.first
 ok "the whole list" "11 events: 10 done, 0 refused, 1 cut" "$run" play whole hex.txt --answers whole.bin
 ok "in portions" "11 events: 10 done, 0 refused, 1 cut" "$run" play cut hex.txt --portions 2 --answers cut.bin
@@ -86,6 +95,8 @@ ok "a first part" "6 events: 6 done.* 2 transactions: 0 survive, 0 lost, 2 undec
     bash -c "head -4 hex.txt | '$run' play cut - --state kept --answers one.bin"
 holds "what is live is said" grep -qx "kept: up, live: 0" out
 holds "a state file has state and working buffer" test "$(stat -c %s kept)" = "$kept_bytes"
+tail -c +$((head_bytes + 1)) kept >content; state_file cut content due.kept
+same "a state file says what it goes with" kept due.kept
 cp kept kept.first
 ok "a dry run from a state" "kept: down" "$run" play cut rest.txt --state kept --dry
 same "a dry run leaves the state" kept kept.first
@@ -93,7 +104,7 @@ ok "a trace from a state" "before: the store is up, live: 0; record 3 retained b
     "$run" play cut rest.txt --state kept --dry --trace
 ok "a picture from a state" "transaction 0, begun before, its commit was cut at event 5: survives" \
     bash -c "'$run' play cut rest.txt --state kept --dry --picture late.svg && cat late.svg"
-ok "the second part" "2 transactions: 1 survive, 1 lost$" "$run" play cut rest.txt --state kept --answers two.bin
+ok "the second part" "2 transactions: 1 survives, 1 lost$" "$run" play cut rest.txt --state kept --answers two.bin
 ok "one event at a time" "kept.one: up, live: 0" bash -c "cp cut.first one && head -4 hex.txt | '$run' play one - --state kept.one --portions 1"
 same "one event at a time: the state" kept.one kept.first
 cat one.bin two.bin >joined.bin
@@ -104,19 +115,25 @@ ok "more events than a run takes" "^5000 events: 5000 done" \
 same "more events leave the store" whole cut
 ok "an empty list on a state" "^0 events" bash -c "'$run' play cut - --state kept </dev/null"
 cp cut cut.before; cp kept kept.before; cp kept.first odd
-printf '\x01' | dd of=odd bs=1 seek=$((state_bytes - 1)) conv=notrunc 2>err
-fails "a state that isn't sound" 1 "the state in odd is refused .25.*cut isn't the store" "$run" play cut words.txt --state odd
-fails "a state of another store" 1 "refused .25." "$run" play cut words.txt --state kept.first
+printf '\x01' | dd of=odd bs=1 seek=$((head_bytes + state_bytes - 1)) conv=notrunc 2>err
+fails "a damaged state file" 1 "odd is damaged" "$run" play cut.first words.txt --state odd
+tail -c +$((head_bytes + 1)) odd >content; state_file cut content odd
+fails "a state that isn't sound" 1 "the state in odd is refused .25.: it isn't sound" "$run" play cut words.txt --state odd
+holds "a state that isn't sound: the mend" grep -q 'remove odd and begin with a recover; no file was changed' err
+fails "a state of a store before" 1 "cut isn't the store that was left with kept.first" "$run" play cut words.txt --state kept.first
+fails "a state of another store" 1 "store isn't the store that was left with kept.first" "$run" play store rest.txt --state kept.first
+head -c "$kept_bytes" /dev/zero >zeros
+fails "zeros for a state file" 1 "zeros is no state file: it doesn't begin" "$run" play cut words.txt --state zeros
 head -c $((kept_bytes - 1)) kept >short.kept
 fails "a short state file" 1 "no state file: it has $((kept_bytes - 1)) bytes, and a state file has $kept_bytes" \
     "$run" play cut words.txt --state short.kept
-fails "a folder for a state" 1 "can't read" "$run" play cut words.txt --state .
+fails "a folder for a state" 1 "is a folder, and a state file is a file" "$run" play cut words.txt --state .
 fails "a state in a missing folder" 1 "can't write missing/kept" "$run" play cut words.txt --state missing/kept
 fails "the store for a state" 2 "cut is named twice" "$run" play cut words.txt --state cut
 fails "too many events on a state" 1 "4097 events.*refusal 20" bash -c "yes crash | head -4097 | '$run' play cut - --state kept"
 fails "portions of nothing" 2 "from 1 to 4096, and .0. was given" "$run" play cut words.txt --portions 0
 fails "portions too long" 2 "from 1 to 4096" "$run" play cut words.txt --portions 4097
-fails "portions without a number" 2 "nothing was given" "$run" play cut words.txt --portions
+fails "portions without a number" 2 "--portions needs N, and nothing was given" "$run" play cut words.txt --portions
 chmod 444 kept
 fails "read-only state" 1 "kept: it is read-only" "$run" play cut words.txt --state kept
 chmod 644 kept
@@ -137,23 +154,64 @@ fails "a word missing" 1 "the count is missing" bash -c "echo recover | '$run' p
 fails "a word too many" 1 "one word too many" bash -c "echo crash now | '$run' play store -"
 fails "bad value" 1 "isn't a hex number" bash -c "echo write 0 0 0 100 | '$run' play store -"
 fails "short hex word" 1 "8 hex digits" bash -c "echo 8000F | '$run' play store -"
+fails "odd hex" 1 ".A0003F0. isn't an event word" bash -c "echo A0003F0 | '$run' play store -"
+fails "a letter that is no text" 1 "latin, line 2: the byte E4 is no text" bash -c "printf 'crash\ncrash # \344\n' >latin; '$run' play store latin"
+fails "UTF-16" 1 "seems to be UTF-16" bash -c "printf '\377\376c\0' | '$run' play store -"
+fails "a very long word" 1 "line 1: a word of 100000 letters is no event, in .xxx" bash -c "head -c 100000 /dev/zero | tr '\0' x | '$run' play store -"
+holds "a very long word: a short message" test "$(stat -c %s err)" -lt 300
+text '\xEF\xBB\xBFcrash\r\n\r\n# a comment\r\n\tcrash # and one\r\n' crlf.txt
+ok "CRLF, tabs and a byte order mark" "^2 events: 2 done" "$run" play store crlf.txt
+ok "one event" "^1 event: 1 done" bash -c "echo crash | '$run' play store -"
+ok "raw words that look like text" "^30404042 0200$" bash -c "printf 0@@B | '$run' play store - --raw"
+ok "raw writes" "^309880A5 0200$" bash -c "printf '\060\230\200\245' | '$run' play store -"
 fails "raw bytes cut off" 1 "3 raw bytes" bash -c "head -c 3 raw.bin | '$run' play store -"
 fails "too many events" 1 "4097 events.*refusal 20" bash -c "yes crash | head -4097 | '$run' play store -"
 ok "as many events as there may be" "4096 events" bash -c "yes crash | head -4096 | '$run' play store - --answers a4096"
 ok "an empty list" "^0 events" bash -c "'$run' play store - </dev/null"
 head -c 1055 store >short
 fails "short store" 1 "1055 bytes .refused 22" "$run" play short words.txt
+fails "an endless store" 1 "more than 1056 bytes .refused 22" "$run" show /dev/zero
+fails "a store that can't be replaced" 1 "no plain file" "$run" play /dev/null words.txt
 fails "no store" 1 "can't read nothing" "$run" show nothing
-fails "a folder for a store" 1 "can't read" "$run" play . words.txt
-fails "no list" 1 "can't read nothing" "$run" play store nothing
+fails "a folder for a store" 1 "is a folder, and a store is a file" "$run" play . words.txt
+fails "a folder to show" 1 "can't read .: it is a folder" "$run" show .
+fails "fresh onto a folder" 1 "is a folder" "$run" fresh . --force
+fails "no list" 1 "can't read nothing: No such file or directory$" "$run" play store nothing
+holds "no list: the mend" grep -q "it should be a list of events" err
+fails "a folder for standard input" 1 "can't read standard input: it is a folder" bash -c "'$run' play store - <."
 fails "record 16" 1 "refused 23" "$run" age store 16 0 0
 fails "clock below 0" 2 "isn't a number of minutes" "$run" age store 3 -5 0
 fails "no command" 2 "no command given" "$run"
 fails "unknown command" 2 "no command .frob." "$run" frob
-fails "unknown option" 2 "knows no" "$run" play store words.txt --frob
-fails "option without a file" 2 "needs a file" "$run" play store words.txt --answers
-fails "answers over the store" 2 "store is named twice" "$run" play store words.txt --answers ./store
+fails "unknown option" 2 "there is no option .--frob." "$run" play store words.txt --frob
+holds "unknown option: the mend" grep -qF 'write `./nekahuiro play STORE EVENTS [--answers FILE] [--trace]' err
+fails "option without a file" 2 "needs FILE, and nothing was given" "$run" play store words.txt --answers
+fails "option for a file" 2 "needs FILE, and .--trace. was given" "$run" play store words.txt --answers --trace
+fails "no file but -" 2 "needs FILE, and .-. was given" "$run" play store words.txt --answers -
+fails "option given twice" 2 "answers is given twice" "$run" play store words.txt --answers a --answers b
+fails "unknown option of fresh" 2 "fresh: there is no option .--frob." "$run" fresh --frob
+fails "fresh without a name" 2 "fresh: STORE is missing" "$run" fresh --force
+fails "a name too many" 2 "show: .other. is one word too many" "$run" show store other
+fails "a name missing" 2 "play: EVENTS is missing" "$run" play store
+fails "an empty name" 2 "show: STORE is empty" "$run" show ""
+fails "a store on standard input" 2 "STORE can't be standard input" "$run" play - words.txt
+fails "a name that is no text" 2 "isn't UTF-8 text" "$run" show $'\xFF'
+fails "record that is no number" 2 "the record .x. isn't a number" "$run" age store x 5 10
+fails "clock too large" 2 "isn't a number of minutes from 0 to 4294967295" "$run" age store 3 4294967296 10
+fails "a bad event to encode" 1 "the event given: the record .17. isn't .* 0 to 15, in .lock 0 17.$" "$run" encode lock 0 17
+fails "encode --raw with an event" 2 "raw takes no EVENT" "$run" encode --raw crash
+fails "encode of an empty event" 2 "EVENT is empty" "$run" encode ""
+ok "help of a command" "^EVENTS is a file" "$run" play --help
+ok "a name after --" "a fresh store" "$run" fresh -- -odd
+holds "a name after --: its file" test -s ./-odd
+fails "answers over the store" 2 "store is named twice, for the store and for the answers" "$run" play store words.txt --answers ./store
 fails "picture over the list" 2 "words.txt is named twice" "$run" play store words.txt --picture words.txt
+fails "the store for a list" 2 "store is named twice, for the store and for the events" "$run" play store store
+fails "two new files in one" 2 "new is named twice, for the answers and for the picture" "$run" play store words.txt --answers new --picture ./new
+fails "answers over standard input" 2 "words.txt is named twice, for the events and for the answers" \
+    bash -c "'$run' play store - --answers words.txt <words.txt"
+fails "answers over the output" 2 "both is named twice, for the output and for the answers" \
+    bash -c "'$run' play store words.txt --answers both >both"
 fails "fresh over a store" 1 "is there already" "$run" fresh store
 same "all refused: the store stays" store before
 { printf '\x15'; head -c 1055 /dev/zero; } >damaged
@@ -169,11 +227,25 @@ chmod 444 store
 fails "read-only store" 1 "store: it is read-only" "$run" play store change.txt
 chmod 644 store
 fails "answers into a missing folder" 1 "can't write missing/a" "$run" play store change.txt --answers missing/a
-fails "answers onto a folder" 1 "is a directory" "$run" play store change.txt --answers .
+fails "answers onto a folder" 1 "it is a folder" "$run" play store change.txt --answers .
 fails "answers to a full device" 1 "No space left" "$run" play store change.txt --answers /dev/full
 fails "picture to a full device" 1 "No space left" "$run" play store change.txt --picture /dev/full
 fails "output to a full device" 1 "standard output: No space left" bash -c "'$run' play store change.txt >/dev/full"
 holds "the full device is still there" test -c /dev/full
+fails "output that isn't read to its end" 1 "standard output: Broken pipe" \
+    bash -c "set -o pipefail; yes crash | head -4096 | '$run' play store - --trace | head -1"
+holds "output that isn't read: the mend" grep -q "no file was changed" err
+ok "a reader that had enough" "^1$" bash -c "yes crash | head -20000 | '$run' encode | head -1; echo \${PIPESTATUS[2]}"
+holds "a reader that had enough: no message" test ! -s err
+ln -s missing-file dangling
+fails "a link to nothing" 1 "dangling: it is a link to a file that isn't there" "$run" play store change.txt --answers dangling
+# The second list waits for a reader of its answers, and the store is changed meanwhile.
+mkfifo pipe; cp store busy
+"$binary" play busy change.txt --answers pipe >out 2>err &
+second=$!; sleep 1
+"$run" play busy words.txt >/dev/null; printf x | dd of=busy bs=1 seek=1000 conv=notrunc 2>/dev/null
+cat pipe >/dev/null; wait $second; [ $? = 1 ] && grep -q "busy was changed by somebody else" err
+report "a store that is changed meanwhile" $?
 # A file may have 1,024 bytes and a store has more: the write stops halfway.
 fails "no room for the store" 1 "can't write store: File too large" \
     bash -c "trap '' XFSZ; ulimit -f 1; '$binary' play store change.txt"
@@ -195,6 +267,11 @@ if [ "$(id -u)" = 0 ] && mkdir disk && mount -t tmpfs -o size=8k tmpfs disk 2>/d
     cp cut.first bound; cp cut.first fixed; cp kept.first late
     if mount --bind bound fixed 2>/dev/null; then
         mounted=$folder/fixed
+        fails "answers that can't be replaced" 1 "can't replace fixed" "$run" play store change.txt --answers fixed
+        holds "answers that can't be replaced: the mend" grep -q "no file was changed" err
+        same "answers that can't be replaced: the store" store before
+        fails "a store that can't be replaced in the end" 1 "can't replace fixed" "$run" play fixed change.txt --answers a
+        holds "what was replaced is said" grep -q "a is replaced already, the store isn't" err
         fails "stopped between store and state" 1 "late is gone, which is as a power cut" "$run" play fixed rest.txt --state late
         holds "stopped between: no state" test ! -e late
         same "stopped between: the store" fixed cut.first
@@ -218,6 +295,16 @@ ok "play through a link" "5 events: 5 done" "$run" play link change.txt
 holds "the link is still a link" test -L link
 holds "permissions stay" test "$(stat -c %a store)" = 640
 ok "the change is there" "5  home page 22 +77000000" "$run" show store
+if [ "$(id -u)" = 0 ]; then
+    chown 65534:65534 store
+    ok "play on another's store" "4 events" "$run" play store words.txt
+    holds "the owner stays" test "$(stat -c %u:%g:%a store)" = 65534:65534:640
+fi
+ok "beside what a power cut left over" "a fresh store" bash -c "touch .nekahuiro.\$\$.0.new; exec '$binary' fresh another"
+rm -f .nekahuiro.*.0.new
+fails "a name too long" 1 "can't write n*: File name too long" "$run" fresh "$(printf 'n%.0s' {1..300})"
+holds "a name too long: nothing is told as done" test ! -s out
+ok "a long name" "a fresh store" "$run" fresh "$(printf 'n%.0s' {1..250})"
 ok "fresh --force" "a fresh store" "$run" fresh store --force
 ok "and it is fresh" "5  home page 22 +00000000" "$run" show store
 no_leftovers .

@@ -1,5 +1,6 @@
 //! `demo`: the worked list, told step by step.
 
+use crate::arguments::Form;
 use crate::failure::{Failure, Outcome};
 use crate::follow::Follower;
 use crate::{say, show, trace};
@@ -8,6 +9,8 @@ use nekahuiro::{Answer, Event, Record, Store};
 use nekahuiro_history::{tell, History};
 use nekahuiro_lists::worked;
 use std::fmt::Write;
+
+const FORM: Form = Form { command: "demo", names: &[], options: &[] };
 
 /// What each event of the worked list shows.
 const STEPS: [&str; 16] = [
@@ -30,10 +33,8 @@ const STEPS: [&str; 16] = [
 ];
 
 /// Plays the worked list on a fresh store and tells it; fails if an answer isn't the one due.
-pub fn command(arguments: &[String]) -> Outcome {
-    if !arguments.is_empty() {
-        return Err(Failure::usage("demo takes nothing more", "write `./nekahuiro demo`"));
-    }
+pub fn command(words: &[String]) -> Outcome {
+    let ([], _) = FORM.read(words)?;
     let words = worked::events();
     let mut store = Store::fresh();
     let answers = store.play_words(&words).map_err(|refusal| wrong(&refusal.to_string()))?;

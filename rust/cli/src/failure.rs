@@ -11,6 +11,9 @@ pub struct Failure {
     mend: String,
     /// The exit status, never 0.
     pub status: u8,
+    /// Whether it is only that nobody reads the output any more.
+    unread: bool,
+    quiet: bool,
 }
 
 /// Success, or a failure.
@@ -19,22 +22,35 @@ pub type Outcome<T = ()> = Result<T, Failure>;
 impl Failure {
     /// Something went wrong; `mend` says what the user can do.
     pub fn new(reason: &str, mend: &str) -> Failure {
-        Failure { reason: reason.to_string(), mend: mend.to_string(), status: 1 }
+        Failure { reason: reason.to_string(), mend: mend.to_string(), status: 1, unread: false, quiet: false }
     }
 
-    /// The same with another mend.
-    pub fn with_mend(self, mend: &str) -> Failure {
-        Failure { mend: mend.to_string(), ..self }
+    /// The same with more to say after the mend.
+    pub fn and(self, more: &str) -> Failure {
+        Failure { mend: format!("{}; {more}", self.mend), ..self }
     }
 
     /// The command was not called as it should be.
     pub fn usage(reason: &str, mend: &str) -> Failure {
         Failure { status: USAGE, ..Failure::new(reason, mend) }
     }
+
+    /// The reader of the output stopped before its end, as `head` does.
+    pub fn unread(reason: &str, mend: &str) -> Failure {
+        Failure { unread: true, ..Failure::new(reason, mend) }
+    }
+
+    /// The failure of a command that changes no file: there is nothing to say if its reader had enough.
+    pub fn of_reader(self) -> Failure {
+        Failure { quiet: self.unread, ..self }
+    }
 }
 
 impl fmt::Display for Failure {
     fn fmt(&self, f: &mut fmt::Formatter) -> fmt::Result {
-        write!(f, "{}\n  {}", self.reason, self.mend)
+        match self.quiet {
+            true => Ok(()),
+            false => writeln!(f, "nekahuiro: {}\n  {}", self.reason, self.mend),
+        }
     }
 }

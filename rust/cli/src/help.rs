@@ -15,6 +15,7 @@ nekahuiro: a record store with nested transactions, proved
       --portions N                          play N events at a time; the list may then have any length
       --state FILE                          go on from the state in FILE, and leave the new state there;
                                             without the file, start down
+      --raw                                 take EVENTS as raw event words, whatever it looks like
       --dry                                 leave store and state file as they are
   ./nekahuiro show STORE                  the commit page in words, each record and where it stands
   ./nekahuiro age STORE RECORD CLOCK LIMIT  how old a record is, in minutes: live, ahead or stale
@@ -24,8 +25,8 @@ nekahuiro: a record store with nested transactions, proved
                                           instruction counts, for which valgrind is used if it is there
   ./nekahuiro help                        this text
 
-EVENTS is a file, or - for standard input. It holds event words in hex, or events in words, one to a
-line; # starts a comment. Any other file is taken as raw event words of 4 bytes.
+EVENTS is a file, or - for standard input. It is UTF-8 text with event words in hex, or events in words,
+one to a line; # starts a comment. What has a byte 0 in it is taken as raw event words of 4 bytes.
 
   begin none | begin PARENT               numbers are given in the answers, from 0
   lock TRANSACTION RECORD
@@ -36,15 +37,20 @@ line; # starts a comment. Any other file is taken as raw event words of 4 bytes.
   crash
   recover COUNT                           a run starts down: recover comes first
 
-The store file is replaced only when all has gone well, in one step. The exit status is 0 only then:
-1 means that something failed, 2 that the command was called wrongly.
+Options may stand anywhere after the command. After -- nothing is an option; a file whose name begins
+with - can also be written ./-name.
 
-A state file has what is live between two portions: the lent state, then the working buffer. It goes
-with its store, and nothing else may write the two between. If the power goes while they are replaced,
-the state file is gone: what was live is lost, and the next list starts down.
+The store file is replaced only when all has gone well, in one step. The exit status is 0 only then:
+1 means that something failed, 2 that the command was called wrongly. A refused event is an answer and
+no failure.
+
+A state file has what is live between two portions: a line that says what it is, a digest of the store
+left with it and one of what follows, the lent state, the working buffer. It goes with that store: if
+another is named, or the store was changed since, nothing is played. If the power goes while the two
+are replaced, the state file is gone: what was live is lost, and the next list starts down.
 ";
 
 /// Prints the help.
-pub fn command(_: &[String]) -> Outcome {
+pub fn command() -> Outcome {
     say(TEXT)
 }

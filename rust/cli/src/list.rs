@@ -1,34 +1,76 @@
 //! Event lists as files: raw words, hex words, or words.
 
 use crate::failure::{Failure, Outcome};
-use crate::files;
+use crate::files::{name_of, read_list};
 use nekahuiro::limits::{EVENTS, EVENT_BYTES};
 use nekahuiro::{BadWords, Event};
 
-/// Reads a list of events into raw words.
-pub fn read(path: &str) -> Outcome<Vec<u8>> {
-    let bytes = files::read(path)?;
+/// The longest word that can be part of a list: no event has one half as long.
+const LONGEST_WORD: usize = 32;
+/// As much of a line as a message shows.
+const SHOWN: usize = 60;
+
+/// What a list is written in.
+pub enum Content<'b> {
+    /// Lines of hex words, or of events in words.
+    Text(&'b str),
+    /// Event words, 4 bytes each.
+    Raw(&'b [u8]),
+}
+
+/// Reads a list of events into raw words; `raw` says that it has them already.
+pub fn read(path: &str, raw: bool) -> Outcome<Vec<u8>> {
+    let bytes = read_list(path)?;
     let name = name_of(path);
-    match text(&bytes) {
-        Some(text) => parse(name, text),
-        None => raw(name, bytes),
+    match Content::of(name, &bytes, raw)? {
+        Content::Text(text) => parse(name, text),
+        Content::Raw(words) => Ok(words.to_vec()),
     }
 }
 
-/// The bytes as text, if they can be: raw words nearly always have a byte that no text has.
-pub fn text(bytes: &[u8]) -> Option<&str> {
-    let printable = |text: &&str| text.chars().all(|c| !c.is_control() || c.is_ascii_whitespace());
-    std::str::from_utf8(bytes).ok().filter(printable)
+impl<'b> Content<'b> {
+    /// Tells text from raw words, unless it is known. Every event but a write has a byte 0, and no
+    /// text has one.
+    pub fn of(name: &str, bytes: &'b [u8], raw: bool) -> Outcome<Content<'b>> {
+        let is_write = |word: &[u8]| word[0] >> 4 == 3;
+        if raw {
+            return whole(name, bytes);
+        }
+        if bytes.starts_with(&[0xFF, 0xFE]) || bytes.starts_with(&[0xFE, 0xFF]) {
+            return Err(Failure::new(&format!("{name} seems to be UTF-16 text"), SAVE));
+        }
+        match text(bytes) {
+            Ok(text) => Ok(Content::Text(text.strip_prefix('\u{FEFF}').unwrap_or(text))),
+            Err(_) if bytes.contains(&0) || bytes.chunks(EVENT_BYTES).all(is_write) => whole(name, bytes),
+            Err(at) => {
+                let line = 1 + bytes[..at].iter().filter(|byte| **byte == b'\n').count();
+                let reason = format!("{name}, line {line}: the byte {:02X} is no text", bytes[at]);
+                Err(Failure::new(&reason, SAVE))
+            }
+        }
+    }
+}
+
+/// The mend for what is neither text nor raw words.
+const SAVE: &str = "save the list as UTF-8 text; `play` takes raw event words with --raw";
+
+/// The bytes as text, or the place of the first that can't be in one.
+fn text(bytes: &[u8]) -> Result<&str, usize> {
+    let text = std::str::from_utf8(bytes).map_err(|error| error.valid_up_to())?;
+    match text.find(|c: char| c.is_control() && !c.is_ascii_whitespace()) {
+        Some(at) => Err(at),
+        None => Ok(text),
+    }
 }
 
 /// Raw words, if they are whole.
-pub fn raw(name: &str, bytes: Vec<u8>) -> Outcome<Vec<u8>> {
+fn whole<'b>(name: &str, bytes: &'b [u8]) -> Outcome<Content<'b>> {
     if bytes.len() % EVENT_BYTES != 0 {
-        let reason =
-            format!("{name}: {} raw bytes are no whole number of 4-byte event words (refusal 20)", bytes.len());
-        return Err(Failure::new(&reason, "check that the file is whole; a text list has printable characters only"));
+        let length = crate::number_of(bytes.len(), "raw byte");
+        let reason = format!("{name} has {length}, which is no whole number of 4-byte event words (refusal 20)");
+        return Err(Failure::new(&reason, "check that the list is whole; one in words is saved as UTF-8 text"));
     }
-    Ok(bytes)
+    Ok(Content::Raw(bytes))
 }
 
 /// Reads a list from text; a message names the line.
@@ -36,7 +78,7 @@ fn parse(name: &str, text: &str) -> Outcome<Vec<u8>> {
     let mut words = Vec::new();
     for (number, whole) in (1..).zip(text.lines()) {
         let line = without_comment(whole);
-        words.extend(line_words(line).map_err(|bad| bad_line(name, number, line, &bad))?);
+        words.extend(line_words(line).map_err(|bad| bad_line(&format!("{name}, line {number}"), line, &bad))?);
     }
     Ok(words)
 }
@@ -52,38 +94,52 @@ pub fn check_length(path: &str, words: &[u8]) -> Outcome {
     Ok(())
 }
 
-fn name_of(path: &str) -> &str {
-    if path == "-" {
-        "standard input"
-    } else {
-        path
-    }
-}
-
 /// A line without what comes after `#`.
 pub fn without_comment(line: &str) -> &str {
     line.split('#').next().unwrap_or_default().trim()
 }
 
 /// The message for a line that can't be read.
-pub fn bad_line(name: &str, number: usize, line: &str, bad: &BadWords) -> Failure {
-    Failure::new(&format!("{name}, line {number}: {} in `{line}`", bad.reason), &bad.mend)
+pub fn bad_line(place: &str, line: &str, bad: &BadWords) -> Failure {
+    let line = format!("`{}`", shown(line));
+    let reason = match bad.reason.contains(&line) {
+        true => bad.reason.clone(),
+        false => format!("{}, in {line}", bad.reason),
+    };
+    Failure::new(&format!("{place}: {reason}"), &bad.mend)
+}
+
+/// As much of a line as a message has room for, without what would move the cursor.
+fn shown(line: &str) -> String {
+    let plain = |c: char| if c.is_control() { ' ' } else { c };
+    let start: String = line.chars().take(SHOWN).map(plain).collect();
+    if line.chars().nth(SHOWN).is_some() {
+        start + ".."
+    } else {
+        start
+    }
 }
 
 /// The raw words of a line without its comment: an event in words, or any number of hex words.
 pub fn line_words(line: &str) -> Result<Vec<u8>, BadWords> {
     let Some(first) = line.split_whitespace().next() else { return Ok(Vec::new()) };
-    if first.starts_with(|digit: char| digit.is_ascii_digit()) || hex_word(first).is_some() {
+    if let Some(long) = line.split_whitespace().find(|word| word.len() > LONGEST_WORD) {
+        return Err(BadWords {
+            reason: format!("a word of {} letters is no event", long.chars().count()),
+            mend: MEND.to_string(),
+        });
+    }
+    if first.starts_with(|digit: char| digit.is_ascii_digit()) || first.bytes().all(|digit| digit.is_ascii_hexdigit()) {
         return line.split_whitespace().map(expect_hex).collect::<Result<Vec<_>, _>>().map(|words| words.concat());
     }
     line.parse::<Event>().map(|event| event.word().to_vec())
 }
 
+/// The mend for what is neither an event in words nor a hex word.
+const MEND: &str = "write 8 hex digits, such as 80003F00, or an event in words, such as `recover 63`";
+
 fn expect_hex(word: &str) -> Result<[u8; EVENT_BYTES], BadWords> {
-    hex_word(word).ok_or_else(|| BadWords {
-        reason: format!("`{word}` isn't an event word"),
-        mend: "write 8 hex digits, such as 80003F00, or an event in words, such as `recover 63`".to_string(),
-    })
+    hex_word(word).ok_or_else(|| BadWords { reason: format!("`{word}` isn't an event word"), mend: MEND.to_string() })
 }
 
 /// An event word from eight hex digits.

@@ -1,49 +1,63 @@
 //! The command line: `./nekahuiro help` says what it can do.
 
 mod age;
+mod arguments;
 mod bench;
 mod demo;
 mod encode;
 mod failure;
 mod files;
 mod follow;
+mod fresh;
 mod help;
 mod list;
 mod picture;
 mod play;
 mod show;
+mod staged;
 mod state_file;
 mod trace;
 
 use failure::{Failure, Outcome};
-use std::io::Write;
+use std::ffi::OsString;
+use std::io::{ErrorKind, Write};
 use std::process::ExitCode;
 
 fn main() -> ExitCode {
-    let arguments: Vec<String> = std::env::args_os().skip(1).map(|a| a.to_string_lossy().into_owned()).collect();
-    match command(&arguments) {
+    let words: Outcome<Vec<String>> = std::env::args_os().skip(1).map(plain).collect();
+    match words.and_then(|words| command(&words)) {
         Ok(()) => ExitCode::SUCCESS,
         Err(failure) => {
             // Nothing can be done if standard error is closed too.
-            let _ = writeln!(std::io::stderr(), "nekahuiro: {failure}");
+            let _ = write!(std::io::stderr(), "{failure}");
             ExitCode::from(failure.status)
         }
     }
 }
 
-fn command(arguments: &[String]) -> Outcome {
-    let Some((name, rest)) = arguments.split_first() else {
+fn plain(word: OsString) -> Outcome<String> {
+    word.into_string().map_err(|word| {
+        let reason = format!("`{}` isn't UTF-8 text", word.display());
+        Failure::usage(&reason, "rename the file, or reach it through a link with another name")
+    })
+}
+
+fn command(words: &[String]) -> Outcome {
+    let Some((name, rest)) = words.split_first() else {
         return Err(Failure::usage("no command given", "try `./nekahuiro demo` or `./nekahuiro help`"));
     };
+    if arguments::asks_for_help(words) {
+        return help::command().map_err(Failure::of_reader);
+    }
     match name.as_str() {
-        "fresh" => files::fresh(rest),
+        "fresh" => fresh::command(rest),
         "play" => play::command(rest),
-        "show" => show::command(rest),
-        "age" => age::command(rest),
-        "encode" => encode::command(rest),
-        "demo" => demo::command(rest),
-        "bench" => bench::command(rest),
-        "help" | "--help" | "-h" => help::command(rest),
+        "show" => show::command(rest).map_err(Failure::of_reader),
+        "age" => age::command(rest).map_err(Failure::of_reader),
+        "encode" => encode::command(rest).map_err(Failure::of_reader),
+        "demo" => demo::command(rest).map_err(Failure::of_reader),
+        "bench" => bench::command(rest).map_err(Failure::of_reader),
+        "help" => help::command().map_err(Failure::of_reader),
         _ => Err(Failure::usage(&format!("there is no command `{name}`"), "`./nekahuiro help` lists the commands")),
     }
 }
@@ -53,12 +67,20 @@ fn say(text: &str) -> Outcome {
     say_bytes(text.as_bytes())
 }
 
-/// Writes bytes to standard output, to the last one.
+/// Writes bytes to standard output, to the last one. It comes before any file is replaced.
 fn say_bytes(bytes: &[u8]) -> Outcome {
     let mut out = std::io::stdout().lock();
     let written = out.write_all(bytes).and_then(|()| out.flush());
     written.map_err(|error| {
-        let reason = format!("can't write to standard output: {error}");
-        Failure::new(&reason, "free some room, or write elsewhere; no file was changed")
+        let reason = format!("can't write to standard output: {}", files::said(&error));
+        match error.kind() {
+            ErrorKind::BrokenPipe => Failure::unread(&reason, "let it be read to its end; no file was changed"),
+            _ => Failure::new(&reason, "free some room, or write elsewhere; no file was changed"),
+        }
     })
+}
+
+/// A number of things in words.
+fn number_of(number: usize, thing: &str) -> String {
+    format!("{number} {thing}{}", if number == 1 { "" } else { "s" })
 }

@@ -1,15 +1,16 @@
 //! `show STORE`: the commit page in words, each record's settled value and where it stands.
 
-use crate::failure::{Failure, Outcome};
+use crate::arguments::Form;
+use crate::failure::Outcome;
 use crate::{files, say};
 use nekahuiro::{CommitPage, Place, Record, Store};
 use std::fmt::Write;
 
+const FORM: Form = Form { command: "show", names: &["STORE"], options: &[] };
+
 /// Prints a store.
-pub fn command(arguments: &[String]) -> Outcome {
-    let [path] = arguments else {
-        return Err(Failure::usage("show takes one file", "write `./nekahuiro show STORE`"));
-    };
+pub fn command(words: &[String]) -> Outcome {
+    let ([path], _) = FORM.read(words)?;
     let store = files::read_store(path)?;
     let mut text = format!("{path}\n{}\n\n", commit_page(&store));
     text.push_str("record  settled in           value\n");
@@ -26,11 +27,12 @@ pub fn commit_page(store: &Store) -> String {
         CommitPage::Empty => format!("page 0 ({head} ..): empty, no commit is under way"),
         CommitPage::Committed(map) => {
             let named: Vec<String> = map.records().map(|record| record.to_string()).collect();
-            let records = if named.len() == 1 { "record" } else { "records" };
-            format!(
-                "page 0 ({head} ..): committed, {records} {}; a recover will copy home what is settled here",
-                named.join(", ")
-            )
+            let (records, pages) = match named.len() {
+                1 => ("record", "its intention page"),
+                _ => ("records", "their intention pages"),
+            };
+            let named = named.join(", ");
+            format!("page 0 ({head} ..): committed, {records} {named}; a recover will copy {pages} home")
         }
         CommitPage::Damaged(why) => {
             format!("page 0 ({head} ..): damaged, {why}; recover and age are refused with 4, home pages are shown")

@@ -1,12 +1,18 @@
-//! State files: what a portion left for the next one, the lent state and then the working buffer.
+//! State files: what a portion left for the next one. A heading, the digests of the store that was
+//! left with it and of what comes after; then the lent state and the working buffer.
 
 use crate::failure::{Failure, Outcome};
-use crate::files::cant_read;
+use crate::files::{cant_read, length_in_words, read_up_to};
 use nekahuiro::limits::{STATE_BYTES, WORK_BYTES};
-use nekahuiro::{Record, State, Transaction, Work};
+use nekahuiro::{Record, State, Store, Transaction, Work};
 use nekahuiro_history::Earlier;
-use std::fs;
 use std::io::ErrorKind;
+
+/// What a state file begins with.
+const HEADING: &[u8; 16] = b"nekahuiro state\n";
+const DIGEST_BYTES: usize = 8;
+const HEADER_BYTES: usize = HEADING.len() + 2 * DIGEST_BYTES;
+const FILE_BYTES: usize = HEADER_BYTES + STATE_BYTES + WORK_BYTES;
 
 /// What is kept between portions, beside the store.
 #[derive(Default)]
@@ -17,35 +23,61 @@ pub struct Kept {
     pub work: Work,
 }
 
-/// Reads a state file; without one all starts down.
-pub fn read(path: &str) -> Outcome<Kept> {
-    let bytes = match fs::read(path) {
+/// Reads the state file that goes with a store; without one all starts down.
+pub fn read(path: &str, store_name: &str, store: &Store) -> Outcome<Kept> {
+    let bytes = match read_up_to(path, FILE_BYTES + 1) {
         Err(error) if error.kind() == ErrorKind::NotFound => return Ok(Kept::default()),
-        found => found.map_err(|error| cant_read(path, &error))?,
+        found => found.map_err(|error| cant_read(path, &error, "check the name"))?,
     };
-    let (state, work) = bytes.split_at(bytes.len().min(STATE_BYTES));
+    if bytes.len() != FILE_BYTES {
+        let found = length_in_words(path, bytes.len(), FILE_BYTES);
+        return Err(no_state_file(path, &format!("it has {found}, and a state file has {FILE_BYTES}")));
+    }
+    if !bytes.starts_with(HEADING) {
+        return Err(no_state_file(path, "it doesn't begin with `nekahuiro state`"));
+    }
+    let (header, content) = bytes.split_at(HEADER_BYTES);
+    let (of_store, of_content) = header[HEADING.len()..].split_at(DIGEST_BYTES);
+    if of_content != digest(content) {
+        let reason = format!("{path} is damaged: its digest doesn't fit the state in it");
+        return Err(Failure::new(&reason, &start_down(path)));
+    }
+    if of_store != digest(store.bytes()) {
+        let reason = format!("{store_name} isn't the store that was left with {path}, or it was changed since");
+        return Err(Failure::new(&reason, &format!("name the two files that go together, or {}", start_down(path))));
+    }
+    let (state, work) = content.split_at(STATE_BYTES);
     match (State::of(state), Work::of(work)) {
         (Ok(state), Ok(work)) => Ok(Kept { state, work }),
-        _ => {
-            let due = STATE_BYTES + WORK_BYTES;
-            let reason = format!("{path} is no state file: it has {} bytes, and a state file has {due}", bytes.len());
-            Err(Failure::new(&reason, "name the file that an earlier play left, or a new one to start down"))
-        }
+        _ => Err(no_state_file(path, "its parts have other lengths")),
     }
 }
 
+fn no_state_file(path: &str, why: &str) -> Failure {
+    let mend = "name the file that an earlier play left, or a new one to start down";
+    Failure::new(&format!("{path} is no state file: {why}"), mend)
+}
+
 /// The message for a state that is refused.
-pub fn unsound(path: &str, store: &str) -> Failure {
-    let reason =
-        format!("the state in {path} is refused (25): it isn't sound, or {store} isn't the store left with it");
-    let mend = format!("name the right files, or give up what was live and remove {path}; no file was changed");
-    Failure::new(&reason, &mend)
+pub fn unsound(path: &str) -> Failure {
+    Failure::new(&format!("the state in {path} is refused (25): it isn't sound"), &start_down(path))
+}
+
+fn start_down(path: &str) -> String {
+    format!("give up what was live: remove {path} and begin with a recover; no file was changed")
+}
+
+/// A number that tells contents apart that differ by accident: FNV-1a, 64 bits, the least byte first.
+fn digest(bytes: &[u8]) -> [u8; DIGEST_BYTES] {
+    let step = |digest: u64, byte: &u8| (digest ^ u64::from(*byte)).wrapping_mul(0x0000_0100_0000_01B3);
+    bytes.iter().fold(0xCBF2_9CE4_8422_2325, step).to_le_bytes()
 }
 
 impl Kept {
-    /// Its bytes in a file.
-    pub fn bytes(&self) -> Vec<u8> {
-        [&self.state.bytes()[..], &self.work.bytes()[..]].concat()
+    /// Its bytes in a file that goes with this store.
+    pub fn bytes(&self, store: &Store) -> Vec<u8> {
+        let content = [&self.state.bytes()[..], &self.work.bytes()[..]].concat();
+        [&HEADING[..], &digest(store.bytes())[..], &digest(&content)[..], &content[..]].concat()
     }
 
     /// The live transactions, parents before children.

@@ -6,6 +6,7 @@ mod locks;
 mod svg;
 
 use crate::follow::Follower;
+use crate::number_of;
 use layout::{Layout, Scale};
 use nekahuiro::limits::EVENT_BYTES;
 use nekahuiro::{Answer, Event};
@@ -74,7 +75,9 @@ fn title(told: &Told) -> String {
     let open = (0..told.history.transactions.len()).filter(|t| told.is_open(*t)).count();
     let lost = told.history.transactions.len() - survive - open;
     let open = if open == 0 { String::new() } else { format!(", {open} undecided") };
-    format!("{} events, {survive} transactions survive, {lost} lost{open}", told.answers.len())
+    let events = number_of(told.answers.len(), "event");
+    let verb = if survive == 1 { "survives" } else { "survive" };
+    format!("{events}, {} {verb}, {lost} lost{open}", number_of(survive, "transaction"))
 }
 
 /// Event numbers, the numbers of refusals, and a band that is green while the store is up.
