@@ -46,7 +46,7 @@ extern "C" {
 /* An answer. */
 #define NEKAHUIRO_ANSWER_BYTES 2
 /* A lent state, see nekahuiro_state. */
-#define NEKAHUIRO_STATE_BYTES 340
+#define NEKAHUIRO_STATE_BYTES 468
 /* More stack than any call uses. */
 #define NEKAHUIRO_STACK_BYTES 16384
 
@@ -71,7 +71,7 @@ extern "C" {
  *
  *   kind  event           fields used; all others must be 0
  *    1    begin           transaction: the parent, 31 for none
- *    2    lock            transaction, record
+ *    2    lock            transaction, record, value: the mode, 0 to write or 1 to read
  *    3    write one byte  transaction, record, offset, value
  *    4    read one byte   transaction, record, offset
  *    5    commit          transaction, count
@@ -82,6 +82,13 @@ extern "C" {
  * The count says when the power goes: a commit or recover makes that many page writes and is then cut
  * by a crash. A count of at least the writes due, such as 63, means no cut. A top transaction that
  * changed n records makes 2n + 2 page writes, or none if n is 0, and survives a cut after n + 1.
+ *
+ * A lock in write mode lets its holder read and write, one in read mode only read, beside other
+ * readers. Read mode is granted if no other holds in write mode and every write-mode retainer is the
+ * asker or its ancestor; write mode if no other holds in any mode and every retainer is the asker or
+ * its ancestor. A held read lock is raised by asking for write mode; asking for less than is held
+ * changes nothing. When a child commits, its parent retains each lock that the child held or retained,
+ * in the strongest of these modes and its own.
  */
 #define NEKAHUIRO_BEGIN 1
 #define NEKAHUIRO_LOCK 2
@@ -93,21 +100,23 @@ extern "C" {
 #define NEKAHUIRO_RECOVER 8
 #define NEKAHUIRO_NO_PARENT 31
 #define NEKAHUIRO_NO_CUT 63
+#define NEKAHUIRO_WRITE_MODE 0
+#define NEKAHUIRO_READ_MODE 1
 
 /* The answer to an event: a number, then a value. The value is the new transaction's number for
  * begin, the byte for read, the page writes made for commit and recover (also when cut), else 0.
  * A refused event (1 to 10) changes nothing but its answer. The first reason that holds is given.
  */
 #define NEKAHUIRO_DONE 0           /* done */
-#define NEKAHUIRO_BAD_EVENT 1      /* kind 0 or 9 to 15, or an unused field isn't 0 */
+#define NEKAHUIRO_BAD_EVENT 1      /* kind 0 or 9 to 15, an unused field isn't 0, or no such mode */
 #define NEKAHUIRO_DOWN 2           /* down, and the event is neither recover nor crash */
 #define NEKAHUIRO_UP 3             /* recover while up */
 #define NEKAHUIRO_DAMAGED 4        /* recover or age, and page 0 is damaged */
 #define NEKAHUIRO_NOT_LIVE 5       /* the named transaction isn't live */
 #define NEKAHUIRO_TOO_DEEP 6       /* begin under a parent at the depth limit */
 #define NEKAHUIRO_TOO_MANY 7       /* begin with every transaction number taken */
-#define NEKAHUIRO_NOT_GRANTABLE 8  /* another holds the lock, or one that is no ancestor retains it */
-#define NEKAHUIRO_NOT_HELD 9       /* read or write without holding the lock */
+#define NEKAHUIRO_NOT_GRANTABLE 8  /* the lock can't be granted in this mode, see above */
+#define NEKAHUIRO_NOT_HELD 9       /* read without holding the lock, or write without holding it to write */
 #define NEKAHUIRO_LIVE_CHILD 10    /* commit with a live child */
 #define NEKAHUIRO_CUT 11           /* no refusal: cut by a crash during commit or recover */
 
@@ -146,19 +155,22 @@ uint8_t nekahuiro_run(uint8_t *store, size_t store_size,
  * A state is sound if, for every live transaction t (its depth isn't 0): its parent is live and its
  * depth one more than the parent's, or its parent is NEKAHUIRO_NO_PARENT and its depth 1; the depth is
  * at most NEKAHUIRO_DEPTH_LIMIT; its line is right. For every record: only live transactions hold,
- * retain or have versions; at most one holds; of two retainers one is an ancestor of the other; the
- * holder is each retainer or beneath it; who has a version holds or retains. While down nothing is
- * live; while up page 0 is empty. Entries of free numbers and the spare bytes are 0.
+ * retain or have versions; who holds or retains in write mode also does in any mode; of a retainer and
+ * a write-mode retainer one is the other or its ancestor; each holder is each write-mode retainer or
+ * beneath it; a write-mode holder is the only holder, and is each retainer or beneath it; who has a
+ * version holds or retains in write mode. While down nothing is live; while up page 0 is empty.
+ * Entries of free numbers and the spare bytes are 0.
  */
 typedef struct nekahuiro_state {
-    uint32_t line[NEKAHUIRO_TRANSACTIONS];  /* of each transaction: itself and its ancestors */
-    uint32_t held[NEKAHUIRO_RECORDS];       /* of each record: who holds its lock */
-    uint32_t retained[NEKAHUIRO_RECORDS];   /* of each record: who retains its lock */
-    uint32_t writers[NEKAHUIRO_RECORDS];    /* of each record: who has a version of it */
-    uint8_t parent[NEKAHUIRO_TRANSACTIONS]; /* NEKAHUIRO_NO_PARENT for a top transaction */
-    uint8_t depth[NEKAHUIRO_TRANSACTIONS];  /* 1 for a top transaction, 0 for a free number */
-    uint8_t up;                             /* 1 while up, 0 while down */
-    uint8_t spare[3];                       /* 0 */
+    uint32_t line[NEKAHUIRO_TRANSACTIONS];    /* of each transaction: itself and its ancestors */
+    uint32_t held[2 * NEKAHUIRO_RECORDS];     /* who holds the lock of record r: place 2r in any mode, */
+                                              /* place 2r + 1 in write mode */
+    uint32_t retained[2 * NEKAHUIRO_RECORDS]; /* who retains it, in the same places */
+    uint32_t writers[NEKAHUIRO_RECORDS];      /* of each record: who has a version of it */
+    uint8_t parent[NEKAHUIRO_TRANSACTIONS];   /* NEKAHUIRO_NO_PARENT for a top transaction */
+    uint8_t depth[NEKAHUIRO_TRANSACTIONS];    /* 1 for a top transaction, 0 for a free number */
+    uint8_t up;                               /* 1 while up, 0 while down */
+    uint8_t spare[3];                         /* 0 */
 } nekahuiro_state;
 
 /* Plays a portion of events: one event, a few or a whole list, on a state that is lent and changed in

@@ -54,6 +54,9 @@ ok "age above the limit" "^stale 6$" "$run" age store 2 6 5
 ok "words to a word" "^309880A5$" "$run" encode write 1 3 2 A5
 ok "a word to words" "^write 1 3 2 A5$" "$run" encode 309880A5
 ok "a bad word to words" "bad, answered 1" "$run" encode 70000001
+ok "a lock to read, to a word" "^20980001$" "$run" encode read-lock 1 3
+ok "a word to a lock to read" "^read-lock 1 3$" "$run" encode 20980001
+ok "a mode that there isn't" "bad, answered 1: lock in mode 2" "$run" encode 20980002
 ok "raw bytes to words" "^lock 0 3$" bash -c "'$run' encode --raw <words.txt | '$run' encode"
 bash -c "'$run' encode --raw <words.txt >raw.bin"
 ok "play raw bytes" "^40188000 00A5$" "$run" play store raw.bin
@@ -71,6 +74,14 @@ ok "another store" "a fresh store" "$run" fresh other
 ok "trace of a crash" "transaction 0 survives: the commit page was written" "$run" play other hex.txt --trace --dry
 ok "picture" "11 events" "$run" play other hex.txt --picture run.svg
 holds "the picture is SVG" grep -q '</svg>' run.svg
+text 'recover 63\nbegin none\nbegin none\nread-lock 0 3\nread-lock 1 3\n' readers.txt
+text 'write 1 3 0 01\nlock 1 3\ncommit 0 63\nlock 1 3\n' raised.txt
+ok "trace of readers" "record 3 held to read by 0, 1$" bash -c "cat readers.txt raised.txt | '$run' play other - --trace --dry"
+holds "a reader can't write" grep -q "write 1 3 0 01: refused 9: .* only to read" out
+holds "a reader waits to write" grep -q "lock 1 3: refused 8" out
+holds "a reader that writes" grep -q "record 3 held by 1$" out
+ok "picture of readers" ">0r 1r<" \
+    bash -c "cat readers.txt raised.txt | '$run' play other - --picture readers.svg --dry && cat readers.svg"
 cp store before
 ok "a dry run" "a dry run: the store is left as it was" "$run" play store hex.txt --dry
 same "a dry run leaves the store" store before
@@ -78,7 +89,7 @@ same "a dry run leaves the store" store before
 # Portions and state files: as one run over the joined lists.
 number() { awk -v name="NEKAHUIRO_$1" '$2 == name { print $3 }' "$root/include/nekahuiro.h"; }
 state_bytes=$(number STATE_BYTES)
-head_bytes=32 # of a state file: a line, then two digests
+head_bytes=34 # of a state file: a line, then two digests
 kept_bytes=$((head_bytes + state_bytes + $(number WORK_BYTES)))
 digest() { # FILE: 8 raw bytes, FNV-1a with the least byte first
     local value=$((0xCBF29CE484222325)) number
@@ -86,7 +97,7 @@ digest() { # FILE: 8 raw bytes, FNV-1a with the least byte first
     for number in 0 8 16 24 32 40 48 56; do printf "\\x$(printf %02x $((value >> number & 255)))"; done
 }
 state_file() { # STORE CONTENT FILE: what a state file of this store and content should be
-    { echo "nekahuiro state"; digest "$1"; digest "$2"; cat "$2"; } >"$3"
+    { echo "nekahuiro state 2"; digest "$1"; digest "$2"; cat "$2"; } >"$3"
 }
 "$run" fresh whole >out && "$run" fresh cut >out && cp cut cut.first
 ok "the whole list" "11 events: 10 done, 0 refused, 1 cut" "$run" play whole hex.txt --answers whole.bin
@@ -107,6 +118,10 @@ ok "a trace from a state" "before: the store is up, live: 0; record 3 retained b
     "$run" play cut rest.txt --state kept --dry --trace
 ok "a picture from a state" "transaction 0, begun before, its commit was cut at event 5: survives" \
     bash -c "'$run' play cut rest.txt --state kept --dry --picture late.svg && cat late.svg"
+ok "readers are kept" "kept.readers: up, live: 0, 1" \
+    bash -c "cp cut.first read && '$run' play read readers.txt --state kept.readers"
+ok "a trace from readers" "live: 0, 1; record 3 held to read by 0, 1" \
+    "$run" play read raised.txt --state kept.readers --dry --trace
 ok "the second part" "2 transactions: 1 survives, 1 lost$" "$run" play cut rest.txt --state kept --answers two.bin
 ok "one event at a time" "kept.one: up, live: 0" bash -c "cp cut.first one && head -4 hex.txt | '$run' play one - --state kept.one --portions 1"
 same "one event at a time: the state" kept.one kept.first
@@ -127,6 +142,10 @@ fails "a state of a store before" 1 "cut isn't the store that was left with kept
 fails "a state of another store" 1 "store isn't the store that was left with kept.first" "$run" play store rest.txt --state kept.first
 head -c "$kept_bytes" /dev/zero >zeros
 fails "zeros for a state file" 1 "zeros is no state file: it doesn't begin" "$run" play cut words.txt --state zeros
+{ echo "nekahuiro state"; head -c 8548 /dev/zero; } >old.kept; head -c 8532 /dev/zero >oldest.kept
+for old in old oldest; do
+    fails "an $old state file" 1 "$old.kept is a state file of another version" "$run" play cut words.txt --state $old.kept
+done
 head -c $((kept_bytes - 1)) kept >short.kept
 fails "a short state file" 1 "no state file: it has $((kept_bytes - 1)) bytes, and a state file has $kept_bytes" \
     "$run" play cut words.txt --state short.kept

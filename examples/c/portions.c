@@ -47,7 +47,8 @@ static void one_by_one(void)
     check("begin a top transaction", play(0x1F800000, &value), NEKAHUIRO_DONE);
     check("  its number", value, 0);
     check("lock record 3", play(0x20180000, &value), NEKAHUIRO_DONE);
-    check("  the state says that 0 holds it", (long)state.held[3], 1);
+    check("  the state says that 0 holds it", (long)state.held[2 * 3], 1);
+    check("  and in write mode", (long)state.held[2 * 3 + 1], 1);
     check("write A5", play(0x301880A5, &value), NEKAHUIRO_DONE);
     check("  the home page is as before", store[(17 + 3) * NEKAHUIRO_PAGE_BYTES + 2], 0);
     check("  the version is in the working buffer", work[3 * NEKAHUIRO_DEPTH_LIMIT * NEKAHUIRO_PAGE_BYTES + 2], 0xA5);
@@ -57,6 +58,26 @@ static void one_by_one(void)
     check("  page writes made", value, 4);
     check("  the home page has it", store[(17 + 3) * NEKAHUIRO_PAGE_BYTES + 2], 0xA5);
     check("  number 0 is free again", state.depth[0], 0);
+}
+
+static void readers(void)
+{
+    uint8_t value = 0;
+
+    check("begin two top transactions", play(0x1F800000, &value), NEKAHUIRO_DONE);
+    check("  the second", play(0x1F800000, &value), NEKAHUIRO_DONE);
+    check("0 locks record 3 to read", play(0x20180001, &value), NEKAHUIRO_DONE);
+    check("1 does too", play(0x20980001, &value), NEKAHUIRO_DONE);
+    check("  the state says that both hold it", (long)state.held[2 * 3], 3);
+    check("  and neither in write mode", (long)state.held[2 * 3 + 1], 0);
+    check("1 reads", play(0x40988000, &value), NEKAHUIRO_DONE);
+    check("  the byte", value, 0xA5);
+    check("1 can't write", play(0x309880FF, &value), NEKAHUIRO_NOT_HELD);
+    check("nor raise its lock while 0 reads", play(0x20980000, &value), NEKAHUIRO_NOT_GRANTABLE);
+    check("0 commits", play(0x50003F00, &value), NEKAHUIRO_DONE);
+    check("now 1 raises its lock", play(0x20980000, &value), NEKAHUIRO_DONE);
+    check("there is no mode 2", play(0x20980002, &value), NEKAHUIRO_BAD_EVENT);
+    check("1 commits", play(0x50803F00, &value), NEKAHUIRO_DONE);
 }
 
 static void refused(void)
@@ -78,6 +99,7 @@ int main(void)
 {
     check("fresh store", nekahuiro_fresh(store, sizeof store), NEKAHUIRO_DONE);
     one_by_one();
+    readers();
     refused();
     if (failures) {
         printf("%d results are wrong\n", failures);

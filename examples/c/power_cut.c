@@ -39,7 +39,7 @@ static uint8_t stamp_record(uint32_t count, uint8_t answers[14])
     event(list[0], NEKAHUIRO_RECOVER, 0, 0, 0, NEKAHUIRO_NO_CUT, 0);
     event(list[1], NEKAHUIRO_BEGIN, NEKAHUIRO_NO_PARENT, 0, 0, 0, 0); /* transaction 0 */
     event(list[2], NEKAHUIRO_BEGIN, 0, 0, 0, 0, 0);                   /* transaction 1, its child */
-    event(list[3], NEKAHUIRO_LOCK, 1, 3, 0, 0, 0);
+    event(list[3], NEKAHUIRO_LOCK, 1, 3, 0, 0, NEKAHUIRO_WRITE_MODE);
     event(list[4], NEKAHUIRO_WRITE, 1, 3, 3, 0, 7);
     event(list[5], NEKAHUIRO_COMMIT, 1, 0, 0, NEKAHUIRO_NO_CUT, 0);
     event(list[6], NEKAHUIRO_COMMIT, 0, 0, 0, count, 0);
@@ -72,7 +72,7 @@ static void recovered(void)
 
     event(list[0], NEKAHUIRO_RECOVER, 0, 0, 0, NEKAHUIRO_NO_CUT, 0);
     event(list[1], NEKAHUIRO_BEGIN, NEKAHUIRO_NO_PARENT, 0, 0, 0, 0);
-    event(list[2], NEKAHUIRO_LOCK, 0, 3, 0, 0, 0);
+    event(list[2], NEKAHUIRO_LOCK, 0, 3, 0, 0, NEKAHUIRO_READ_MODE);
     event(list[3], NEKAHUIRO_READ, 0, 3, 3, 0, 0);
     check("run: recover, then read the record",
           nekahuiro_run(store, sizeof store, list[0], sizeof list, work, sizeof work, answers, sizeof answers),

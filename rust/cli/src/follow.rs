@@ -2,7 +2,7 @@
 
 use nekahuiro::limits::RECORDS;
 use nekahuiro::{Answer, Event, Record, State, Transaction};
-use std::collections::{BTreeMap, BTreeSet};
+use std::collections::BTreeMap;
 
 /// What is known after some events.
 #[derive(Clone, Default)]
@@ -15,13 +15,25 @@ pub struct Follower {
     pub locks: [Lock; RECORDS],
 }
 
+/// In which mode a lock is held or retained: write mode is the stronger.
+#[derive(Clone, Copy, PartialEq, Eq, PartialOrd, Ord)]
+pub enum Mode {
+    /// Only to read.
+    Read,
+    /// To read and to write.
+    Write,
+}
+
+/// Transactions and the mode in which each of them holds or retains a lock.
+pub type Bearers = BTreeMap<u8, Mode>;
+
 /// Who has to do with a record's lock.
-#[derive(Clone, Default, PartialEq, Eq)]
+#[derive(Clone, Default)]
 pub struct Lock {
     /// Who holds it.
-    pub holder: Option<u8>,
+    pub holders: Bearers,
     /// Who retains it.
-    pub retainers: BTreeSet<u8>,
+    pub retainers: Bearers,
 }
 
 impl Follower {
@@ -30,8 +42,13 @@ impl Follower {
         let mut follower = Follower { up: state.is_up(), ..Follower::default() };
         follower.live = state.live().map(|t| (t.number(), state.parent(t).map(Transaction::number))).collect();
         for (lock, record) in follower.locks.iter_mut().zip(Record::all()) {
-            lock.holder = state.holders(record).map(Transaction::number).next();
-            lock.retainers = state.retainers(record).map(Transaction::number).collect();
+            for (bearers, any, write) in [
+                (&mut lock.holders, numbers(state.holders(record)), numbers(state.write_holders(record))),
+                (&mut lock.retainers, numbers(state.retainers(record)), numbers(state.write_retainers(record))),
+            ] {
+                any.into_iter().for_each(|t| strengthen(bearers, t, Mode::Read));
+                write.into_iter().for_each(|t| strengthen(bearers, t, Mode::Write));
+            }
         }
         follower
     }
@@ -46,9 +63,8 @@ impl Follower {
                 let parent = (parent != Transaction::NONE).then(|| parent.number());
                 self.live.insert(answer.value, parent);
             }
-            Event::Lock { transaction, record } => {
-                self.locks[usize::from(record.number())].holder = Some(transaction.number());
-            }
+            Event::Lock { transaction, record } => self.lock(transaction, record, Mode::Write),
+            Event::ReadLock { transaction, record } => self.lock(transaction, record, Mode::Read),
             Event::Commit { transaction, .. } => self.commit(transaction.number()),
             Event::Abort { transaction } => self.abort(transaction.number()),
             Event::Crash => *self = Follower::default(),
@@ -60,11 +76,15 @@ impl Follower {
         }
     }
 
+    fn lock(&mut self, transaction: Transaction, record: Record, mode: Mode) {
+        strengthen(&mut self.locks[usize::from(record.number())].holders, transaction.number(), mode);
+    }
+
     fn commit(&mut self, transaction: u8) {
         let parent = self.live.remove(&transaction).flatten();
         for lock in &mut self.locks {
-            if lock.discard(transaction) {
-                lock.retainers.extend(parent);
+            if let (Some(mode), Some(parent)) = (lock.discard(transaction), parent) {
+                strengthen(&mut lock.retainers, parent, mode);
             }
         }
     }
@@ -83,7 +103,8 @@ impl Follower {
         std::iter::successors(Some(transaction), |t| self.live.get(t).copied().flatten())
     }
 
-    /// The locks in words, as `record 3 held by 1, retained by 0; ..`.
+    /// The locks in words, as `record 3 held by 1, retained to read by 0; ..`. What isn't said to be to
+    /// read is to write.
     pub fn locks_in_words(&self) -> String {
         let told = self.locks.iter().enumerate().filter_map(|(record, lock)| lock.in_words(record));
         let told: Vec<String> = told.collect();
@@ -95,25 +116,36 @@ impl Follower {
     }
 }
 
+fn numbers(transactions: impl Iterator<Item = Transaction>) -> Vec<u8> {
+    transactions.map(Transaction::number).collect()
+}
+
+/// A transaction has this mode from now on, or a stronger one that it has already.
+fn strengthen(bearers: &mut Bearers, transaction: u8, mode: Mode) {
+    let had = bearers.entry(transaction).or_insert(mode);
+    *had = mode.max(*had);
+}
+
+/// Who holds or retains, as `held by 1, held to read by 0, 2`; empty for nobody.
+pub fn bearers_in_words(done: &str, bearers: &Bearers) -> String {
+    let of = |wanted: Mode, how: &str| {
+        let who = bearers.iter().filter(|(_, mode)| **mode == wanted).map(|(t, _)| t.to_string());
+        let who: Vec<String> = who.collect();
+        (!who.is_empty()).then(|| format!("{done} {how}by {}", who.join(", ")))
+    };
+    let told: Vec<String> = [of(Mode::Write, ""), of(Mode::Read, "to read ")].into_iter().flatten().collect();
+    told.join(", ")
+}
+
 impl Lock {
-    /// Takes a transaction out; tells whether it held or retained the lock.
-    fn discard(&mut self, transaction: u8) -> bool {
-        let held = self.holder == Some(transaction);
-        if held {
-            self.holder = None;
-        }
-        self.retainers.remove(&transaction) || held
+    /// Takes a transaction out; the mode in which it held or retained the lock, the stronger of the two.
+    fn discard(&mut self, transaction: u8) -> Option<Mode> {
+        self.holders.remove(&transaction).max(self.retainers.remove(&transaction))
     }
 
     fn in_words(&self, record: usize) -> Option<String> {
-        let retainers: Vec<String> = self.retainers.iter().map(u8::to_string).collect();
-        match (self.holder, retainers.is_empty()) {
-            (None, true) => None,
-            (Some(holder), true) => Some(format!("record {record} held by {holder}")),
-            (None, false) => Some(format!("record {record} retained by {}", retainers.join(", "))),
-            (Some(holder), false) => {
-                Some(format!("record {record} held by {holder}, retained by {}", retainers.join(", ")))
-            }
-        }
+        let told = [bearers_in_words("held", &self.holders), bearers_in_words("retained", &self.retainers)];
+        let told: Vec<&str> = told.iter().map(String::as_str).filter(|words| !words.is_empty()).collect();
+        (!told.is_empty()).then(|| format!("record {record} {}", told.join(", ")))
     }
 }

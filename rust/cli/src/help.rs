@@ -10,7 +10,8 @@ nekahuiro: a record store with nested transactions, proved
   ./nekahuiro fresh STORE [--force]       make a store file; --force replaces one that is there
   ./nekahuiro play STORE EVENTS           play a list of events on a store
       --answers FILE                        write the answers there, two bytes each
-      --trace                               tell each event: who holds, who retains, what crashed
+      --trace                               tell each event: who holds, who retains, what crashed;
+                                            a lock is to write unless it is said to be to read
       --picture FILE.svg                    draw the run as a timeline
       --portions N                          play N events at a time; the list may then have any length
       --state FILE                          go on from the state in FILE, and leave the new state there;
@@ -29,7 +30,8 @@ EVENTS is a file, or - for standard input. It is UTF-8 text with event words in 
 one to a line; # starts a comment. What has a byte 0 in it is taken as raw event words of 4 bytes.
 
   begin none | begin PARENT               numbers are given in the answers, from 0
-  lock TRANSACTION RECORD
+  lock TRANSACTION RECORD                 to read and to write, alone
+  read-lock TRANSACTION RECORD            only to read, beside other readers
   write TRANSACTION RECORD OFFSET VALUE   VALUE is in hex, all else decimal
   read TRANSACTION RECORD OFFSET
   commit TRANSACTION COUNT                the power goes after COUNT page writes; 63: it doesn't
@@ -47,10 +49,11 @@ The store file is replaced only when all has gone well, in one step. The exit st
 1 means that something failed, 2 that the command was called wrongly. A refused event is an answer and
 no failure.
 
-A state file has what is live between two portions: a line that says what it is, a digest of the store
-left with it and one of what follows, the state, the working buffer. It goes with that store: if another
-is named, or the store was changed since, nothing is played. If the power goes while the two are
-replaced, the state file is gone: what was live is lost, and the next list starts down.
+A state file has what is live between two portions: a line that says what it is and of which version,
+a digest of the store left with it and one of what follows, the lent state, the working buffer. It goes
+with that store: if another is named, or the store was changed since, nothing is played. If the power
+goes while the two are replaced, the state file is gone: what was live is lost, and the next list starts
+down.
 ";
 
 /// Prints the help.

@@ -8,8 +8,12 @@ use nekahuiro::{Record, State, Store, Transaction, Work};
 use nekahuiro_history::Earlier;
 use std::io::ErrorKind;
 
-/// What a state file begins with.
-const HEADING: &[u8; 16] = b"nekahuiro state\n";
+/// What a state file begins with. The number tells versions apart whose states mean something else.
+const HEADING: &[u8; 18] = b"nekahuiro state 2\n";
+/// What the state files of other versions begin with ..
+const NAME: &[u8; 15] = b"nekahuiro state";
+/// .. but for the first, which had no heading.
+const FIRST_BYTES: usize = 340 + WORK_BYTES;
 const DIGEST_BYTES: usize = 8;
 const HEADER_BYTES: usize = HEADING.len() + 2 * DIGEST_BYTES;
 const FILE_BYTES: usize = HEADER_BYTES + STATE_BYTES + WORK_BYTES;
@@ -29,11 +33,16 @@ pub fn read(path: &str, store_name: &str, store: &Store) -> Outcome<Kept> {
         Err(error) if error.kind() == ErrorKind::NotFound => return Ok(Kept::default()),
         found => found.map_err(|error| cant_read(path, &error, "check the name"))?,
     };
+    let headed = bytes.starts_with(NAME);
+    if headed && !bytes.starts_with(HEADING) || !headed && bytes.len() == FIRST_BYTES {
+        let mend = format!("play on with the version that left it, or {}", start_down(path));
+        return Err(Failure::new(&format!("{path} is a state file of another version of nekahuiro"), &mend));
+    }
     if bytes.len() != FILE_BYTES {
         let found = length_in_words(path, bytes.len(), FILE_BYTES);
         return Err(no_state_file(path, &format!("it has {found}, and a state file has {FILE_BYTES}")));
     }
-    if !bytes.starts_with(HEADING) {
+    if !headed {
         return Err(no_state_file(path, "it doesn't begin with `nekahuiro state`"));
     }
     let (header, content) = bytes.split_at(HEADER_BYTES);

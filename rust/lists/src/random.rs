@@ -1,7 +1,7 @@
-//! Random lists that are mostly accepted: deep nesting, contention, reuse of numbers, cuts at every
-//! count, crashes in recovery, bad events.
+//! Random lists that are mostly accepted: deep nesting, contention, locks to read and to write, reuse of
+//! numbers, cuts at every count, crashes in recovery, bad events.
 
-use crate::sketch::Sketch;
+use crate::sketch::{Pair, Sketch};
 use crate::Rng;
 use nekahuiro::limits::{COUNT_LIMIT, EVENT_BYTES, PAGE_BYTES, RECORDS, TRANSACTIONS, TRANSACTION_NAMES};
 use nekahuiro::{Event, Fields, Transaction};
@@ -17,6 +17,8 @@ pub struct Taste {
     pub offsets: usize,
     /// Begins that have a parent.
     pub nested: usize,
+    /// Locks asked for only to read.
+    pub reading: usize,
     /// Live transactions before it is time to commit.
     pub crowd: usize,
     /// Nested begins under the deepest transaction: deep rather than wide.
@@ -51,6 +53,7 @@ impl Taste {
             records: rng.one_of([1, 2, 3, 5, RECORDS]),
             offsets: rng.one_of([1, 2, PAGE_BYTES]),
             nested: rng.one_of([20, 60, 90, 98]),
+            reading: rng.one_of([0, 20, 50, 80]),
             crowd: rng.one_of([1, 2, 3, 5, 9, TRANSACTIONS]),
             deep: rng.one_of([10, 60, 95]),
             cuts: rng.one_of([0, 10, 40, 80]),
@@ -155,12 +158,18 @@ impl Maker<'_> {
         let anyone = self.rng.pick(&live).copied().unwrap_or(0);
         match kind {
             2 => {
-                let (transaction, record) = self.wanted(anyone);
-                Fields { transaction, record, ..fields }
+                let ((transaction, record), to_write) = self.wanted(anyone);
+                Fields { transaction, record, value: u8::from(!to_write), ..fields }
             }
             3 | 4 => {
-                // Now and then by one that could hold the lock but doesn't.
-                let able = if self.rng.percent(4) { self.sketch.retained() } else { self.sketch.held() };
+                // Now and then by one that could hold the lock, that may only read, or that asked in vain.
+                let able = match self.rng.below(100) {
+                    0..=3 => self.sketch.retained(),
+                    4..=5 => self.sketch.readers(),
+                    6..=9 => self.sketch.denied(),
+                    _ if kind == 3 => self.sketch.writers(),
+                    _ => self.sketch.held(),
+                };
                 let Some((transaction, record)) = self.rng.pick(&able).copied() else {
                     return self.of_kind(2);
                 };
@@ -178,11 +187,19 @@ impl Maker<'_> {
         }
     }
 
-    /// Who asks for which lock: half the time for one that its own line retains.
-    fn wanted(&mut self, anyone: u8) -> (u8, u8) {
-        let retained = if self.rng.percent(50) { self.sketch.retained() } else { Vec::new() };
-        let stranger = (anyone, self.rng.below(self.taste.records) as u8);
-        self.rng.pick(&retained).copied().unwrap_or(stranger)
+    /// Who asks for which lock, and whether to write: mostly for one that its own line retains or for any;
+    /// now and then a reader would write, a writer asks for less, a stranger for what is retained.
+    fn wanted(&mut self, anyone: u8) -> (Pair, bool) {
+        let to_write = !self.rng.percent(self.taste.reading);
+        let (wanted, to_write) = match self.rng.below(100) {
+            0..=44 => (self.sketch.retained(), to_write),
+            45..=54 => (self.sketch.readers(), true),
+            55..=58 => (self.sketch.writers(), false),
+            59..=64 => (self.sketch.strangers(), to_write),
+            _ => (Vec::new(), to_write),
+        };
+        let any = (anyone, self.rng.below(self.taste.records) as u8);
+        (self.rng.pick(&wanted).copied().unwrap_or(any), to_write)
     }
 
     fn parent(&mut self) -> u8 {
@@ -207,14 +224,14 @@ impl Maker<'_> {
     }
 
     fn follow(&mut self, fields: Fields) {
-        let Fields { kind, transaction, record, count, .. } = fields;
+        let Fields { kind, transaction, record, count, value, .. } = fields;
         let count = u32::from(count);
         match kind {
             8 => self.sketch.recover(count),
             7 => self.sketch.crash(),
             _ if !self.sketch.up => {}
             1 => self.sketch.begin((transaction != Transaction::NONE.number()).then_some(transaction)),
-            2 => self.sketch.lock(transaction, record),
+            2 => self.sketch.lock(transaction, record, value == 0),
             3 => self.sketch.write(transaction, record),
             5 => self.sketch.commit(transaction, count),
             6 => self.sketch.abort(transaction),

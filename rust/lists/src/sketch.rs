@@ -10,6 +10,15 @@ struct Live {
     wrote: u16,
 }
 
+/// Who has to do with a lock: one bit for each transaction.
+#[derive(Clone, Copy, Default)]
+struct Lock {
+    readers: u32,
+    writer: Option<u8>,
+    read_retainers: u32,
+    write_retainers: u32,
+}
+
 /// The guessed state.
 #[derive(Default)]
 pub struct Sketch {
@@ -18,8 +27,15 @@ pub struct Sketch {
     /// Records named by page 0.
     pub committed: u32,
     live: [Option<Live>; TRANSACTIONS],
-    holder: [Option<u8>; RECORDS],
-    retainer: [Option<u8>; RECORDS],
+    locks: [Lock; RECORDS],
+    denied: Option<Pair>,
+}
+
+/// A transaction and a record.
+pub type Pair = (u8, u8);
+
+const fn bit(transaction: u8) -> u32 {
+    1 << transaction
 }
 
 impl Sketch {
@@ -45,20 +61,57 @@ impl Sketch {
         self.at(transaction).map_or(0, |live| live.depth)
     }
 
-    /// Holder and record of each lock held.
-    pub fn held(&self) -> Vec<(u8, u8)> {
-        (0..).zip(&self.holder).filter_map(|(record, holder)| holder.map(|t| (t, record))).collect()
+    /// Who holds which lock in write mode.
+    pub fn writers(&self) -> Vec<Pair> {
+        self.pairs(|lock| lock.writer.map_or(0, bit))
     }
 
-    /// A retained lock that nobody holds, with each transaction that could hold it again.
-    pub fn retained(&self) -> Vec<(u8, u8)> {
+    /// Who holds which lock in read mode.
+    pub fn readers(&self) -> Vec<Pair> {
+        self.pairs(|lock| lock.readers)
+    }
+
+    /// Who holds which lock.
+    pub fn held(&self) -> Vec<Pair> {
+        self.pairs(|lock| lock.readers | lock.writer.map_or(0, bit))
+    }
+
+    fn pairs(&self, who: impl Fn(&Lock) -> u32) -> Vec<Pair> {
         let mut pairs = Vec::new();
-        for (record, retainer) in (0..).zip(&self.retainer) {
-            if let (Some(retainer), None) = (*retainer, self.holder[usize::from(record)]) {
-                pairs.extend(self.live().into_iter().filter(|t| self.is_on_line(retainer, *t)).map(|t| (t, record)));
+        for (record, lock) in (0..).zip(&self.locks) {
+            let mut rest = who(lock);
+            while rest != 0 {
+                pairs.push((rest.trailing_zeros() as u8, record));
+                rest &= rest - 1;
             }
         }
         pairs
+    }
+
+    /// A retained lock that nobody holds, with each transaction that could hold it again.
+    pub fn retained(&self) -> Vec<Pair> {
+        self.beside_retainers(|retainers, line| retainers & !line == 0)
+    }
+
+    /// A retained lock that nobody holds, with each transaction that some retainer isn't an ancestor of.
+    pub fn strangers(&self) -> Vec<Pair> {
+        self.beside_retainers(|retainers, line| retainers & !line != 0)
+    }
+
+    fn beside_retainers(&self, wanted: impl Fn(u32, u32) -> bool) -> Vec<Pair> {
+        let mut pairs = Vec::new();
+        for (record, lock) in (0..).zip(&self.locks) {
+            let retainers = lock.read_retainers | lock.write_retainers;
+            if retainers != 0 && lock.writer.is_none() && lock.readers == 0 {
+                pairs.extend(self.live().into_iter().filter(|t| wanted(retainers, self.line(*t))).map(|t| (t, record)));
+            }
+        }
+        pairs
+    }
+
+    /// Who asked last for a lock in vain, if it is still live.
+    pub fn denied(&self) -> Vec<Pair> {
+        self.denied.into_iter().filter(|(t, _)| self.at(*t).is_some()).collect()
     }
 
     /// Page writes that the commit of a transaction makes.
@@ -73,8 +126,9 @@ impl Sketch {
         self.live.get(usize::from(transaction)).copied().flatten()
     }
 
-    fn is_on_line(&self, up: u8, of: u8) -> bool {
-        std::iter::successors(Some(of), |t| self.at(*t)?.parent).any(|t| t == up)
+    /// A transaction and its ancestors.
+    fn line(&self, transaction: u8) -> u32 {
+        std::iter::successors(Some(transaction), |t| self.at(*t)?.parent).fold(0, |line, t| line | bit(t))
     }
 
     /// A run starts down, over a page 0 that names this many records.
@@ -93,18 +147,28 @@ impl Sketch {
         }
     }
 
-    /// A lock.
-    pub fn lock(&mut self, transaction: u8, record: u8) {
-        let at = usize::from(record);
-        let free = self.holder[at].is_none() && self.at(transaction).is_some();
-        if free && self.retainer[at].is_none_or(|retainer| self.is_on_line(retainer, transaction)) {
-            self.holder[at] = Some(transaction);
+    /// A lock, to write or only to read.
+    pub fn lock(&mut self, transaction: u8, record: u8, to_write: bool) {
+        if self.at(transaction).is_none() {
+            return;
+        }
+        let line = self.line(transaction);
+        let lock = &mut self.locks[usize::from(record)];
+        let free = lock.writer.is_none_or(|writer| writer == transaction) && lock.write_retainers & !line == 0;
+        if to_write && free && lock.readers & !bit(transaction) == 0 && lock.read_retainers & !line == 0 {
+            lock.readers = 0;
+            lock.writer = Some(transaction);
+        } else if !to_write && free {
+            lock.readers |= if lock.writer.is_none() { bit(transaction) } else { 0 };
+        } else {
+            self.denied = Some((transaction, record));
         }
     }
 
     /// A write.
     pub fn write(&mut self, transaction: u8, record: u8) {
-        if let Some(live) = self.live.get_mut(usize::from(transaction)).and_then(Option::as_mut) {
+        let holds = self.locks[usize::from(record)].writer == Some(transaction);
+        if let Some(live) = self.live.get_mut(usize::from(transaction)).and_then(Option::as_mut).filter(|_| holds) {
             live.wrote |= 1 << record;
         }
     }
@@ -121,13 +185,13 @@ impl Sketch {
             self.committed = if count > live.wrote.count_ones() { live.wrote.count_ones() } else { 0 };
             return;
         }
-        for record in 0..RECORDS {
-            let held = self.holder[record] == Some(transaction);
-            if held || self.retainer[record] == Some(transaction) {
-                self.retainer[record] = live.parent;
-            }
-            if held {
-                self.holder[record] = None;
+        let heir = live.parent.map_or(0, bit);
+        for lock in &mut self.locks {
+            let gone = lock.without(bit(transaction));
+            if gone.writer.is_some() || gone.write_retainers != 0 {
+                lock.write_retainers |= heir;
+            } else if gone.readers | gone.read_retainers != 0 {
+                lock.read_retainers |= heir;
             }
         }
         if let Some(parent) = live.parent.and_then(|p| self.live[usize::from(p)].as_mut()) {
@@ -138,9 +202,11 @@ impl Sketch {
 
     /// An abort.
     pub fn abort(&mut self, transaction: u8) {
-        let ended: Vec<u8> = self.live().into_iter().filter(|t| self.is_on_line(transaction, *t)).collect();
-        for who in self.holder.iter_mut().chain(&mut self.retainer) {
-            *who = who.filter(|t| !ended.contains(t));
+        let under = |t: &u8| self.line(*t) & bit(transaction) != 0;
+        let ended: Vec<u8> = self.live().into_iter().filter(under).collect();
+        let set = ended.iter().fold(0, |set, t| set | bit(*t));
+        for lock in &mut self.locks {
+            lock.without(set);
         }
         for t in ended {
             self.live[usize::from(t)] = None;
@@ -158,5 +224,22 @@ impl Sketch {
             self.up = true;
             self.committed = 0;
         }
+    }
+}
+
+impl Lock {
+    /// Takes transactions out, and hands out what they had.
+    fn without(&mut self, set: u32) -> Lock {
+        let gone = Lock {
+            readers: self.readers & set,
+            writer: self.writer.filter(|t| bit(*t) & set != 0),
+            read_retainers: self.read_retainers & set,
+            write_retainers: self.write_retainers & set,
+        };
+        self.readers &= !set;
+        self.writer = self.writer.filter(|t| bit(*t) & set == 0);
+        self.read_retainers &= !set;
+        self.write_retainers &= !set;
+        gone
     }
 }

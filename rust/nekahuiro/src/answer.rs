@@ -50,7 +50,7 @@ impl Answer {
     pub fn refusal(self) -> Option<String> {
         Some(match self.number {
             DONE | CUT => return None,
-            1 => "bad event: no such kind, or a field that it doesn't use isn't 0".to_string(),
+            1 => "bad event: no such kind or mode, or a field that it doesn't use isn't 0".to_string(),
             2 => "the store is down: recover first".to_string(),
             3 => "the store is up already".to_string(),
             4 => "page 0 is damaged".to_string(),
@@ -58,7 +58,7 @@ impl Answer {
             6 => format!("the parent has depth {DEPTH_LIMIT} already"),
             7 => format!("{TRANSACTIONS} transactions are live already"),
             8 => "the lock can't be granted now".to_string(),
-            9 => "the transaction doesn't hold the lock".to_string(),
+            9 => "the transaction doesn't hold the lock, or only to read and would write".to_string(),
             10 => "a child is still live".to_string(),
             number => format!("unknown number {number}"),
         })

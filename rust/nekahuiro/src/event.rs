@@ -41,7 +41,7 @@ pub struct Fields {
     pub offset: u8,
     /// The page writes that happen before the power goes; 6 bits.
     pub count: u8,
-    /// The byte to write; 8 bits.
+    /// The byte to write, or the mode of a lock: 0 write, 1 read; 8 bits.
     pub value: u8,
 }
 
@@ -79,6 +79,7 @@ impl Fields {
 /// assert_eq!(event.word(), [0x30, 0x98, 0x80, 0xA5]);
 /// assert_eq!(Event::of([0x30, 0x98, 0x80, 0xA5]), Some(event));
 /// assert_eq!(Event::of([0x70, 0, 0, 1]), None); // a crash with a stray bit
+/// assert_eq!("read-lock 1 3".parse::<Event>()?.word(), [0x20, 0x98, 0, 1]); // a lock to read only
 /// # Ok::<(), nekahuiro::BadWords>(())
 /// ```
 #[derive(Clone, Copy, Debug, PartialEq, Eq)]
@@ -88,8 +89,15 @@ pub enum Event {
         /// The parent.
         parent: Transaction,
     },
-    /// Ask for a record's lock.
+    /// Ask for a record's lock in write mode: to read and to write.
     Lock {
+        /// Who asks.
+        transaction: Transaction,
+        /// For which record.
+        record: Record,
+    },
+    /// Ask for a record's lock in read mode: to read, beside other readers.
+    ReadLock {
         /// Who asks.
         transaction: Transaction,
         /// For which record.
@@ -145,6 +153,9 @@ impl Event {
             Event::Lock { transaction, record } => {
                 Fields { kind: 2, transaction: transaction.number(), record: record.number(), ..none }
             }
+            Event::ReadLock { transaction, record } => {
+                Fields { kind: 2, transaction: transaction.number(), record: record.number(), value: 1, ..none }
+            }
             Event::Write { transaction, record, offset, value } => {
                 let (transaction, record) = (transaction.number(), record.number());
                 Fields { kind: 3, transaction, record, offset, value, ..none }
@@ -172,6 +183,7 @@ impl Event {
         let (transaction, record) = (Transaction::new(transaction)?, Record::new(record)?);
         let event = match kind {
             1 => Event::Begin { parent: transaction },
+            2 if value == 1 => Event::ReadLock { transaction, record },
             2 => Event::Lock { transaction, record },
             3 => Event::Write { transaction, record, offset, value },
             4 => Event::Read { transaction, record, offset },
@@ -181,7 +193,7 @@ impl Event {
             8 => Event::Recover { count },
             _ => return None,
         };
-        // A word with a stray bit isn't the word of the event that its used fields tell.
+        // A word with a stray bit or another mode isn't the word of the event that its fields tell.
         (event.word() == word).then_some(event)
     }
 }

@@ -24,6 +24,19 @@
 //! # Ok::<(), Box<dyn std::error::Error>>(())
 //! ```
 //!
+//! A lock is for writing, or with `read-lock` for reading only: then others may read too.
+//!
+//! ```
+//! use nekahuiro::{Event, Store};
+//!
+//! let list = "recover 63, begin none, begin none, read-lock 0 3, read-lock 1 3, read 1 3 0, lock 1 3";
+//! let events: Vec<Event> = list.split(',').map(str::parse).collect::<Result<_, _>>()?;
+//! let answers = Store::fresh().play(&events)?;
+//! assert!(answers[4].is_accepted() && answers[5].is_accepted()); // two readers
+//! assert_eq!(answers[6].number, 8); // no write lock while another reads
+//! # Ok::<(), Box<dyn std::error::Error>>(())
+//! ```
+//!
 //! Events that come one by one are played in portions of any length: [`Store::portion`] takes a
 //! [`State`] and a [`Work`] that the caller keeps from one portion to the next.
 

@@ -25,4 +25,4 @@ pub const ANSWER_BYTES: usize = 2;
 /// The largest count of page writes that an event can carry; no power cut comes then.
 pub const COUNT_LIMIT: u8 = 63;
 /// Bytes of a lent state.
-pub const STATE_BYTES: usize = 340;
+pub const STATE_BYTES: usize = 468;

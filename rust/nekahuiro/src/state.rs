@@ -48,7 +48,8 @@ layout! {
     ///
     /// [`Store::portion`](crate::Store::portion) keeps it; a caller only stores it, together with the
     /// store and the working buffer that were left with it. Any content may be lent: one that isn't
-    /// sound is refused with [`Refusal::State`]. A set of transactions has bit `1 << t` for t.
+    /// sound is refused with [`Refusal::State`]. A set of transactions has bit `1 << t` for t, and a set
+    /// in write mode is within the one in any mode.
     ///
     /// ```
     /// use nekahuiro::{limits::STATE_BYTES, State};
@@ -59,10 +60,10 @@ layout! {
     pub struct State {
         /// Of each transaction the set of itself and its ancestors; 0 for a free number.
         line: [u32; TRANSACTIONS],
-        /// Of each record the set of those who hold its lock.
-        held: [u32; RECORDS],
-        /// Of each record the set of those who retain its lock.
-        retained: [u32; RECORDS],
+        /// Of record r those who hold its lock: place 2r in any mode, place 2r + 1 in write mode.
+        held: [u32; 2 * RECORDS],
+        /// Of record r those who retain its lock: place 2r in any mode, place 2r + 1 in write mode.
+        retained: [u32; 2 * RECORDS],
         /// Of each record the set of those who have a version of it.
         writers: [u32; RECORDS],
         /// Of each transaction its parent, 31 for a top transaction, 0 for a free number.
@@ -99,20 +100,40 @@ impl State {
         Some(parent).filter(|parent| live(transaction) && live(*parent))
     }
 
-    /// Who holds a record's lock; at most one does in a sound state.
+    /// Who holds a record's lock, in any mode.
     pub fn holders(&self, record: Record) -> impl Iterator<Item = Transaction> {
-        members(self.held[usize::from(record.number())])
+        members(self.held[any_mode(record)])
     }
 
-    /// Who retains a record's lock.
+    /// Who holds a record's lock in write mode; at most one does in a sound state.
+    pub fn write_holders(&self, record: Record) -> impl Iterator<Item = Transaction> {
+        members(self.held[write_mode(record)])
+    }
+
+    /// Who retains a record's lock, in any mode.
     pub fn retainers(&self, record: Record) -> impl Iterator<Item = Transaction> {
-        members(self.retained[usize::from(record.number())])
+        members(self.retained[any_mode(record)])
+    }
+
+    /// Who retains a record's lock in write mode.
+    pub fn write_retainers(&self, record: Record) -> impl Iterator<Item = Transaction> {
+        members(self.retained[write_mode(record)])
     }
 
     /// Who has a version of a record.
     pub fn writers(&self, record: Record) -> impl Iterator<Item = Transaction> {
         members(self.writers[usize::from(record.number())])
     }
+}
+
+/// The place of a record's set in any mode.
+fn any_mode(record: Record) -> usize {
+    2 * usize::from(record.number())
+}
+
+/// The place of a record's set in write mode, which is within the set in any mode.
+fn write_mode(record: Record) -> usize {
+    any_mode(record) + 1
 }
 
 fn transactions(wanted: impl Fn(usize) -> bool) -> impl Iterator<Item = Transaction> {

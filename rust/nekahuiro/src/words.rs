@@ -23,9 +23,10 @@ impl fmt::Display for BadWords {
 impl std::error::Error for BadWords {}
 
 /// How each event is written.
-const FORMS: [(&str, &str); 8] = [
+const FORMS: [(&str, &str); 9] = [
     ("begin", "begin none | begin PARENT"),
     ("lock", "lock TRANSACTION RECORD"),
+    ("read-lock", "read-lock TRANSACTION RECORD"),
     ("write", "write TRANSACTION RECORD OFFSET VALUE"),
     ("read", "read TRANSACTION RECORD OFFSET"),
     ("commit", "commit TRANSACTION COUNT"),
@@ -34,12 +35,16 @@ const FORMS: [(&str, &str); 8] = [
     ("recover", "recover COUNT"),
 ];
 
+/// The names of the kinds of events, from 1.
+const KINDS: [&str; 8] = ["begin", "lock", "write", "read", "commit", "abort", "crash", "recover"];
+
 impl fmt::Display for Event {
     fn fmt(&self, f: &mut fmt::Formatter) -> fmt::Result {
         match self {
             Event::Begin { parent } if *parent == Transaction::NONE => write!(f, "begin none"),
             Event::Begin { parent } => write!(f, "begin {parent}"),
             Event::Lock { transaction, record } => write!(f, "lock {transaction} {record}"),
+            Event::ReadLock { transaction, record } => write!(f, "read-lock {transaction} {record}"),
             Event::Write { transaction, record, offset, value } => {
                 write!(f, "write {transaction} {record} {offset} {value:02X}")
             }
@@ -65,9 +70,10 @@ pub fn why_bad(word: [u8; EVENT_BYTES]) -> Option<String> {
     if Event::of(word).is_some() {
         return None;
     }
-    let kind = Fields::of(word).kind;
-    Some(match FORMS.get(usize::from(kind).wrapping_sub(1)) {
-        Some((name, _)) => format!("{name} with a field that it doesn't use and that isn't 0"),
+    let Fields { kind, value, .. } = Fields::of(word);
+    Some(match KINDS.get(usize::from(kind).wrapping_sub(1)) {
+        Some(&"lock") if value > 1 => format!("lock in mode {value}: there are 0 to write and 1 to read"),
+        Some(name) => format!("{name} with a field that it doesn't use and that isn't 0"),
         None => format!("there is no kind {kind}"),
     })
 }
@@ -85,6 +91,7 @@ impl FromStr for Event {
         let event = match *name {
             "begin" => Event::Begin { parent: words.parent()? },
             "lock" => Event::Lock { transaction: words.transaction()?, record: words.record()? },
+            "read-lock" => Event::ReadLock { transaction: words.transaction()?, record: words.record()? },
             "write" => Event::Write {
                 transaction: words.transaction()?,
                 record: words.record()?,

@@ -10,13 +10,22 @@ pub struct Transaction(pub u8);
 #[derive(Clone, Copy, Debug, PartialEq, Eq, PartialOrd, Ord)]
 pub struct Record(pub u8);
 
+/// In which mode a lock is asked for, held or retained: write mode is the stronger.
+#[derive(Clone, Copy, Debug, PartialEq, Eq, PartialOrd, Ord)]
+pub enum Mode {
+    /// Others may read too.
+    Read,
+    /// Nobody else may read or write.
+    Write,
+}
+
 /// An event with no stray bits.
 #[derive(Clone, Copy, Debug, PartialEq, Eq)]
 pub enum Event {
     /// Begin a transaction, under a parent or at the top.
     Begin(Option<Transaction>),
-    /// Ask for a lock.
-    Lock(Transaction, Record),
+    /// Ask for a lock in a mode.
+    Lock(Transaction, Record, Mode),
     /// Write one byte: offset, then value.
     Write(Transaction, Record, u8, u8),
     /// Read the byte at an offset.
@@ -31,7 +40,8 @@ pub enum Event {
     Recover(u8),
 }
 
-/// The event that a word tells, or none if the word is bad: an unknown kind or a stray bit.
+/// The event that a word tells, or none if the word is bad: an unknown kind, a stray bit or a mode that
+/// there isn't.
 pub fn decode(word: [u8; EVENT_BYTES]) -> Option<Event> {
     let bits = u32::from_be_bytes(word);
     let field = |shift: u32, width: u32| ((bits >> shift) & ((1 << width) - 1)) as u8;
@@ -45,7 +55,14 @@ pub fn decode(word: [u8; EVENT_BYTES]) -> Option<Event> {
             let parent = (named != NO_PARENT).then_some(transaction);
             (Event::Begin(parent), no_record && no_offset && no_count && no_value)
         }
-        2 => (Event::Lock(transaction, record), no_offset && no_count && no_value),
+        2 => {
+            let mode = match value {
+                0 => Mode::Write,
+                1 => Mode::Read,
+                _ => return None,
+            };
+            (Event::Lock(transaction, record, mode), no_offset && no_count)
+        }
         3 => (Event::Write(transaction, record, offset, value), no_count),
         4 => (Event::Read(transaction, record, offset), no_count && no_value),
         5 => (Event::Commit(transaction, count), no_record && no_offset && no_value),

@@ -2,8 +2,8 @@
 //!
 //! It is the independent program that the proved engine is tested against, and the yardstick of
 //! the benchmark. It is written from the rules alone and shares no code and no data structures
-//! with the engine: live transactions are a tree of owned nodes with their versions in maps, locks
-//! are a table by record, a commit is a list of page writes.
+//! with the engine: live transactions are a tree of owned nodes with their versions in maps, a lock is
+//! a list of shares, a commit is a list of page writes.
 //!
 //! ```
 //! use nekahuiro_player::{fresh, run, limits};
@@ -18,7 +18,6 @@
 //! assert_eq!(answers, [0, 0, 0, 0]);
 //! ```
 
-mod volatile;
 pub mod event;
 pub mod limits;
 mod locks;
@@ -27,12 +26,13 @@ mod player;
 pub mod soundness;
 pub mod store;
 mod tree;
+mod volatile;
 
-pub use volatile::Volatile;
 use event::Record;
 use limits::{ANSWER_BYTES, EVENTS, EVENT_BYTES, PAGE_BYTES, RECORDS, STORE_BYTES, WORK_BYTES};
 pub use player::{Answer, Player};
 use store::Store;
+pub use volatile::Volatile;
 
 /// Refused: page 0 is damaged.
 pub const DAMAGED: u8 = 4;

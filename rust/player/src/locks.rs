@@ -1,57 +1,71 @@
-//! The lock table: for each record who holds its lock and who retains it.
+//! The lock table: for each record every transaction's share in its lock, held and retained apart.
 
-use crate::event::{Record, Transaction};
+use crate::event::{Mode, Record, Transaction};
 use crate::limits::RECORDS;
 
-/// The lock of one record.
-#[derive(Default)]
-pub struct Lock {
-    /// At most one transaction holds it.
-    pub holder: Option<Transaction>,
-    /// Any number of transactions retain it.
-    pub retainers: Vec<Transaction>,
+/// What one transaction has of a lock. Held and retained modes are independent of each other.
+#[derive(Clone, Copy)]
+pub struct Share {
+    /// Whose share it is.
+    pub transaction: Transaction,
+    /// The mode in which it holds the lock.
+    pub held: Option<Mode>,
+    /// The mode in which it retains the lock.
+    pub retained: Option<Mode>,
 }
 
-/// The lock of each record.
+/// The lock of each record: shares with something in them, one at most for a transaction.
 #[derive(Default)]
 pub struct Locks {
-    table: [Lock; RECORDS],
+    table: [Vec<Share>; RECORDS],
 }
 
 impl Locks {
-    /// The lock of a record.
-    pub fn get(&self, record: Record) -> &Lock {
+    /// The shares in the lock of a record.
+    pub fn shares(&self, record: Record) -> &[Share] {
         &self.table[usize::from(record.0)]
     }
 
-    /// Whether this very transaction holds the lock.
-    pub fn holds(&self, transaction: Transaction, record: Record) -> bool {
-        self.get(record).holder == Some(transaction)
+    /// The mode in which this very transaction holds the lock.
+    pub fn held(&self, transaction: Transaction, record: Record) -> Option<Mode> {
+        self.shares(record).iter().find(|share| share.transaction == transaction)?.held
     }
 
-    /// The transaction holds the lock from now on.
-    pub fn grant(&mut self, transaction: Transaction, record: Record) {
-        self.table[usize::from(record.0)].holder = Some(transaction);
+    /// The mode in which a transaction retains the lock.
+    pub fn retained(&self, transaction: Transaction, record: Record) -> Option<Mode> {
+        self.shares(record).iter().find(|share| share.transaction == transaction)?.retained
     }
 
-    /// The transaction retains the lock from now on.
-    pub fn retain(&mut self, transaction: Transaction, record: Record) {
-        self.table[usize::from(record.0)].retainers.push(transaction);
+    /// The transaction holds the lock in this mode from now on, or in the one it has if that is stronger.
+    pub fn grant(&mut self, transaction: Transaction, record: Record, mode: Mode) {
+        let share = share_of(&mut self.table[usize::from(record.0)], transaction);
+        share.held = share.held.max(Some(mode));
     }
 
-    /// The parent retains all that its child held or retained; the child has nothing left.
-    pub fn pass_up(&mut self, child: Transaction, parent: Transaction) {
-        for lock in &mut self.table {
-            if lock.discard(&[child]) && !lock.retainers.contains(&parent) {
-                lock.retainers.push(parent);
-            }
+    /// The transaction retains the lock in this mode from now on, or in the one it has if that is stronger.
+    pub fn retain(&mut self, transaction: Transaction, record: Record, mode: Mode) {
+        let share = share_of(&mut self.table[usize::from(record.0)], transaction);
+        share.retained = share.retained.max(Some(mode));
+    }
+
+    /// The parent retains all that its child held or retained, in the stronger mode; the child has
+    /// nothing left. A planted bug takes the weaker mode.
+    pub fn pass_up(&mut self, child: Transaction, parent: Transaction, weaker: bool) {
+        for shares in &mut self.table {
+            let Some(at) = shares.iter().position(|share| share.transaction == child) else { continue };
+            let Share { held, retained, .. } = shares.swap_remove(at);
+            let heir = share_of(shares, parent);
+            heir.retained = match weaker {
+                false => heir.retained.max(held).max(retained),
+                true => [heir.retained, held, retained].into_iter().flatten().min(),
+            };
         }
     }
 
     /// Whoever is among these holds and retains nothing any more.
     pub fn discard(&mut self, ended: &[Transaction]) {
-        for lock in &mut self.table {
-            lock.discard(ended);
+        for shares in &mut self.table {
+            shares.retain(|share| !ended.contains(&share.transaction));
         }
     }
 
@@ -61,15 +75,11 @@ impl Locks {
     }
 }
 
-impl Lock {
-    /// Takes transactions out of the lock; tells whether any of them held or retained it.
-    fn discard(&mut self, ended: &[Transaction]) -> bool {
-        let held = self.holder.is_some_and(|holder| ended.contains(&holder));
-        if held {
-            self.holder = None;
-        }
-        let before = self.retainers.len();
-        self.retainers.retain(|retainer| !ended.contains(retainer));
-        held || self.retainers.len() < before
-    }
+/// A transaction's share in a lock, which is empty if it had none.
+fn share_of(shares: &mut Vec<Share>, transaction: Transaction) -> &mut Share {
+    let at = shares.iter().position(|share| share.transaction == transaction).unwrap_or_else(|| {
+        shares.push(Share { transaction, held: None, retained: None });
+        shares.len() - 1
+    });
+    &mut shares[at]
 }

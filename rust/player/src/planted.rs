@@ -1,6 +1,6 @@
 //! Known bugs that a test build can plant, to show that the tests find them.
 
-/// A bug to plant: the first three are slips, the last five are the shortcuts that the rules warn of.
+/// A bug to plant: slips, the five shortcuts that the rules warn of, and slips in the modes of locks.
 #[derive(Clone, Copy, Debug, PartialEq, Eq)]
 pub enum Bug {
     /// A parent with a version of its own keeps it when its child commits one.
@@ -19,11 +19,19 @@ pub enum Bug {
     AbortRestoresHome,
     /// A retainer may read and write without locking again.
     RetainerNeedsNoLock,
+    /// Read mode is granted while another holds in write mode.
+    ReadOverWriteHolder,
+    /// Write mode is granted without a look at those who retain in read mode.
+    WriteBlindToReadRetainers,
+    /// A parent inherits the weaker mode.
+    ParentInheritsWeakerMode,
+    /// A read lock is enough to write.
+    WriteUnderReadLock,
 }
 
 impl Bug {
     /// All of them.
-    pub const ALL: [Bug; 8] = [
+    pub const ALL: [Bug; 12] = [
         Bug::ParentKeepsItsVersion,
         Bug::GrantBlindToRetainers,
         Bug::CutOffByOne,
@@ -32,5 +40,9 @@ impl Bug {
         Bug::EmptiedTooEarly,
         Bug::AbortRestoresHome,
         Bug::RetainerNeedsNoLock,
+        Bug::ReadOverWriteHolder,
+        Bug::WriteBlindToReadRetainers,
+        Bug::ParentInheritsWeakerMode,
+        Bug::WriteUnderReadLock,
     ];
 }

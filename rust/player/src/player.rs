@@ -1,10 +1,10 @@
 //! One event at a time: the refusals in the order of the table, then the effect.
 
-use crate::volatile::Volatile;
-use crate::event::{decode, Event, Record, Transaction};
+use crate::event::{decode, Event, Mode, Record, Transaction};
 use crate::limits::EVENT_BYTES;
 use crate::planted::Bug;
 use crate::store::{committed_page, empty_page, CommitPage, Page, Place, Store};
+use crate::volatile::Volatile;
 
 /// An answer: its number, then its value.
 #[derive(Clone, Copy, Debug, PartialEq, Eq)]
@@ -76,7 +76,7 @@ impl<'s> Player<'s> {
             Event::Recover(count) => self.recover(count),
             _ if !self.volatile.up => Err(Refusal::Down),
             Event::Begin(parent) => self.begin(parent),
-            Event::Lock(transaction, record) => self.lock(transaction, record),
+            Event::Lock(transaction, record, mode) => self.lock(transaction, record, mode),
             Event::Write(transaction, record, offset, value) => self.write(transaction, record, offset, value),
             Event::Read(transaction, record, offset) => self.read(transaction, record, offset),
             Event::Commit(transaction, count) => self.commit(transaction, count),
@@ -95,26 +95,52 @@ impl<'s> Player<'s> {
         Ok(Answer(DONE, number.0))
     }
 
-    fn lock(&mut self, transaction: Transaction, record: Record) -> Outcome {
+    fn lock(&mut self, transaction: Transaction, record: Record, mode: Mode) -> Outcome {
         self.live(transaction)?;
-        if !self.grantable(transaction, record) {
+        // Asking for what is held, or for less, changes nothing.
+        if self.volatile.locks.held(transaction, record) >= Some(mode) {
+            return Ok(Answer(DONE, 0));
+        }
+        let grantable = match mode {
+            Mode::Read => self.may_read(transaction, record),
+            Mode::Write => self.may_write(transaction, record),
+        };
+        if !grantable {
             return Err(Refusal::NotGrantable);
         }
-        self.volatile.locks.grant(transaction, record);
+        self.volatile.locks.grant(transaction, record, mode);
         Ok(Answer(DONE, 0))
     }
 
-    /// No other transaction holds the lock and every retainer is the asker or its ancestor.
-    fn grantable(&self, asker: Transaction, record: Record) -> bool {
-        let lock = self.volatile.locks.get(record);
-        let on_line = |retainer: &Transaction| self.volatile.tree.line(asker).any(|t| t == *retainer);
-        lock.holder.is_none_or(|holder| holder == asker)
-            && (self.planted(Bug::GrantBlindToRetainers) || lock.retainers.iter().all(on_line))
+    /// No other transaction holds the lock in write mode, and every write-mode retainer is the asker or
+    /// its ancestor.
+    fn may_read(&self, asker: Transaction, record: Record) -> bool {
+        let mut others = self.volatile.locks.shares(record).iter().filter(|share| share.transaction != asker);
+        others.all(|share| {
+            let held = share.held == Some(Mode::Write) && !self.planted(Bug::ReadOverWriteHolder);
+            !held && (share.retained != Some(Mode::Write) || self.lets_through(share.transaction, asker))
+        })
+    }
+
+    /// No other transaction holds the lock in any mode, and every retainer is the asker or its ancestor.
+    fn may_write(&self, asker: Transaction, record: Record) -> bool {
+        let mut others = self.volatile.locks.shares(record).iter().filter(|share| share.transaction != asker);
+        others.all(|share| {
+            let blind = share.retained == Some(Mode::Read) && self.planted(Bug::WriteBlindToReadRetainers);
+            let retained = share.retained.is_some() && !blind;
+            share.held.is_none() && (!retained || self.lets_through(share.transaction, asker))
+        })
+    }
+
+    /// A retainer lets its descendants through.
+    fn lets_through(&self, retainer: Transaction, asker: Transaction) -> bool {
+        self.planted(Bug::GrantBlindToRetainers) || self.volatile.tree.line(asker).any(|t| t == retainer)
     }
 
     fn write(&mut self, transaction: Transaction, record: Record, offset: u8, value: u8) -> Outcome {
         self.live(transaction)?;
-        self.held(transaction, record)?;
+        let needed = if self.planted(Bug::WriteUnderReadLock) { Mode::Read } else { Mode::Write };
+        self.holds(transaction, record, needed)?;
         let seen = self.volatile.tree.version(transaction, record).copied();
         let page = seen.unwrap_or_else(|| self.store.page(Place::Home(record)));
         if let Some(node) = self.volatile.tree.get_mut(transaction) {
@@ -125,7 +151,7 @@ impl<'s> Player<'s> {
 
     fn read(&mut self, transaction: Transaction, record: Record, offset: u8) -> Outcome {
         self.live(transaction)?;
-        self.held(transaction, record)?;
+        self.holds(transaction, record, Mode::Read)?;
         let byte = match self.volatile.tree.version(transaction, record) {
             Some(version) => version[offset as usize],
             None => self.store.home_byte(record, offset),
@@ -146,7 +172,7 @@ impl<'s> Player<'s> {
         if self.planted(Bug::ChildCommitFreesLocks) {
             self.volatile.locks.discard(&[transaction]);
         }
-        self.volatile.locks.pass_up(transaction, parent);
+        self.volatile.locks.pass_up(transaction, parent, self.planted(Bug::ParentInheritsWeakerMode));
         let keeps = self.planted(Bug::ParentKeepsItsVersion);
         if let Some(parent) = self.volatile.tree.get_mut(parent) {
             if keeps {
@@ -250,10 +276,11 @@ impl<'s> Player<'s> {
         self.volatile.tree.is_live(transaction).then_some(()).ok_or(Refusal::NotLive)
     }
 
-    fn held(&self, transaction: Transaction, record: Record) -> Result<(), Refusal> {
-        let retains = || self.volatile.locks.get(record).retainers.contains(&transaction);
-        let enough =
-            self.volatile.locks.holds(transaction, record) || (self.planted(Bug::RetainerNeedsNoLock) && retains());
+    /// Reading and writing need the lock held by that very transaction, in this mode or a stronger one.
+    fn holds(&self, transaction: Transaction, record: Record, mode: Mode) -> Result<(), Refusal> {
+        let locks = &self.volatile.locks;
+        let retains = || self.planted(Bug::RetainerNeedsNoLock) && locks.retained(transaction, record) >= Some(mode);
+        let enough = locks.held(transaction, record) >= Some(mode) || retains();
         enough.then_some(()).ok_or(Refusal::NotHeld)
     }
 }

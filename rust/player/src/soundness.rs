@@ -1,11 +1,11 @@
 //! Whether a state is sound: the words of the rules, one by one, over plain facts.
 //!
-//! Facts may say anything: parents in a ring, two holders, a version that nobody may have.
+//! Facts may say anything: parents in a ring, two who write, a version that nobody may have.
 
-use crate::event::{Record, Transaction};
+use crate::event::{Mode, Record, Transaction};
 use crate::limits::{DEPTH_LIMIT, TRANSACTIONS};
 use crate::store::Page;
-use std::collections::{BTreeMap, BTreeSet};
+use std::collections::BTreeMap;
 
 /// What is said of a live transaction.
 #[derive(Clone, Copy, Debug, PartialEq, Eq)]
@@ -23,10 +23,10 @@ pub struct Facts {
     pub up: bool,
     /// The live transactions.
     pub live: BTreeMap<Transaction, Begun>,
-    /// Who holds which lock.
-    pub holders: BTreeSet<(Record, Transaction)>,
-    /// Who retains which lock.
-    pub retainers: BTreeSet<(Record, Transaction)>,
+    /// Who holds which lock, and in which mode.
+    pub holders: BTreeMap<(Record, Transaction), Mode>,
+    /// Who retains which lock, and in which mode.
+    pub retainers: BTreeMap<(Record, Transaction), Mode>,
     /// Who has which version.
     pub versions: BTreeMap<(Transaction, Record), Page>,
 }
@@ -46,13 +46,15 @@ pub enum Fault {
     Holder,
     /// A retainer isn't live.
     Retainer,
-    /// Retainers of a lock aren't on one line.
+    /// A retainer isn't on one line with a write-mode retainer.
     Line,
-    /// A lock has two holders.
-    TwoHolders,
-    /// A holder isn't at or beneath the last retainer.
+    /// A holder isn't at or beneath a write-mode retainer.
     Beneath,
-    /// A version by one who neither holds nor retains its record.
+    /// A write holder isn't alone.
+    NotAlone,
+    /// A write holder isn't at or beneath a retainer.
+    WriterBeneath,
+    /// A version by one who neither holds nor retains its record in write mode.
     Version,
     /// A transaction while down.
     Down,
@@ -68,8 +70,8 @@ impl Facts {
             (Fault::Parent, self.parents().all(|(_, parent)| parent.is_none_or(|p| self.live.contains_key(&p)))),
             (Fault::Depth, self.parents().all(|(begun, parent)| begun.depth == self.depth_under(parent))),
             (Fault::TooDeep, self.live.values().all(|begun| begun.depth <= DEPTH_LIMIT)),
-            (Fault::Holder, self.holders.iter().all(|(_, t)| self.live.contains_key(t))),
-            (Fault::Retainer, self.retainers.iter().all(|(_, t)| self.live.contains_key(t))),
+            (Fault::Holder, self.holders.keys().all(|(_, t)| self.live.contains_key(t))),
+            (Fault::Retainer, self.retainers.keys().all(|(_, t)| self.live.contains_key(t))),
         ];
         // Past these the parents form a tree, so that lines end.
         let tree = checks.into_iter().find(|(_, holds)| !holds).map(|(fault, _)| fault);
@@ -77,27 +79,29 @@ impl Facts {
     }
 
     fn fault_of_locks(&self) -> Option<Fault> {
-        for (record, one) in &self.retainers {
-            let others = self.retainers.iter().filter(|(other, _)| other == record).map(|(_, two)| two);
-            if !others.clone().all(|two| self.is_beneath(*one, *two) || self.is_beneath(*two, *one)) {
-                return Some(Fault::Line);
-            }
-        }
-        for (record, holder) in &self.holders {
-            if self.holders.iter().any(|(other, second)| other == record && second != holder) {
-                return Some(Fault::TwoHolders);
-            }
-            let retainers = self.retainers.iter().filter(|(other, _)| other == record).map(|(_, t)| *t);
-            let last = retainers.max_by_key(|t| self.live.get(t).map_or(0, |begun| begun.depth));
-            if last.is_some_and(|last| !self.is_beneath(*holder, last)) {
-                return Some(Fault::Beneath);
-            }
-        }
-        let allowed = |(writer, record): &(Transaction, Record)| {
+        let (holders, retainers) = (Bearer::all(&self.holders), Bearer::all(&self.retainers));
+        let beneath = |low: Bearer, high: Bearer| self.is_beneath(low.transaction, high.transaction);
+        // Every retainer on one line with each write-mode retainer.
+        let on_one_line = Bearer::pairs(&retainers, &retainers, |t, w| w.reads() || beneath(t, w) || beneath(w, t));
+        // Every holder at or beneath all write-mode retainers.
+        let holders_beneath = Bearer::pairs(&holders, &retainers, |t, w| w.reads() || beneath(t, w));
+        // A write holder alone and at or beneath every retainer.
+        let alone = Bearer::pairs(&holders, &holders, |w, t| w.reads() || w.transaction == t.transaction);
+        let writer_beneath = Bearer::pairs(&holders, &retainers, |w, t| w.reads() || beneath(w, t));
+        // Versions only in write mode.
+        let writes = |told: Option<&Mode>| told == Some(&Mode::Write);
+        let in_write_mode = self.versions.keys().all(|(writer, record)| {
             let lock = (*record, *writer);
-            self.holders.contains(&lock) || self.retainers.contains(&lock)
-        };
-        (!self.versions.keys().all(allowed)).then_some(Fault::Version)
+            writes(self.holders.get(&lock)) || writes(self.retainers.get(&lock))
+        });
+        let checks = [
+            (Fault::Line, on_one_line),
+            (Fault::Beneath, holders_beneath),
+            (Fault::NotAlone, alone),
+            (Fault::WriterBeneath, writer_beneath),
+            (Fault::Version, in_write_mode),
+        ];
+        checks.into_iter().find(|(_, holds)| !holds).map(|(fault, _)| fault)
     }
 
     fn fault_of_phase(&self, page_is_empty: bool) -> Option<Fault> {
@@ -120,5 +124,30 @@ impl Facts {
     /// At or beneath: `low` is `high` or a descendant of it. Rings have been ruled out by the depths.
     fn is_beneath(&self, low: Transaction, high: Transaction) -> bool {
         std::iter::successors(Some(low), |t| self.live.get(t)?.parent).any(|t| t == high)
+    }
+}
+
+/// One who holds or retains a lock.
+#[derive(Clone, Copy)]
+struct Bearer {
+    record: Record,
+    transaction: Transaction,
+    mode: Mode,
+}
+
+impl Bearer {
+    fn all(told: &BTreeMap<(Record, Transaction), Mode>) -> Vec<Bearer> {
+        told.iter().map(|((record, t), mode)| Bearer { record: *record, transaction: *t, mode: *mode }).collect()
+    }
+
+    /// Whether it is in read mode, to which the clauses on write mode don't apply.
+    fn reads(self) -> bool {
+        self.mode == Mode::Read
+    }
+
+    /// Whether something holds of each two that have to do with the same lock.
+    fn pairs(some: &[Bearer], others: &[Bearer], holds: impl Fn(Bearer, Bearer) -> bool) -> bool {
+        let of = |one: &Bearer| others.iter().filter(|two| two.record == one.record).all(|two| holds(*one, *two));
+        some.iter().all(of)
     }
 }

@@ -2,7 +2,7 @@
 
 use crate::event::Record;
 use crate::limits::RECORDS;
-use crate::locks::Locks;
+use crate::locks::{Locks, Share};
 use crate::soundness::{Begun, Facts};
 use crate::tree::{Node, Tree};
 
@@ -24,9 +24,10 @@ impl Volatile {
             facts.versions.extend(node.versions.iter().map(|(record, page)| ((transaction, *record), *page)));
         }
         for record in (0..RECORDS as u8).map(Record) {
-            let lock = self.locks.get(record);
-            facts.holders.extend(lock.holder.map(|holder| (record, holder)));
-            facts.retainers.extend(lock.retainers.iter().map(|retainer| (record, *retainer)));
+            for Share { transaction, held, retained } in self.locks.shares(record) {
+                facts.holders.extend(held.map(|mode| ((record, *transaction), mode)));
+                facts.retainers.extend(retained.map(|mode| ((record, *transaction), mode)));
+            }
         }
         facts
     }
@@ -42,8 +43,8 @@ impl Volatile {
             let versions = own.map(|((_, record), page)| (*record, *page)).collect();
             volatile.tree.put(*transaction, Node { parent: *parent, depth: *depth, versions });
         }
-        facts.holders.iter().for_each(|(record, holder)| volatile.locks.grant(*holder, *record));
-        facts.retainers.iter().for_each(|(record, retainer)| volatile.locks.retain(*retainer, *record));
+        facts.holders.iter().for_each(|((record, holder), mode)| volatile.locks.grant(*holder, *record, *mode));
+        facts.retainers.iter().for_each(|((record, t), mode)| volatile.locks.retain(*t, *record, *mode));
         Some(volatile)
     }
 }

@@ -26,10 +26,22 @@ pub const CRASHING: &str = "recover 63, recover 0, recover 1, recover 2, recover
 pub const INHERITED: &str =
     "begin 0, lock 1 0, write 1 0 0 11, write 1 0 31 22, commit 1 63, abort 1, commit 0 63, lock 0 0, read 0 0 31";
 
+/// Both modes over two records, by two top transactions, 0 and 1, and by 2, a child of the first.
+pub const SHARED: &str = "lock 0 0, read-lock 0 0, lock 1 0, read-lock 1 0, lock 2 0, read-lock 2 0, read-lock 2 15, \
+    lock 1 15, write 0 0 0 11, write 1 0 0 22, write 2 0 31 33, read 1 0 0, read 2 0 31, commit 0 63, commit 1 63, \
+    commit 2 63, abort 0, abort 2, begin 0";
+
+/// What SHARED begins with.
+pub const SHARED_PREFIX: &str = "recover 63, begin none, begin none, begin 0";
+
+/// Children and strangers one after the other over one record, for modes that a parent takes again and again.
+pub const MODES: &str =
+    "begin 0, begin none, lock 1 0, read-lock 1 0, write 1 0 0 11, commit 1 63, abort 1, lock 0 0, read-lock 0 0";
+
 /// Events that are bad or name what there isn't.
 pub const STRAY: &str =
     "00000000, 90000000, recover 63, begin none, begin 0, begin 24, 1F800001, lock 0 0, lock 31 0, \
-    20004000, 30000100, write 0 0 0 11, 40000001, commit 0 63, 50080000, 60000001, 70000001, 80800000, crash";
+    20004000, 20000002, 30000100, write 0 0 0 11, 40000001, commit 0 63, 50080000, 60000001, 70000001, 80800000, crash";
 
 /// How the lists are chosen.
 #[derive(Clone, Copy, PartialEq, Eq)]

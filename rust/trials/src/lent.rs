@@ -3,7 +3,7 @@
 use nekahuiro::limits::{PAGE_BYTES, RECORDS, TRANSACTIONS};
 use nekahuiro::{Record, State, Transaction, Work};
 use nekahuiro_lists::stores::{self, Bytes};
-use nekahuiro_player::event::{Record as PlayersRecord, Transaction as PlayersTransaction};
+use nekahuiro_player::event::{Mode, Record as PlayersRecord, Transaction as PlayersTransaction};
 use nekahuiro_player::soundness::{Begun, Facts, Fault};
 
 /// Why a struct may not be lent.
@@ -11,8 +11,8 @@ use nekahuiro_player::soundness::{Begun, Facts, Fault};
 pub enum Unsound {
     /// The facts it tells aren't sound.
     Facts(Fault),
-    /// It isn't the struct of the facts it tells: a wrong line, a dead entry or a spare byte that isn't
-    /// 0, an `up` above 1.
+    /// It isn't the struct of the facts it tells: a wrong line, write mode without any mode, a dead entry
+    /// or a spare byte that isn't 0, an `up` above 1.
     Struct,
 }
 
@@ -26,8 +26,8 @@ pub fn facts(state: &State, work: &Work) -> Facts {
     }
     for record in Record::all() {
         let (r, named) = (usize::from(record.number()), PlayersRecord(record.number()));
-        facts.holders.extend(members(state.held[r]).map(|t| (named, t)));
-        facts.retainers.extend(members(state.retained[r]).map(|t| (named, t)));
+        facts.holders.extend(bearers(&state.held, r).map(|(t, mode)| ((named, t), mode)));
+        facts.retainers.extend(bearers(&state.retained, r).map(|(t, mode)| ((named, t), mode)));
         for writer in members(state.writers[r]) {
             let depth = state.depth.get(usize::from(writer.0)).copied().unwrap_or(0);
             facts.versions.insert((writer, named), work.version(record, depth));
@@ -41,6 +41,22 @@ fn members(set: u32) -> impl Iterator<Item = PlayersTransaction> {
     (0..32).filter(move |t| set & 1 << t != 0).map(PlayersTransaction)
 }
 
+/// Who has to do with a record's lock, by the two sets of the record: in any mode and in write mode.
+fn bearers(sets: &[u32; 2 * RECORDS], r: usize) -> impl Iterator<Item = (PlayersTransaction, Mode)> {
+    let (any, write) = (sets[2 * r], sets[2 * r + 1]);
+    let mode = move |t: &PlayersTransaction| if write & 1 << t.0 != 0 { Mode::Write } else { Mode::Read };
+    members(any | write).map(move |t| (t, mode(&t)))
+}
+
+/// Notes one who has to do with a record's lock.
+fn bear(sets: &mut [u32; 2 * RECORDS], record: PlayersRecord, t: PlayersTransaction, mode: Mode) {
+    let at = 2 * usize::from(record.0);
+    sets[at] |= bit(t);
+    if mode == Mode::Write {
+        sets[at + 1] |= bit(t);
+    }
+}
+
 /// The struct of facts, as far as there is one.
 pub fn encode(facts: &Facts) -> State {
     let mut state = State { up: u8::from(facts.up), ..State::new() };
@@ -52,11 +68,11 @@ pub fn encode(facts: &Facts) -> State {
         let line = std::iter::successors(Some(*t), |t| facts.live.get(t)?.parent).take(TRANSACTIONS);
         state.line[at] = line.fold(0, |set, t| set | bit(t));
     }
-    for (record, t) in &facts.holders {
-        state.held[usize::from(record.0)] |= bit(*t);
+    for ((record, t), mode) in &facts.holders {
+        bear(&mut state.held, *record, *t, *mode);
     }
-    for (record, t) in &facts.retainers {
-        state.retained[usize::from(record.0)] |= bit(*t);
+    for ((record, t), mode) in &facts.retainers {
+        bear(&mut state.retained, *record, *t, *mode);
     }
     for (t, record) in facts.versions.keys() {
         state.writers[usize::from(record.0)] |= bit(*t);

@@ -10,6 +10,7 @@ pub mod portions;
 pub mod random;
 pub mod report;
 pub mod settings;
+pub mod states;
 
 pub use case::{Case, Played, Program};
 pub use check::{check, Fault};

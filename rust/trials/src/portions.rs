@@ -2,7 +2,7 @@
 
 use crate::case::{Case, Program, TAIL, TAIL_BYTES};
 use crate::{lent, settings};
-use nekahuiro::limits::{ANSWER_BYTES, EVENT_BYTES, STATE_BYTES};
+use nekahuiro::limits::{ANSWER_BYTES, EVENT_BYTES};
 use nekahuiro::{raw, State, Work};
 use nekahuiro_lists::stores::Bytes;
 use nekahuiro_lists::Rng;
@@ -43,8 +43,13 @@ impl Board {
         let mut due = answers.clone();
         let number = raw::portion(&mut self.state, &mut self.store, events, self.work.bytes_mut(), &mut answers);
         let mut unused = Work::new();
-        let players =
-            nekahuiro_player::portion(&mut self.volatile, &mut self.players_store, events, unused.bytes_mut(), &mut due);
+        let players = nekahuiro_player::portion(
+            &mut self.volatile,
+            &mut self.players_store,
+            events,
+            unused.bytes_mut(),
+            &mut due,
+        );
         if (number, players) != (0, 0) {
             return Err(format!("the portion is answered {number}, by the player {players}"));
         }
@@ -153,71 +158,6 @@ pub fn check_cut(case: &Case, longest: usize, rng: &mut Rng) -> Result<u64, Stri
         true => Ok(portions),
         false => Err("the store isn't that of the whole run".to_string()),
     }
-}
-
-/// A struct that differs from a sound one in something, at random.
-pub fn mutate(state: &mut State, rng: &mut Rng) {
-    let (t, r) = (rng.below(state.depth.len()), rng.below(state.held.len()));
-    let live: Vec<usize> = (0..state.depth.len()).filter(|t| state.depth[*t] != 0).collect();
-    let someone = rng.pick(&live).copied().unwrap_or(t);
-    let bit = 1 << someone;
-    match rng.below(15) {
-        0..=1 => {
-            let mut bytes = state.bytes();
-            // The last bytes are few and say much.
-            let at = if rng.percent(30) { STATE_BYTES - 1 - rng.below(4) } else { rng.below(STATE_BYTES) };
-            bytes[at] = if rng.percent(50) { bytes[at] ^ 1 << rng.below(8) } else { rng.byte() };
-            State::of(&bytes).into_iter().for_each(|changed| *state = changed);
-        }
-        2 => state.depth[someone] = state.depth[someone].wrapping_add(rng.one_of([1, 255])),
-        3 => state.depth[t] = rng.below(11) as u8,
-        4 => state.parent[someone] = rng.below(33) as u8,
-        5 => state.parent[someone] = rng.pick(&live).map_or(31, |parent| *parent as u8),
-        6 => state.held[r] ^= bit,
-        7 => state.held[r] = bit,
-        8 => state.retained[r] ^= bit,
-        9 => state.retained[r] |= state.line[someone] & rng.bits() as u32,
-        10 => state.writers[r] ^= bit,
-        11 => state.writers[r] |= (state.held[r] | state.retained[r]) & rng.bits() as u32,
-        12 => state.up = rng.one_of([0, 1, 1, 1, 2, 255]),
-        13 => state.line[someone] ^= 1 << rng.below(32),
-        _ => forget(state, someone),
-    }
-}
-
-/// A transaction is gone, with all that it held: sound if it was a leaf.
-fn forget(state: &mut State, transaction: usize) {
-    state.depth[transaction] = 0;
-    state.parent[transaction] = 0;
-    state.line[transaction] = 0;
-    for set in state.held.iter_mut().chain(&mut state.retained).chain(&mut state.writers) {
-        *set &= !(1 << transaction);
-    }
-}
-
-/// A struct made at random, mostly a sound one that no list leads to.
-pub fn any_state(rng: &mut Rng) -> State {
-    let mut state = State { up: 1, ..State::new() };
-    for t in 0..rng.below(state.depth.len() + 1) {
-        if rng.percent(15) {
-            continue;
-        }
-        let live: Vec<usize> = (0..t).filter(|t| (1..nekahuiro::limits::DEPTH_LIMIT as u8).contains(&state.depth[*t])).collect();
-        let parent = if rng.percent(75) { rng.pick(&live).copied() } else { None };
-        state.parent[t] = parent.map_or(31, |parent| parent as u8);
-        state.depth[t] = 1 + parent.map_or(0, |parent| state.depth[parent]);
-        state.line[t] = 1 << t | parent.map_or(0, |parent| state.line[parent]);
-    }
-    let live: Vec<usize> = (0..state.depth.len()).filter(|t| state.depth[*t] != 0).collect();
-    for r in 0..state.held.len() {
-        let Some(low) = rng.pick(&live).copied().filter(|_| rng.percent(60)) else { continue };
-        state.retained[r] = state.line[low] & rng.bits() as u32;
-        if rng.percent(50) {
-            state.held[r] = 1 << low;
-        }
-        state.writers[r] = (state.held[r] | state.retained[r]) & rng.bits() as u32;
-    }
-    state
 }
 
 /// The random source for a number of a test, which its salt tells from other tests.

@@ -2,7 +2,9 @@
 
 use nekahuiro_lists::stores::{self, Bytes};
 use nekahuiro_lists::Rng;
-use nekahuiro_trials::exhaustive::{Choice, Family, CONTENDED, CRASHING, INHERITED, NESTED, STRAY};
+use nekahuiro_trials::exhaustive::{
+    Choice, Family, CONTENDED, CRASHING, INHERITED, MODES, NESTED, SHARED, SHARED_PREFIX, STRAY,
+};
 use nekahuiro_trials::{settings, Program};
 use std::time::Instant;
 
@@ -53,4 +55,11 @@ fn longer_lists_of_accepted_events() {
     }
     let prefix = "recover 63, begin none";
     play("inherited, accepted", committed(), INHERITED, prefix, 10, Choice::AcceptedButLast);
+}
+
+#[test]
+fn locks_to_read_and_to_write() {
+    play("shared, fresh", stores::fresh(), SHARED, SHARED_PREFIX, 4, Choice::Every);
+    play("shared, accepted", committed(), SHARED, SHARED_PREFIX, 6, Choice::AcceptedButLast);
+    play("modes, accepted", stores::fresh(), MODES, "recover 63, begin none", 8, Choice::AcceptedButLast);
 }

@@ -75,6 +75,7 @@ fn demand_3_alone_finds_wrong_programs() {
         Bug::HomeBeforeCommitPage,
         Bug::EmptiedTooEarly,
         Bug::AbortRestoresHome,
+        Bug::WriteUnderReadLock,
     ];
     for bug in wrong {
         let program = Program::Planted(bug);

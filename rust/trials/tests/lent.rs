@@ -6,7 +6,8 @@ use nekahuiro_lists::stores::{self, Bytes};
 use nekahuiro_lists::Rng;
 use nekahuiro_player::soundness::Fault;
 use nekahuiro_trials::lent::{self, Unsound};
-use nekahuiro_trials::portions::{any_state, mutate, rng, share, Board};
+use nekahuiro_trials::portions::{rng, share, Board};
+use nekahuiro_trials::states::{any_state, mutate};
 use nekahuiro_trials::{listed, random, settings};
 use std::collections::BTreeMap;
 use std::sync::Mutex;
@@ -33,6 +34,19 @@ fn judged(state: &State, work: &Work, store: &Bytes) -> Result<(), Unsound> {
 }
 
 const CHAIN: &str = "begin none, begin 0, begin 1, begin none";
+const FORK: &str = "begin none, begin 0, begin 0";
+
+/// A set in any mode, and the set in write mode.
+type Sets = (u32, u32);
+
+/// The lock of record 3: who retains it, who holds it, and who has a version.
+fn lock(state: &mut State, retained: Sets, held: Sets, writers: u32) {
+    (state.retained[6], state.retained[7]) = retained;
+    (state.held[6], state.held[7]) = held;
+    state.writers[3] = writers;
+}
+
+const NONE: Sets = (0, 0);
 
 const fn unsound(fault: Fault) -> Result<(), Unsound> {
     Err(Unsound::Facts(fault))
@@ -57,20 +71,53 @@ const ROWS: &[Row] = &[
     (CHAIN, |s| (s.parent[0], s.depth[0]) = (1, 3), unsound(Fault::Depth)),
     (DEEP, |_| (), Ok(())),
     (DEEP, |s| (s.parent[16], s.depth[16], s.line[16]) = (15, 17, 0x1FFFF), unsound(Fault::TooDeep)),
-    (CHAIN, |s| s.held[3] = 1 << 7, unsound(Fault::Holder)),
-    (CHAIN, |s| s.held[3] = 1 << 24, unsound(Fault::Holder)),
-    (CHAIN, |s| s.retained[3] = 1 << 7, unsound(Fault::Retainer)),
-    (CHAIN, |s| s.retained[15] = 1 << 31, unsound(Fault::Retainer)),
-    (CHAIN, |s| s.retained[3] = 0b0111, Ok(())),
-    (CHAIN, |s| s.retained[3] = 0b1001, unsound(Fault::Line)),
-    (CHAIN, |s| (s.retained[3], s.held[3]) = (0b0101, 0b0100), Ok(())),
-    (CHAIN, |s| s.held[3] = 0b0011, unsound(Fault::TwoHolders)),
-    (CHAIN, |s| (s.retained[3], s.held[3]) = (0b0101, 0b0010), unsound(Fault::Beneath)),
-    (CHAIN, |s| (s.retained[3], s.held[3]) = (0b0010, 0b1000), unsound(Fault::Beneath)),
-    (CHAIN, |s| (s.retained[3], s.writers[3]) = (0b0001, 0b0010), unsound(Fault::Version)),
-    (CHAIN, |s| (s.held[3], s.writers[2]) = (0b0001, 0b0001), unsound(Fault::Version)),
-    (CHAIN, |s| s.writers[3] = 1 << 9, unsound(Fault::Version)),
-    (CHAIN, |s| (s.retained[3], s.held[3], s.writers[3]) = (0b0011, 0b0100, 0b0111), Ok(())),
+    (CHAIN, |s| lock(s, NONE, (1 << 7, 0), 0), unsound(Fault::Holder)),
+    (CHAIN, |s| lock(s, NONE, (1 << 24, 1 << 24), 0), unsound(Fault::Holder)),
+    (CHAIN, |s| lock(s, (1 << 7, 0), NONE, 0), unsound(Fault::Retainer)),
+    (CHAIN, |s| lock(s, (1 << 31, 1 << 31), NONE, 0), unsound(Fault::Retainer)),
+    // Retainers: anywhere in read mode, but each on one line with those in write mode.
+    (CHAIN, |s| lock(s, (0b0111, 0b0111), NONE, 0), Ok(())),
+    (CHAIN, |s| lock(s, (0b1111, 0), NONE, 0), Ok(())),
+    (CHAIN, |s| lock(s, (0b0111, 0b0010), NONE, 0), Ok(())),
+    (CHAIN, |s| lock(s, (0b1001, 0b1001), NONE, 0), unsound(Fault::Line)),
+    (CHAIN, |s| lock(s, (0b1001, 0b0001), NONE, 0), unsound(Fault::Line)),
+    (CHAIN, |s| lock(s, (0b1001, 0b1000), NONE, 0), unsound(Fault::Line)),
+    (FORK, |s| lock(s, (0b0110, 0), NONE, 0), Ok(())),
+    (FORK, |s| lock(s, (0b0111, 0b0001), NONE, 0), Ok(())),
+    (FORK, |s| lock(s, (0b0110, 0b0010), NONE, 0), unsound(Fault::Line)),
+    // Holders: many in read mode, at or beneath all write-mode retainers.
+    (CHAIN, |s| lock(s, NONE, (0b1111, 0), 0), Ok(())),
+    (CHAIN, |s| lock(s, (0b0001, 0b0001), (0b0111, 0), 0), Ok(())),
+    (CHAIN, |s| lock(s, (0b0111, 0b0001), (0b0011, 0), 0), Ok(())),
+    (CHAIN, |s| lock(s, (0b0100, 0), (0b1011, 0), 0), Ok(())),
+    (FORK, |s| lock(s, (0b0001, 0b0001), (0b0110, 0), 0), Ok(())),
+    (CHAIN, |s| lock(s, (0b0010, 0b0010), (0b0101, 0), 0), unsound(Fault::Beneath)),
+    (CHAIN, |s| lock(s, (0b0101, 0b0101), (0b0010, 0), 0), unsound(Fault::Beneath)),
+    (CHAIN, |s| lock(s, (0b0010, 0b0010), (0b1000, 0), 0), unsound(Fault::Beneath)),
+    (CHAIN, |s| lock(s, (0b0010, 0b0010), (0b1000, 0b1000), 0), unsound(Fault::Beneath)),
+    // A write holder: alone, at or beneath every retainer.
+    (CHAIN, |s| lock(s, (0b0101, 0b0101), (0b0100, 0b0100), 0), Ok(())),
+    (CHAIN, |s| lock(s, (0b0011, 0), (0b0100, 0b0100), 0), Ok(())),
+    (CHAIN, |s| lock(s, NONE, (0b0011, 0b0011), 0), unsound(Fault::NotAlone)),
+    (CHAIN, |s| lock(s, NONE, (0b0011, 0b0010), 0), unsound(Fault::NotAlone)),
+    (CHAIN, |s| lock(s, NONE, (0b1010, 0b0010), 0), unsound(Fault::NotAlone)),
+    (CHAIN, |s| lock(s, (0b0100, 0), (0b0010, 0b0010), 0), unsound(Fault::WriterBeneath)),
+    (CHAIN, |s| lock(s, (0b1001, 0), (0b0010, 0b0010), 0), unsound(Fault::WriterBeneath)),
+    (CHAIN, |s| lock(s, (0b1000, 0), (0b0100, 0b0100), 0), unsound(Fault::WriterBeneath)),
+    // Versions: only of one who holds or retains in write mode.
+    (CHAIN, |s| lock(s, (0b0001, 0b0001), NONE, 0b0010), unsound(Fault::Version)),
+    (CHAIN, |s| (s.held[6], s.held[7], s.writers[2]) = (1, 1, 1), unsound(Fault::Version)),
+    (CHAIN, |s| lock(s, NONE, (0b0001, 0), 0b0001), unsound(Fault::Version)),
+    (CHAIN, |s| lock(s, (0b0011, 0b0001), NONE, 0b0010), unsound(Fault::Version)),
+    (CHAIN, |s| lock(s, NONE, NONE, 1 << 9), unsound(Fault::Version)),
+    (CHAIN, |s| lock(s, (0b0001, 0b0001), (0b0001, 0), 0b0001), Ok(())),
+    (CHAIN, |s| lock(s, (0b0001, 0), (0b0001, 0b0001), 0b0001), Ok(())),
+    (CHAIN, |s| lock(s, (0b0011, 0b0011), (0b0100, 0b0100), 0b0111), Ok(())),
+    // Write mode, but not any mode.
+    (CHAIN, |s| lock(s, NONE, (0, 0b0001), 0), ODD),
+    (CHAIN, |s| lock(s, (0, 0b0001), NONE, 0), ODD),
+    (CHAIN, |s| lock(s, (0b0001, 0b0001), (0, 0b0001), 0), ODD),
+    (CHAIN, |s| lock(s, (0b0001, 0b0011), (0b0010, 0b0010), 0), ODD),
     ("begin none", |s| s.up = 0, unsound(Fault::Down)),
     ("begin none, abort 0", |s| s.up = 0, Ok(())),
     ("begin none", |s| s.up = 2, ODD),
@@ -113,12 +160,13 @@ fn events_on(state: &State, rng: &mut Rng) -> Vec<u8> {
         let someone = rng.pick(&live).map_or(anyone, |live| live.number());
         let transaction = if rng.percent(85) { someone } else { anyone };
         let (record, offset, value) = (rng.below(records) as u8, rng.below(32) as u8, rng.byte());
+        let mode = rng.below(2) as u8;
         let count = if rng.percent(70) { 63 } else { rng.below(8) as u8 };
         let none = Fields::default();
         let fields = match rng.below(20) {
             0..=2 => Fields { kind: 1, transaction, ..none },
             3 => Fields { kind: 1, transaction: Transaction::NONE.number(), ..none },
-            4..=8 => Fields { kind: 2, transaction, record, ..none },
+            4..=8 => Fields { kind: 2, transaction, record, value: mode, ..none },
             9..=11 => Fields { kind: 3, transaction, record, offset, value, ..none },
             12..=13 => Fields { kind: 4, transaction, record, offset, ..none },
             14..=17 => Fields { kind: 5, transaction, count, ..none },
@@ -180,7 +228,7 @@ fn the_library_takes_exactly_what_the_judge_calls_sound_and_plays_on() {
     let sound = verdicts.get("Ok(())").copied().unwrap_or(0);
     println!("lent states: {structs} structs, {sound} sound, the others for {} reasons", verdicts.len() - 1);
     // Every clause was met, and a good part was sound.
-    assert!(structs < 2_000 || verdicts.len() >= 13, "{verdicts:?}");
+    assert!(structs < 2_000 || verdicts.len() >= 14, "{verdicts:?}");
     assert!(structs < 2_000 || sound * 5 > structs, "{verdicts:?}");
 }
 
@@ -200,15 +248,23 @@ fn random_bytes_are_hardly_ever_a_state() {
 
 #[test]
 fn a_state_tells_who_is_live_and_who_has_what() {
-    let (state, work) = after("begin none, begin 0, lock 1 3, write 1 3 2 A5, commit 1 63, begin 0, lock 1 3", |_| ());
+    let list = "begin none, begin 0, lock 1 3, write 1 3 2 A5, commit 1 63, begin 0, lock 1 3, \
+        read-lock 1 4, begin none, read-lock 2 4, commit 1 63, begin 0, read-lock 1 4, read-lock 1 3";
+    let (state, work) = after(list, |_| ());
     let record = Record::new(3).unwrap();
     let numbers = |who: Vec<Transaction>| who.into_iter().map(Transaction::number).collect::<Vec<u8>>();
     assert!(state.is_up());
-    assert_eq!(numbers(state.live().collect()), [0, 1]);
+    assert_eq!(numbers(state.live().collect()), [0, 1, 2]);
     assert_eq!(state.parent(Transaction::new(1).unwrap()), Transaction::new(0));
     assert_eq!(state.parent(Transaction::new(0).unwrap()), None);
     assert_eq!(numbers(state.holders(record).collect()), [1]);
+    assert_eq!(state.write_holders(record).count(), 0);
     assert_eq!(numbers(state.retainers(record).collect()), [0]);
+    assert_eq!(numbers(state.write_retainers(record).collect()), [0]);
+    let read = Record::new(4).unwrap();
+    assert_eq!(numbers(state.holders(read).collect()), [1, 2]);
+    assert_eq!(numbers(state.retainers(read).collect()), [0]);
+    assert_eq!((state.write_holders(read).count(), state.write_retainers(read).count()), (0, 0));
     assert_eq!(numbers(state.writers(record).collect()), [0]);
     assert_eq!(work.version(record, 1)[2], 0xA5);
     assert_eq!((work.version(record, 0), work.version(record, DEPTH_LIMIT as u8 + 1)), ([0; 32], [0; 32]));

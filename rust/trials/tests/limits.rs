@@ -42,12 +42,12 @@ fn header_and_wrapper_lay_out_the_state_alike() {
     let (fields, _) = after.split_once("} nekahuiro_state;").expect("the end of the state's struct");
     let mut at = 0;
     let mut laid_out = Vec::new();
-    for line in fields.lines().filter(|line| !line.trim().is_empty()) {
-        let (declared, _) = line.split_once(';').expect("a field");
+    for (declared, _) in fields.lines().filter_map(|line| line.split_once(';')) {
         let (kind, named) = declared.trim().split_once(' ').expect("a type and a name");
         let bytes = if kind == "uint32_t" { 4 } else { 1 };
+        let number = |factor: &str| factor.parse().unwrap_or_else(|_| defined(factor));
         let (name, length) = match named.trim_end_matches(']').split_once('[') {
-            Some((name, length)) => (name, length.parse().unwrap_or_else(|_| defined(length))),
+            Some((name, length)) => (name, length.split(" * ").map(number).product()),
             None => (named, 1),
         };
         laid_out.push((name, at, bytes * length));

@@ -6,7 +6,7 @@ use nekahuiro_history::{
     first_half, second_half, second_list, tell, tell_from, Earlier, End, Run, Transaction as Told,
 };
 use nekahuiro_lists::{stores, timing, worked, Rng};
-use nekahuiro_trials::exhaustive::NESTED;
+use nekahuiro_trials::exhaustive::{NESTED, SHARED, SHARED_PREFIX};
 use nekahuiro_trials::portions::{check_cut, rng, share, Board};
 use nekahuiro_trials::{lent, listed, random, settings, Case};
 use std::sync::atomic::{AtomicU64, Ordering};
@@ -73,13 +73,19 @@ fn a_chain_of_portions_is_longer_than_any_list() {
 
 #[test]
 fn short_lists_cut_at_every_place() {
-    let letters = listed::words(NESTED);
+    cut_at_every_place(NESTED, "recover 63, begin none, begin 0, lock 1 0");
+    cut_at_every_place(SHARED, SHARED_PREFIX);
+}
+
+/// Every list of three events over an alphabet, after a beginning, cut in two.
+fn cut_at_every_place(alphabet: &str, beginning: &str) {
+    let letters = listed::words(alphabet);
     let letters: Vec<&[u8]> = letters.chunks_exact(EVENT_BYTES).collect();
     let length = settings::length(3) as u32;
     let lists = (letters.len() as u64).pow(length);
     let failure = share(lists, |number| {
         let mut rng = rng(11, number);
-        let mut events = listed::words("recover 63, begin none, begin 0, lock 1 0");
+        let mut events = listed::words(beginning);
         for place in 0..length {
             let letter = number / (letters.len() as u64).pow(place) % letters.len() as u64;
             events.extend(letters[letter as usize]);
@@ -178,7 +184,9 @@ fn an_empty_portion_changes_nothing() {
 #[test]
 fn wrong_lengths_and_an_unsound_state_are_refused_in_order() {
     let list = [0x80, 0, 0x3F, 0, 0x1F, 0x80, 0, 0];
-    for (store, work) in [(1056, WORK_BYTES), (1055, WORK_BYTES), (1056, WORK_BYTES + 1), (0, 0), (2112, WORK_BYTES), (1056, 0)] {
+    for (store, work) in
+        [(1056, WORK_BYTES), (1055, WORK_BYTES), (1056, WORK_BYTES + 1), (0, 0), (2112, WORK_BYTES), (1056, 0)]
+    {
         for events in [0, 3, 4, 8] {
             for (answers, sound) in [(0, true), (1, true), (4, true), (0, false), (3, false), (9, false)] {
                 let mut state = State { up: if sound { 0 } else { 2 }, ..State::new() };

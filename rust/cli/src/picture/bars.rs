@@ -80,6 +80,7 @@ fn letters(event: Event) -> Option<(&'static str, String)> {
     Some(match event {
         Event::Begin { .. } => ("event", "B".to_string()),
         Event::Lock { record, .. } => ("event", format!("L{record}")),
+        Event::ReadLock { record, .. } => ("event", format!("L{record}r")),
         Event::Write { record, .. } => ("event", format!("W{record}")),
         Event::Read { record, .. } => ("event", format!("R{record}")),
         Event::Commit { .. } => ("end", "\u{2713}".to_string()),

@@ -3,6 +3,7 @@
 use super::layout::Scale;
 use super::svg::Svg;
 use super::Told;
+use crate::follow::{bearers_in_words, Bearers, Mode};
 use nekahuiro::limits::RECORDS;
 
 const ROW: f64 = 30.0;
@@ -12,8 +13,8 @@ struct Stretch {
     first: usize,
     /// One past the last event.
     end: usize,
-    /// Their numbers; empty for nobody.
-    who: String,
+    /// Who, and in which mode.
+    who: Bearers,
 }
 
 /// The lock of one record through a run.
@@ -29,10 +30,10 @@ pub struct Rows {
 }
 
 /// Lengthens the last stretch, or begins another.
-fn note(stretches: &mut Vec<Stretch>, at: usize, who: String) {
+fn note(stretches: &mut Vec<Stretch>, at: usize, who: &Bearers) {
     match stretches.last_mut() {
-        Some(last) if last.who == who => last.end = at + 1,
-        _ => stretches.push(Stretch { first: at, end: at + 1, who }),
+        Some(last) if last.who == *who => last.end = at + 1,
+        _ => stretches.push(Stretch { first: at, end: at + 1, who: who.clone() }),
     }
 }
 
@@ -46,9 +47,8 @@ impl Rows {
                 follower.event(*event, *answer);
             }
             for (row, lock) in rows.iter_mut().zip(&follower.locks) {
-                let retainers: Vec<String> = lock.retainers.iter().map(u8::to_string).collect();
-                note(&mut row.held, at, lock.holder.map(|holder| holder.to_string()).unwrap_or_default());
-                note(&mut row.retained, at, retainers.join(" "));
+                note(&mut row.held, at, &lock.holders);
+                note(&mut row.retained, at, &lock.retainers);
             }
         }
         let used = |row: &Row| row.held.iter().chain(&row.retained).any(|stretch| !stretch.who.is_empty());
@@ -73,14 +73,23 @@ impl Rows {
 }
 
 impl Stretch {
-    fn draw(&self, svg: &mut Svg, scale: &Scale, y: f64, class: &str) {
+    fn draw(&self, svg: &mut Svg, scale: &Scale, y: f64, what: &str) {
         if self.who.is_empty() {
             return;
         }
+        let to_read = self.who.values().all(|mode| *mode == Mode::Read);
+        let class = if to_read { format!("{what}-to-read") } else { what.to_string() };
         let (left, right) = (scale.left(self.first), scale.left(self.end));
-        svg.rect(left, y, right - left - 1.0, 12.0, class, &format!("{class} by {}", self.who));
-        if right - left > 4.0 + 6.0 * self.who.len() as f64 {
-            svg.text((left + right) / 2.0, y + 9.5, &format!("{class}-by"), &self.who);
+        svg.rect(left, y, right - left - 1.0, 12.0, &class, &bearers_in_words(what, &self.who));
+        let label = self.label();
+        if right - left > 4.0 + 6.0 * label.len() as f64 {
+            svg.text((left + right) / 2.0, y + 9.5, &format!("{what}-by"), &label);
         }
+    }
+
+    /// Their numbers, those that may only read with an r.
+    fn label(&self) -> String {
+        let short = |(t, mode): (&u8, &Mode)| format!("{t}{}", if *mode == Mode::Read { "r" } else { "" });
+        self.who.iter().map(short).collect::<Vec<_>>().join(" ")
     }
 }

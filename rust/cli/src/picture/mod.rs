@@ -46,7 +46,7 @@ impl Told<'_> {
 const TITLE: f64 = 30.0;
 const AXIS: f64 = 44.0;
 const CRASH_LABEL: f64 = 28.0;
-const LEGEND: f64 = 58.0;
+const LEGEND: f64 = 74.0;
 const LEAST_WIDTH: f64 = 900.0;
 
 /// Draws a run.
@@ -138,18 +138,21 @@ fn legend(svg: &mut Svg, told: &Told, scale: &Scale, top: f64) {
         entry(svg, "undecided", "undecided");
     }
     entry(svg, "held", "lock held by");
+    entry(svg, "held-to-read", "0r: to read");
     entry(svg, "retained", "lock retained by");
     entry(svg, "up", "store up");
     entry(svg, "down", "store down");
     let letters = [
-        "L lock, W write, R read, each with its record",
+        "L lock, W write, R read, each with its record; L3r: only to read",
         "struck through: refused",
         "\u{2713} commit",
         "\u{2717} abort",
-        "red line: crash; cut at 2: after 2 page writes",
     ];
-    let marks = ["black: an event of the transaction", "red: a refused one", "red line: crash"];
-    let nesting = ["a bar inside a bar is a child", "dashed: still live"];
+    let marks = ["black: an event of the transaction", "red: a refused one"];
+    let crash =
+        if scale.has_room_for_text() { "red line: crash; cut at 2: after 2 page writes" } else { "red line: crash" };
+    let lines = [crash, "a bar inside a bar is a child", "dashed: still live"];
     let signs = if scale.has_room_for_text() { &letters[..] } else { &marks[..] };
-    svg.text(16.0, top + 30.0, "legend", &[signs, &nesting].concat().join(" \u{b7} "));
+    svg.text(16.0, top + 30.0, "legend", &signs.join(" \u{b7} "));
+    svg.text(16.0, top + 46.0, "legend", &lines.join(" \u{b7} "));
 }
