@@ -1,0 +1,12 @@
+-- The number that came in.
+use mathlib.Core.Path.{refl}
+use Rattle.age.proofs.Limit.new.Statement.{statement}
+use Rattle.age.proofs.Limit.new.Tie as tie
+use Rattle.age.proofs.Limit.new.Reads as reads
+use Rattle.age.proofs.Limit.new.Lts as lts
+
+returns : tie.Need-returns
+returns c = refl
+
+pub new-spec : {M : Type 1} → statement M
+new-spec = tie.close (tie.spec returns)

@@ -1,0 +1,12 @@
+-- The number that came in.
+use mathlib.Core.Path.{refl}
+use Rattle.age.proofs.Reading.new.Statement.{statement}
+use Rattle.age.proofs.Reading.new.Tie as tie
+use Rattle.age.proofs.Reading.new.Reads as reads
+use Rattle.age.proofs.Reading.new.Lts as lts
+
+returns : tie.Need-returns
+returns c = refl
+
+pub new-spec : {M : Type 1} → statement M
+new-spec = tie.close (tie.spec returns)
