@@ -1,7 +1,7 @@
 -- The clauses of soundness, said of the arrays themselves: of one transaction number, of one lock, of one transaction and one lock, of the flag
 -- and the commit page.
 use mathlib.Core.Path.{_≡_}
-use mathlib.Core.Bool.{Bool, true, false, not, _||_}
+use mathlib.Core.Bool.{Bool, true, false, _||_}
 use mathlib.Core.List.{List}
 use mathlib.Core.Logic.{_⊎_}
 use Prim.Native.Nat.{ℕ, suc, _<_, _≤_}
