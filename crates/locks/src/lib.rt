@@ -66,7 +66,8 @@ pub fn lock(
     ensures { λ a. ⌜ Granting (accessWhen reading) (sets (now (line .entry)) t) (now (held .entry)) (now (retained .entry)) t r a (now (held .exit)) ⌝ }
 {
     let k = barring_place(r, reading);
-    let free = sets::within(held[k], sets::single(t));
+    let own = sets::single(t);
+    let free = sets::within(held[k], own);
     let above = sets::within(retained[k], line[t as usize]);
     let ok = free & above;
     if ok {
