@@ -36,8 +36,8 @@ pub fn holds_writing(held: &[u32; 32], t: u8, r: usize) -> bool
     requires { ⌜ (t < 24) × (r < 16) ⌝ }
     ensures { λ a. ⌜ a ≡ writeMode (sets (now (held .entry))) r t ⌝ }
 {
-    let write = 2 * r + 1;
-    sets::contains(held[write], t)
+    let writing = 2 * r + 1;
+    sets::contains(held[writing], t)
 }
 
 // t now holds the lock of record r, in write mode unless it asked to read.
