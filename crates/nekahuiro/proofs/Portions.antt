@@ -20,9 +20,9 @@ use Rattle.events.specs.Whole.{Formed, Intact, lineIn}
 use Rattle.engine.specs.Portion as engine
 use Rattle.engine.specs.Portion.{whole, played}
 use Rattle.engine.specs.declared.Engine.{Engine}
-use Rattle.soundness.specs.Decides.{Decides}
+use Rattle.clauses.specs.Decides.{Decides}
 use Rattle.soundness.specs.Encoded.{Encoded, Sized}
-use Rattle.soundness.proofs.Decides.{decides-as, decides-and, decides-same}
+use Rattle.clauses.proofs.Decides.{decides-as, decides-and, decides-same}
 use Rattle.lengths.specs.Lengths.{lengthsRefused, refusalNumber}
 use Rattle.nekahuiro.specs.Portions.{Kept, kept, view, Proper, Portioned-as}
 use Rattle.nekahuiro.specs.declared.Portioned.{Portioned}

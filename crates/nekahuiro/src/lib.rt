@@ -12,7 +12,7 @@ ghost use Rattle.nekahuiro.specs.Running.{Ran};
 ghost use Rattle.nekahuiro.specs.Portions.{Kept, kept, Portioned-as};
 ghost use Rattle.events.specs.Whole.{Intact};
 ghost use Rattle.engine.specs.Portion.{whole};
-ghost use Rattle.soundness.specs.Decides.{Decides};
+ghost use Rattle.clauses.specs.Decides.{Decides};
 use engine::Engine;
 
 const STORE: usize = 1056;

@@ -18,7 +18,7 @@ use Rattle.sets.proofs.Sets.{sets-past}
 use Rattle.arrays.specs.View.{bearersOf, anyMode, writeMode, Nested}
 use Rattle.arrays.proofs.View.{free-is, deep-is, some-is}
 use Rattle.arrays.proofs.Modes.{lock-is, writing-is}
-use Rattle.soundness.specs.Clauses.{Locks, ShareOf, Shares}
+use Rattle.clauses.specs.Clauses.{Locks, ShareOf, Shares}
 use Rattle.soundness.specs.Encoded.{stateOf}
 
 -- a set that isn't empty is one of the array's

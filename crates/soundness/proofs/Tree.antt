@@ -17,9 +17,9 @@ use Rattle.rules.proofs.Locks.{rooted-of}
 use Rattle.sets.specs.Sets.{sets}
 use Rattle.arrays.specs.View.{bearerAt, bearersOf}
 use Rattle.arrays.proofs.View.{depth-is, active-is, deep-is}
-use Rattle.soundness.specs.Clauses.{Entry, Entries}
+use Rattle.clauses.specs.Clauses.{Entry, Entries}
 use Rattle.soundness.specs.Encoded.{stateOf}
-use Rattle.soundness.proofs.Words.{no-bits}
+use Rattle.clauses.proofs.Words.{no-bits}
 
 active-at : (q c p d : ℕ) → bearerAt q c ≡ active p d → (q ≡ p) × (c ≡ d) × (0 < c)
 unfolding bearerAt

@@ -21,7 +21,7 @@ use Rattle.arrays.specs.View.{bearersOf, anyMode, writeMode, modesOf, Nested}
 use Rattle.arrays.proofs.View.{depth-is, parent-is, some-is}
 use Rattle.arrays.proofs.Modes.{lock-is, writing-is}
 use Rattle.soundness.specs.Encoded.{stateOf, Encoded, Sized, Alike}
-use Rattle.soundness.proofs.Words.{bits-same}
+use Rattle.clauses.proofs.Words.{bits-same}
 
 same-sets : (l m : List ℕ) → length l ≡ length m → sets l ≡ sets m → l ≡ m
 unfolding sets

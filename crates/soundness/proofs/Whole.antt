@@ -19,10 +19,10 @@ use Rattle.sets.specs.Sets.{sets}
 use Rattle.arrays.specs.View.{bearersOf, writeMode, slot, versionsOf}
 use Rattle.arrays.proofs.View.{depth-is, deep-is, active-is, idle-is, some-is}
 use Rattle.arrays.proofs.Modes.{lock-is, writing-is}
-use Rattle.soundness.specs.Decides.{Decides}
-use Rattle.soundness.specs.Clauses.{Entry, Entries, Locks, Shares, Phase}
+use Rattle.clauses.specs.Decides.{Decides}
+use Rattle.clauses.specs.Clauses.{Entry, Entries, Locks, Shares, Phase}
 use Rattle.soundness.specs.Encoded.{stateOf, Encoded, Sized}
-use Rattle.soundness.proofs.Decides.{decides-as, decides-and}
+use Rattle.clauses.proofs.Decides.{decides-as, decides-and}
 use Rattle.soundness.proofs.Tree.{below, everywhere, tree-rooted, tree-lines, tree-parented, tree-shallow, entry-of}
 use Rattle.soundness.proofs.Locks.{living, Locked, in-range, locked-by, shares-of, locks-of, locked-of}
 

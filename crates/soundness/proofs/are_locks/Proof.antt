@@ -5,14 +5,14 @@ use borrow.Author.Needs.{needs}
 use Rattle.laws.specs.Bits.{bits}
 use Rattle.sets.specs.Sets.{sets}
 use Rattle.arrays.specs.View.{anyMode, writeMode}
-use Rattle.soundness.specs.Decides.{Decides}
-use Rattle.soundness.specs.Clauses.{LockOf}
-use Rattle.soundness.proofs.Decides.{decides-none, decides-more, decides-bound}
+use Rattle.clauses.specs.Decides.{Decides}
+use Rattle.clauses.specs.Clauses.{LockOf}
+use Rattle.clauses.proofs.Decides.{decides-none, decides-more, decides-bound}
 use Rattle.soundness.proofs.are_locks.Statement.{statement}
 use Rattle.soundness.proofs.are_locks.Tie as tie
 use Rattle.soundness.proofs.are_locks.Reads as reads
 use Rattle.soundness.proofs.are_locks.Lts as lts
-use Rattle.soundness.proofs.is_lock.Reads as is-lock-reads
+use Rattle.shares.proofs.is_lock.Reads as is-lock-reads
 
 abbrev Inv-loop : tie.InvT-loop
 Inv-loop live held retained writers ok₀ r₀ ok r =

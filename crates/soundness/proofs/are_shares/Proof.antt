@@ -3,9 +3,9 @@ use Prim.Native.Nat.{ℕ, _-_, _<_, _≤_}
 use native.Mathlib.Omega.{arith}
 use lib.ListN.{getD}
 use borrow.Author.Needs.{needs}
-use Rattle.soundness.specs.Decides.{Decides}
-use Rattle.soundness.specs.Clauses.{SharesOf}
-use Rattle.soundness.proofs.Decides.{decides-none, decides-more, decides-bound}
+use Rattle.clauses.specs.Decides.{Decides}
+use Rattle.clauses.specs.Clauses.{SharesOf}
+use Rattle.clauses.proofs.Decides.{decides-none, decides-more, decides-bound}
 use Rattle.soundness.proofs.are_shares.Statement.{statement}
 use Rattle.soundness.proofs.are_shares.Tie as tie
 use Rattle.soundness.proofs.are_shares.Reads as reads

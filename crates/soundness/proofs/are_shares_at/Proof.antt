@@ -1,8 +1,8 @@
 -- A free number is passed over.
 use native.Mathlib.Omega.{arith}
 use borrow.Author.Needs.{needs}
-use Rattle.soundness.specs.Clauses.{SharesOf}
-use Rattle.soundness.proofs.Clauses.{free-share, live-share}
+use Rattle.clauses.specs.Clauses.{SharesOf}
+use Rattle.clauses.proofs.Clauses.{free-share, live-share}
 use Rattle.soundness.proofs.are_shares_at.Statement.{statement}
 use Rattle.soundness.proofs.are_shares_at.Tie as tie
 use Rattle.soundness.proofs.are_shares_at.Reads as reads

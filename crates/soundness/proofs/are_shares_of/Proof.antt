@@ -8,14 +8,14 @@ use borrow.Author.Needs.{needs}
 use Rattle.laws.specs.Bits.{bits}
 use Rattle.sets.specs.Sets.{sets}
 use Rattle.arrays.specs.View.{anyMode, writeMode}
-use Rattle.soundness.specs.Decides.{Decides}
-use Rattle.soundness.specs.Clauses.{Share, ShareOf}
-use Rattle.soundness.proofs.Decides.{decides-none, decides-more, decides-bound}
+use Rattle.clauses.specs.Decides.{Decides}
+use Rattle.clauses.specs.Clauses.{Share, ShareOf}
+use Rattle.clauses.proofs.Decides.{decides-none, decides-more, decides-bound}
 use Rattle.soundness.proofs.are_shares_of.Statement.{statement}
 use Rattle.soundness.proofs.are_shares_of.Tie as tie
 use Rattle.soundness.proofs.are_shares_of.Reads as reads
 use Rattle.soundness.proofs.are_shares_of.Lts as lts
-use Rattle.soundness.proofs.is_share.Reads as is-share-reads
+use Rattle.shares.proofs.is_share.Reads as is-share-reads
 use Rattle.transactions.proofs.descendants.Reads as descendants-reads
 
 abbrev Inv-loop : tie.InvT-loop

@@ -3,8 +3,8 @@ use mathlib.Core.Path.{subst}
 use mathlib.Core.Bool.{Bool}
 use Prim.Native.Nat.{ℕ}
 use borrow.Author.Needs.{needs}
-use Rattle.soundness.specs.Decides.{Decides}
-use Rattle.soundness.specs.Clauses.{Locks}
+use Rattle.clauses.specs.Decides.{Decides}
+use Rattle.clauses.specs.Clauses.{Locks}
 use Rattle.soundness.proofs.Whole.{whole-decided}
 use Rattle.soundness.proofs.is_sound.Statement.{statement}
 use Rattle.soundness.proofs.is_sound.Tie as tie
@@ -12,7 +12,7 @@ use Rattle.soundness.proofs.is_sound.Reads as reads
 use Rattle.soundness.proofs.is_sound.Lts as lts
 use Rattle.soundness.proofs.are_locks.Reads as are-locks-reads
 use Rattle.soundness.proofs.are_shares.Reads as are-shares-reads
-use Rattle.soundness.proofs.is_phase.Reads as is-phase-reads
+use Rattle.phase.proofs.is_phase.Reads as is-phase-reads
 use Rattle.soundness.proofs.is_tree.Reads as is-tree-reads
 use Rattle.transactions.proofs.live_set.Reads as live-set-reads
 

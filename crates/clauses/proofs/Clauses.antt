@@ -1,0 +1,149 @@
+-- The tests of the code decide the clauses.
+use mathlib.Core.Path.{_≡_, refl, sym, ap, _∙_, fun-ext}
+use mathlib.Core.Bool.{Bool, true, not, _&&_, _||_, true≢false}
+use mathlib.Core.List.{List}
+use mathlib.Core.Option.{Option, none, some}
+use native.Mathlib.Omega.{arith}
+use Prim.Native.Nat.{ℕ, _+_, _<_}
+use lib.Dec.{ltb, leb}
+use lib.Bits.{bitOr}
+use lib.ListN.{getD}
+use Rattle.laws.specs.Tests.{same}
+use Rattle.laws.specs.Counting.{all}
+use Rattle.laws.specs.Bits.{bits}
+use Rattle.laws.proofs.Bits.{bits-or}
+use Rattle.rules.specs.Store.{pagesOf, readCommit, isEmptied, emptied}
+use Rattle.rules.specs.Editions.{geometry1, depths}
+use Rattle.sets.specs.Sets.{sets}
+use Rattle.commitpage.specs.Heard.{heard}
+use Rattle.clauses.specs.Decides.{Decides}
+use Rattle.clauses.specs.Clauses.{Vacant, Seated, Entry, Within, Lock, Share, Phase}
+use Rattle.clauses.proofs.Decides.{decides-as, decides-by, decides-self, decides-and, decides-or, decides-if, decides-unless, decides-same, decides-less, decides-most, decides-within}
+use Rattle.clauses.proofs.Words.{decides-bits, no-bits}
+
+pub vacant-decided : (parent line : List ℕ) (t : ℕ) → Decides (same (getD parent t 0) 0 && same (getD line t 0) 0) (Vacant parent line t)
+unfolding sets
+vacant-decided parent line t =
+    decides-as (λ x. record { parentless = x .0; lineless = x .1 ∙ no-bits }) (λ v. (v .parentless, v .lineless ∙ sym no-bits))
+    (decides-and (decides-same (getD parent t 0) 0) (decides-bits (getD line t 0) 0))
+
+pub seated-decided : (parent depth line : List ℕ) (t d above own low due : ℕ) → d ≡ getD depth t 0 → above ≡ getD depth (getD parent t 0) 0
+    → own ≡ getD line t 0 → low ≡ getD line (getD parent t 0) 0 → bits due ≡ (λ u. bits low u || same u t)
+    → Decides ((((same (getD parent t 0) 31 || ltb 0 above) && same d (above + 1)) && leb d depths) && same own due) (Seated parent depth line t)
+unfolding sets
+seated-decided parent depth line t d above own low due e f g h k =
+    rw (e, f, g)
+    (decides-as
+    (λ x. record { parented = x .0 .0 .0; level = let l = x .0 .0 .1 in omega arith; shallow = x .0 .1; lined = x .1 ∙ due-is })
+    (λ s. (((s .parented, (let l = s .level in omega arith)), s .shallow), s .lined ∙ sym due-is))
+    (decides-and
+    (decides-and
+    (decides-and (decides-or (decides-same (getD parent t 0) 31) (decides-less 0 (getD depth (getD parent t 0) 0))) (decides-same (getD depth t 0) (getD depth (getD parent t 0) 0 + 1)))
+    (decides-most (getD depth t 0) depths))
+    (decides-bits (getD line t 0) due)))
+  where
+    due-is : bits due ≡ (λ u. bits (getD line (getD parent t 0) 0) u || same u t)
+    due-is = k ∙ ap {B = ℕ → Bool} (λ (x u : ℕ). bits x u || same u t) h
+
+pub entry-vacant : {b : Bool} (parent depth line : List ℕ) (t : ℕ) → getD depth t 0 ≡ 0 → Decides b (Vacant parent line t) → Decides b (Entry parent depth line t)
+entry-vacant parent depth line t e d = decides-as (λ v. record { vacant = λ z. v; seated = λ z. absurd (omega arith) }) (λ x. x .vacant e) d
+
+pub entry-seated : {b : Bool} (parent depth line : List ℕ) (t : ℕ) → 0 < getD depth t 0 → Decides b (Seated parent depth line t) → Decides b (Entry parent depth line t)
+entry-seated parent depth line t e d = decides-as (λ s. record { vacant = λ z. absurd (omega arith); seated = λ z. s }) (λ x. x .seated e) d
+
+-- a word's set is within that of another, of which more is known
+within-as : {b : Bool} (v w : ℕ) (s : ℕ → Bool) → bits w ≡ s → b ≡ all 24 (λ k. not (bits v k) || bits w k) → Decides b (Within (bits v) s)
+within-as v w s e q = decides-within 24 (bits v) s (q ∙ ap (λ (f : ℕ → Bool). all 24 (λ k. not (bits v k) || f k)) e)
+
+within-word : {b : Bool} (v w : ℕ) → b ≡ all 24 (λ k. not (bits v k) || bits w k) → Decides b (Within (bits v) (bits w))
+within-word v w q = within-as v w (bits w) refl q
+
+within-either : {b : Bool} (v w x : ℕ) → b ≡ all 24 (λ k. not (bits v k) || bits (bitOr w x) k) → Decides b (Within (bits v) (λ k. bits w k || bits x k))
+within-either v w x q = within-as v (bitOr w x) (λ k. bits w k || bits x k) (fun-ext (bits-or w x)) q
+
+-- the members of five sets joined bear transaction numbers
+numbered-decided : {b : Bool} (v w x y z : ℕ) → Decides b ((u : ℕ) → bits (bitOr (bitOr (bitOr (bitOr v w) x) y) z) u ≡ true → u < 24)
+    → Decides b ((u : ℕ) → ((((bits v u || bits w u) || bits x u) || bits y u) || bits z u) ≡ true → u < 24)
+numbered-decided v w x y z d = decides-as (λ f u e. f u (joined u ∙ e)) (λ f u e. f u (sym (joined u) ∙ e)) d
+  where
+    joined : (u : ℕ) → bits (bitOr (bitOr (bitOr (bitOr v w) x) y) z) u ≡ ((((bits v u || bits w u) || bits x u) || bits y u) || bits z u)
+    joined u =
+        bits-or (bitOr (bitOr (bitOr v w) x) y) z u
+        ∙ ap (λ (b : Bool). b || bits z u) (bits-or (bitOr (bitOr v w) x) y u
+        ∙ ap (λ (b : Bool). b || bits y u) (bits-or (bitOr v w) x u ∙ ap (λ (b : Bool). b || bits x u) (bits-or v w u)))
+
+pub lock-decided : (live held heldWriting retained retainedWriting writers : ℕ) {numbered holders retainers helds retaineds versions : Bool}
+    → Decides numbered ((u : ℕ) → bits (bitOr (bitOr (bitOr (bitOr held heldWriting) retained) retainedWriting) writers) u ≡ true → u < 24)
+    → holders ≡ all 24 (λ k. not (bits held k) || bits live k)
+    → retainers ≡ all 24 (λ k. not (bits retained k) || bits live k)
+    → helds ≡ all 24 (λ k. not (bits heldWriting k) || bits held k)
+    → retaineds ≡ all 24 (λ k. not (bits retainedWriting k) || bits retained k)
+    → versions ≡ all 24 (λ k. not (bits writers k) || bits (bitOr heldWriting retainedWriting) k)
+    → Decides (((((numbered && holders) && retainers) && helds) && retaineds) && versions)
+    (Lock (bits live) (bits held) (bits heldWriting) (bits retained) (bits retainedWriting) (bits writers))
+lock-decided live held heldWriting retained retainedWriting writers n a b c d e =
+    decides-as
+    (λ x. record {
+      numbered = x .0 .0 .0 .0 .0;
+      holders-live = x .0 .0 .0 .0 .1;
+      retainers-live = x .0 .0 .0 .1;
+      held-nested = x .0 .0 .1;
+      retained-nested = x .0 .1;
+      by-lock = x .1;
+    })
+    (λ l. (((((l .numbered, l .holders-live), l .retainers-live), l .held-nested), l .retained-nested), l .by-lock))
+    (decides-and
+    (decides-and
+    (decides-and
+    (decides-and
+    (decides-and (numbered-decided held heldWriting retained retainedWriting writers n) (within-word held live a))
+    (within-word retained live b))
+    (within-word heldWriting held c))
+    (within-word retainedWriting retained d))
+    (within-either writers heldWriting retainedWriting e))
+
+pub share-decided : (above beneath held heldWriting retained retainedWriting t one : ℕ) {holds writes retains belowWriters alone belowAll aligned : Bool}
+    → holds ≡ bits held t → writes ≡ bits heldWriting t → retains ≡ bits retained t → bits one ≡ (λ k. same k t)
+    → belowWriters ≡ all 24 (λ k. not (bits retainedWriting k) || bits above k)
+    → alone ≡ all 24 (λ k. not (bits held k) || bits one k)
+    → belowAll ≡ all 24 (λ k. not (bits retained k) || bits above k)
+    → aligned ≡ all 24 (λ k. not (bits retainedWriting k) || bits (bitOr above beneath) k)
+    → Decides
+    ((((not holds || belowWriters) && (not writes || alone)) && (not writes || belowAll)) && (not retains || aligned))
+    (Share (bits above) (bits beneath) (bits held) (bits heldWriting) (bits retained) (bits retainedWriting) t)
+share-decided above beneath held heldWriting retained retainedWriting t one e f g o a b c d =
+    rw (e, f, g)
+    (decides-as
+    (λ x. record { holder-beneath = x .0 .0 .0; writer-alone = x .0 .0 .1; writer-beneath = x .0 .1; on-one-line = x .1 })
+    (λ s. (((s .holder-beneath, s .writer-alone), s .writer-beneath), s .on-one-line))
+    (decides-and
+    (decides-and
+    (decides-and
+    (decides-if (bits held t) (within-word retainedWriting above a))
+    (decides-if (bits heldWriting t) (within-as held one (λ k. same k t) o b)))
+    (decides-if (bits heldWriting t) (within-word retained above c)))
+    (decides-if (bits retained t) (within-either retainedWriting above beneath d))))
+
+-- a free number has nothing to be looked at
+pub free-share : {P : Type 0} (depth : List ℕ) (t : ℕ) → getD depth t 0 ≡ 0 → Decides true (0 < getD depth t 0 → P)
+free-share depth t e = record { yes = λ z h. absurd (omega arith); no = λ z f. true≢false z }
+
+pub live-share : {b : Bool} {P : Type 0} (depth : List ℕ) (t : ℕ) → 0 < getD depth t 0 → Decides b P → Decides b (0 < getD depth t 0 → P)
+live-share depth t h d = decides-as (λ p z. p) (λ f. f h) d
+
+empty-is : (o : Option ℕ) → (heard o .good && same (heard o .map) 0) ≡ isEmptied o
+unfolding heard isEmptied
+empty-is none = refl
+empty-is (some m) = refl
+
+pub phase-decided : (up : ℕ) (depth store : List ℕ) (idle good : Bool) (map : ℕ) → Decides idle ((t : ℕ) → t < 24 → getD depth t 0 ≡ 0)
+    → good ≡ heard (readCommit geometry1 (pagesOf store 0)) .good → map ≡ heard (readCommit geometry1 (pagesOf store 0)) .map
+    → Decides ((leb up 1 && (same up 1 || idle)) && (not (same up 1) || (good && same map 0))) (Phase up depth store)
+unfolding emptied
+phase-decided up depth store idle good map d g m =
+    decides-as
+    (λ x. record { flag = x .0 .0; idle = x .0 .1; calm = x .1 })
+    (λ p. ((p .flag, p .idle), p .calm))
+    (decides-and
+    (decides-and (decides-most up 1) (decides-unless (same up 1) d))
+    (decides-if (same up 1) (decides-by (rw (g, m) (empty-is (readCommit geometry1 (pagesOf store 0)))) (decides-self (isEmptied (readCommit geometry1 (pagesOf store 0)))))))

@@ -1,0 +1,4 @@
+-- Laws of tests that decide statements.
+pub mod Decides
+pub mod Words
+pub mod Clauses

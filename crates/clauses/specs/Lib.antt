@@ -1,0 +1,3 @@
+-- What it is to decide a statement; the clauses of soundness.
+pub mod Decides
+pub mod Clauses

@@ -1,0 +1,62 @@
+// Whether the sets of one lock fit each other, and what one transaction has of it fits what others have.
+ghost use mathlib.Core.Path.{_≡_};
+ghost use mathlib.Core.Bool.{true};
+ghost use Prim.Native.Nat.{ℕ, _<_};
+ghost use Rattle.laws.specs.Bits.{bits};
+ghost use Rattle.rules.specs.Geometry.{transactions};
+ghost use Rattle.clauses.specs.Decides.{Decides};
+ghost use Rattle.clauses.specs.Clauses.{Lock, Share};
+
+// The set has transaction numbers only.
+fn is_set(s: u32) -> bool
+    ensures { λ r. ⌜ Decides r ((t : ℕ) → bits s t ≡ true → t < transactions) ⌝ }
+{
+    s / 16777216 == 0
+}
+
+// The sets of one lock fit each other: transaction numbers, live, write mode within any mode, versions only in write mode.
+pub fn is_lock(
+    live: u32,
+    held: u32,
+    held_writing: u32,
+    retained: u32,
+    retained_writing: u32,
+    writers: u32,
+) -> bool
+    ensures { λ r. ⌜ Decides r (Lock (bits live) (bits held) (bits «held_writing») (bits retained) (bits «retained_writing») (bits writers)) ⌝ }
+{
+    let numbered = is_set(held | held_writing | retained | retained_writing | writers);
+    let holders_live = sets::within(held, live);
+    let retainers_live = sets::within(retained, live);
+    let held_nested = sets::within(held_writing, held);
+    let retained_nested = sets::within(retained_writing, retained);
+    let by_lock = sets::within(writers, held_writing | retained_writing);
+    numbered & holders_live & retainers_live & held_nested & retained_nested & by_lock
+}
+
+// What t has of one lock goes with what others have, by the transactions at or above t and at or beneath it.
+pub fn is_share(
+    above: u32,
+    beneath: u32,
+    held: u32,
+    held_writing: u32,
+    retained: u32,
+    retained_writing: u32,
+    t: u8,
+) -> bool
+    requires { ⌜ t < 24 ⌝ }
+    ensures { λ r. ⌜ Decides r (Share (bits above) (bits beneath) (bits held) (bits «held_writing») (bits retained) (bits «retained_writing») t) ⌝ }
+{
+    let holds = sets::contains(held, t);
+    let writes = sets::contains(held_writing, t);
+    let retains = sets::contains(retained, t);
+    let below_writers = sets::within(retained_writing, above);
+    let alone = sets::within(held, sets::single(t));
+    let below_all = sets::within(retained, above);
+    let aligned = sets::within(retained_writing, above | beneath);
+    let holder_beneath = !holds | below_writers;
+    let writer_alone = !writes | alone;
+    let writer_beneath = !writes | below_all;
+    let on_one_line = !retains | aligned;
+    holder_beneath & writer_alone & writer_beneath & on_one_line
+}
