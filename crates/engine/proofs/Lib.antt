@@ -1,4 +1,3 @@
 -- The arguments about events in a row.
 pub mod ByKind
 pub mod Numbers
-pub mod Playing

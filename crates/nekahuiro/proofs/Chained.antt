@@ -25,7 +25,7 @@ use Rattle.rules.proofs.Calls.{AsChain, calls-chain}
 use Rattle.history.specs.Called.{Starts, Demand-3-called-holds}
 use Rattle.history.proofs.Called.{demand-3-called}
 use Rattle.events.specs.Whole as events
-use Rattle.events.proofs.Falls.{zeros-down, zeros-formed}
+use Rattle.crashes.proofs.Falls.{zeros-down, zeros-formed}
 use Rattle.engine.proofs.ByKind.{laws1, shaped-of}
 use Rattle.soundness.proofs.Unique.{encoding-unique}
 use Rattle.nekahuiro.specs.Portions.{Kept, kept, view, bytes, Proper, zeros}

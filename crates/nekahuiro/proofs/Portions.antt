@@ -17,9 +17,9 @@ use Rattle.rules.specs.Editions.{edition1, workBytes}
 use Rattle.rules.proofs.Portions.{Case, plays, refuses, case?, lengths-first, unsound-refused, sound-played}
 use Rattle.events.specs.Whole as events
 use Rattle.events.specs.Whole.{Formed, Intact, lineIn}
-use Rattle.engine.specs.Portion as engine
-use Rattle.engine.specs.Portion.{whole, played}
-use Rattle.engine.specs.declared.Engine.{Engine}
+use Rattle.portions.specs.Portion as engine
+use Rattle.portions.specs.Portion.{whole, played}
+use Rattle.portions.specs.declared.Engine.{Engine}
 use Rattle.clauses.specs.Decides.{Decides}
 use Rattle.soundness.specs.Encoded.{Encoded, Sized}
 use Rattle.clauses.proofs.Decides.{decides-as, decides-and, decides-same}

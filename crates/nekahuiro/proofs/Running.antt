@@ -14,8 +14,8 @@ use Rattle.rules.specs.Editions.{geometry1, edition1}
 use Rattle.history.specs.Demand3.{Demand-3, Demand-3-holds, Plays}
 use Rattle.history.proofs.Demand3.{demand-3-edition1}
 use Rattle.events.specs.Whole.{Arrays, view}
-use Rattle.engine.specs.Portion.{whole, played, Portion}
-use Rattle.engine.specs.declared.Engine.{Engine}
+use Rattle.portions.specs.Portion.{whole, played, Portion}
+use Rattle.portions.specs.declared.Engine.{Engine}
 use Rattle.lengths.specs.Lengths.{lengthsRefused, refusalNumber}
 use Rattle.lengths.proofs.Lengths.{by-lengths, lengths-of}
 use Rattle.nekahuiro.specs.Running.{Ran}

@@ -8,8 +8,8 @@ use Rattle.rules.specs.Calls.{Call, Promised}
 use Rattle.rules.specs.Editions.{edition1}
 use Rattle.events.specs.Whole as events
 use Rattle.events.specs.Whole.{Formed}
-use Rattle.engine.specs.Portion.{whole}
-use Rattle.engine.specs.declared.Engine.{Engine}
+use Rattle.portions.specs.Portion.{whole}
+use Rattle.portions.specs.declared.Engine.{Engine}
 
 -- what is lent as a state, the working buffer and the store
 pub record Kept : Type 0 where

@@ -11,9 +11,9 @@ ghost use Rattle.records.specs.Ages.{ageNumber, ageLeft};
 ghost use Rattle.nekahuiro.specs.Running.{Ran};
 ghost use Rattle.nekahuiro.specs.Portions.{Kept, kept, Portioned-as};
 ghost use Rattle.events.specs.Whole.{Intact};
-ghost use Rattle.engine.specs.Portion.{whole};
+ghost use Rattle.portions.specs.Portion.{whole};
 ghost use Rattle.clauses.specs.Decides.{Decides};
-use engine::Engine;
+use portions::Engine;
 
 const STORE: usize = 1056;
 
@@ -70,7 +70,7 @@ pub extern "C" fn nekahuiro_run(
     if n != 0 {
         return n;
     }
-    engine::portion(engine::start(), store, events, work, answers);
+    portions::portion(portions::start(), store, events, work, answers);
     0
 }
 
@@ -141,7 +141,7 @@ fn portion_of(
         return refused(e, m);
     }
     if is_state(e, &store[..]) {
-        let after = engine::portion(e, store, events, work, answers);
+        let after = portions::portion(e, store, events, work, answers);
         return Portioned {
             engine: after,
             number: 0,

@@ -18,7 +18,7 @@ use Rattle.engine.proofs.named_event.Reads as reads
 use Rattle.engine.proofs.named_event.Lts as lts
 use Rattle.engine.proofs.record_event.Reads as record-event-reads
 use Rattle.events.proofs.abort_event.Reads as abort-event-reads
-use Rattle.events.proofs.commit_event.Reads as commit-event-reads
+use Rattle.commits.proofs.commit_event.Reads as commit-event-reads
 use Rattle.numbers.proofs.RecordNumber.checked.Reads as checked-reads
 
 cast-if1 : tie.Need-cast-if1

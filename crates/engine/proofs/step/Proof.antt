@@ -20,9 +20,9 @@ use Rattle.engine.proofs.step.Tie as tie
 use Rattle.engine.proofs.step.Reads as reads
 use Rattle.engine.proofs.step.Lts as lts
 use Rattle.engine.proofs.named_event.Reads as named-event-reads
-use Rattle.events.proofs.begin_event.Reads as begin-event-reads
-use Rattle.events.proofs.crash_event.Reads as crash-event-reads
-use Rattle.events.proofs.recover_event.Reads as recover-event-reads
+use Rattle.begins.proofs.begin_event.Reads as begin-event-reads
+use Rattle.crashes.proofs.crash_event.Reads as crash-event-reads
+use Rattle.crashes.proofs.recover_event.Reads as recover-event-reads
 use Rattle.numbers.proofs.TransactionNumber.checked.Reads as checked-reads
 
 returns : tie.Need-returns

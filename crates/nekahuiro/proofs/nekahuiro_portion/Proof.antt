@@ -41,10 +41,10 @@ use denote.Triple.Walked.{says, Stays, stay-ref, stay-dropped, gave-slice, walkO
 use denote.Triple.Clauses.{ensured, lasts}
 use denote.Exit.{yes}
 use Rattle.nekahuiro.specs.Portions.{kept, Portioned-as}
-use Rattle.engine.specs.declared.Engine.{Engine}
+use Rattle.portions.specs.declared.Engine.{Engine}
 use Rattle.nekahuiro.specs.declared.Portioned.{Portioned}
-use Rattle.engine.proofs.Engine as D
-use Rattle.engine.proofs.Engine.Laws as D′
+use Rattle.portions.proofs.Engine as D
+use Rattle.portions.proofs.Engine.Laws as D′
 use Rattle.nekahuiro.proofs.Portioned as T
 use Rattle.nekahuiro.proofs.Portioned.Laws as T′
 use Rattle.nekahuiro.proofs.portion_of as by-value

@@ -8,8 +8,8 @@ use Rattle.nekahuiro.proofs.nekahuiro_run.Statement.{statement}
 use Rattle.nekahuiro.proofs.nekahuiro_run.Tie as tie
 use Rattle.nekahuiro.proofs.nekahuiro_run.Reads as reads
 use Rattle.nekahuiro.proofs.nekahuiro_run.Lts as lts
-use Rattle.engine.proofs.portion.Reads as portion-reads
-use Rattle.engine.proofs.start.Reads as start-reads
+use Rattle.portions.proofs.portion.Reads as portion-reads
+use Rattle.portions.proofs.start.Reads as start-reads
 use Rattle.lengths.proofs.refusal.Reads as refusal-reads
 
 -- src/lib.rt:185:9

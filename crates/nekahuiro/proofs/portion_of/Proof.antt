@@ -8,7 +8,7 @@ use Rattle.nekahuiro.proofs.portion_of.Statement.{statement}
 use Rattle.nekahuiro.proofs.portion_of.Tie as tie
 use Rattle.nekahuiro.proofs.portion_of.Reads as reads
 use Rattle.nekahuiro.proofs.portion_of.Lts as lts
-use Rattle.engine.proofs.portion.Reads as portion-reads
+use Rattle.portions.proofs.portion.Reads as portion-reads
 use Rattle.nekahuiro.proofs.is_state.Reads as is-state-reads
 use Rattle.lengths.proofs.refusal.Reads as refusal-reads
 use Rattle.nekahuiro.proofs.refused.Reads as refused-reads

@@ -1,0 +1,77 @@
+// A begin: under nobody at the top, or under a live transaction.
+ghost use mathlib.Core.Path.{_≡_};
+ghost use mathlib.Core.List.{List};
+ghost use mathlib.Core.Option.{Option, none, some};
+ghost use Prim.Native.Nat.{ℕ, _+_, _<_, _≤_};
+ghost use lib.ListN.{length, getD};
+ghost use Rattle.laws.specs.Bits.{bits};
+ghost use Rattle.rules.specs.Event.{begin};
+ghost use Rattle.rules.specs.Editions.{depths};
+ghost use Rattle.sets.specs.Sets.{sets};
+ghost use Rattle.events.specs.Whole.{Arrays, arrays, Intact, Stepped};
+use events::Answer;
+
+const DEPTH_LIMIT: u8 = page::DEPTHS as u8;
+
+// A transaction begins under p at depth d, whose line is given; p is a live transaction, or 31 at depth 0.
+fn begin_under(
+    parent: &mut [u8; 24],
+    depth: &mut [u8; 24],
+    line: &mut [u32; 24],
+    p: u8,
+    d: u8,
+    above: u32,
+) -> Answer
+    requires { ⌜ (d < depths) × (d ≡ getD (now depth) p 0) × (bits above ≡ sets (now line) p) × ((d ≡ 0) → p ≡ 31) ⌝ }
+    ensures { λ a. ⌜ ((up : ℕ) (held retained writers work store : List ℕ) → Intact (arrays up (now (parent .entry)) (now (depth .entry)) (now (line .entry)) held retained writers work store) → up ≡ 1 → Stepped (arrays up (now (parent .entry)) (now (depth .entry)) (now (line .entry)) held retained writers work store) (some (begin p)) a (arrays up (now (parent .exit)) (now (depth .exit)) (now (line .exit)) held retained writers work store)) ⌝ }
+{
+    let f = transactions::first_free(depth);
+    if f == 24 {
+        return Answer {
+            number: 7,
+            value: 0,
+        };
+    }
+    transactions::place(parent, depth, line, f, p, d + 1, above);
+    Answer {
+        number: 0,
+        value: f,
+    }
+}
+
+// A transaction begins: under 31 at the top, else under a live transaction above the depth limit.
+pub fn begin_event(
+    parent: &mut [u8; 24],
+    depth: &mut [u8; 24],
+    line: &mut [u32; 24],
+    p: u8,
+) -> Answer
+    requires { ⌜ (p < 32) × (length (now depth) ≡ 24) × (length (now line) ≡ 24) × ((k : ℕ) → getD (now depth) k 0 ≤ depths) ⌝ }
+    ensures { λ a. ⌜ ((up : ℕ) (held retained writers work store : List ℕ) → Intact (arrays up (now (parent .entry)) (now (depth .entry)) (now (line .entry)) held retained writers work store) → up ≡ 1 → Stepped (arrays up (now (parent .entry)) (now (depth .entry)) (now (line .entry)) held retained writers work store) (some (begin p)) a (arrays up (now (parent .exit)) (now (depth .exit)) (now (line .exit)) held retained writers work store)) ⌝ }
+{
+    if p == 31 {
+        return begin_under(parent, depth, line, 31, 0, 0);
+    }
+    if 24 <= p {
+        return Answer {
+            number: 5,
+            value: 0,
+        };
+    }
+    let i = p as usize;
+    let d = depth[i];
+    if d == 0 {
+        return Answer {
+            number: 5,
+            value: 0,
+        };
+    }
+    if d == DEPTH_LIMIT {
+        return Answer {
+            number: 6,
+            value: 0,
+        };
+    }
+    let above = line[i];
+    begin_under(parent, depth, line, p, d, above)
+}

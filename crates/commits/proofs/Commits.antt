@@ -1,0 +1,241 @@
+-- Commits, in the rules: refused with a live child, of a top transaction over its page writes, of a child into its parent.
+use mathlib.Core.Path.{_≡_, refl, sym, ap, ap₂, subst, subst⁻¹, _∙_, fun-ext}
+use mathlib.Core.Bool.{Bool, true, false, not, cond, _&&_, _||_, or-false, or-true}
+use mathlib.Core.List.{List, [], _∷_}
+use mathlib.Core.Logic.{_≢_}
+use mathlib.Core.Option.{Option, none, some}
+use Prim.Native.Nat.{ℕ, zero, suc, _+_, _-_, _*_, _≤_, _<_}
+use native.Mathlib.Omega.{arith}
+use lib.ListN.{length, getD}
+use Rattle.laws.specs.Tests.{same, under}
+use Rattle.laws.specs.Counting.{any}
+use Rattle.laws.specs.Bits.{bits}
+use Rattle.laws.proofs.Tests.{same?, Same, is, isnt, ne-false, Is, is?, yes′, no′, under-lt, not-under}
+use Rattle.laws.proofs.Booleans.{clash, or-cases}
+use Rattle.rules.specs.Geometry.{records}
+use Rattle.rules.specs.Store.{Page, Pages, pagesOf, mapOf, named}
+use Rattle.rules.specs.Event.{Event, commit}
+use Rattle.rules.specs.State.{Bearers, parentIn, depthIn, chain, lineOf, mem, live, down}
+use Rattle.rules.specs.Versions.{also, handedUp, dropped}
+use Rattle.rules.specs.Commit.{Cut, commitAt}
+use Rattle.rules.specs.Step.{done, refused, cut, hasChild, ended, passed, concluded, finished, numberOf, valueOf, commitsTop, commitsChild, commits, step}
+use Rattle.rules.specs.Sound.{inLine}
+use Rattle.rules.specs.Editions.{geometry1, edition1, depths, workBytes}
+use Rattle.rules.proofs.Bearers.{up-one}
+use Rattle.rules.proofs.Acceptance.{CommitOk}
+use Rattle.rules.proofs.Locks.{rooted-of, no-child, versions-in-line, line-apart}
+use Rattle.rules.proofs.Map.{named-mapOf}
+use Rattle.rules.proofs.Soundness.{alone-closed}
+use Rattle.sets.specs.Sets.{sets}
+use Rattle.sets.proofs.Sets.{sets-past}
+use Rattle.arrays.specs.View.{Owners, bearersOf, modesOf, Nested, slot, versionsOf}
+use Rattle.arrays.specs.Changes.{leaving, heirsOf, inheriting, Rows, places, cleared, Cleared}
+use Rattle.arrays.proofs.View.{depth-is, parent-is, child-is}
+use Rattle.arrays.proofs.Nested.{inheriting-nested}
+use Rattle.arrays.proofs.Modes.{leaving-discarded, inheriting-inherited}
+use Rattle.slots.specs.Parts.{lifted}
+use Rattle.slots.proofs.Lifting.{hit, miss-depth, miss-row}
+use Rattle.commit.specs.Phase.{Leaves, topSlot, versionsIn}
+use Rattle.events.specs.Whole.{Arrays, arrays, view, lineIn, Formed, Intact, saying, Stepped, Ready}
+use Rattle.events.proofs.Rules.{commit-done, commit-refused}
+use Rattle.events.proofs.Steps.{answer, stepped, finishes, unmoved, state-eq, up-is, live-is, wrote-is, depth-of, shallow, writer-deep}
+use Rattle.events.proofs.Ends.{bearers-cleared, lines-cleared, tidy-cleared, nested-cleared, rest-is, rest-form}
+use Rattle.crashes.proofs.Falls.{zeros, zeros-down, zeros-formed, Fallen, fallen}
+
+-- the test for a child
+pub child-test : (x : Arrays) (t : ℕ) (b : Bool) → b ≡ any 24 (λ u. not (same (getD (x .depth) u 0) 0) && same (getD (x .parent) u 0) t) → b ≡ hasChild (view x) t
+unfolding view hasChild live
+child-test x t b e = e ∙ ap (any 24) (fun-ext (λ u. child-is (x .parent) (x .depth) t u))
+
+pub commit-refuses : (x : Arrays) → Intact x → (t k : ℕ) → Ready x t → hasChild (view x) t ≡ true → Stepped x (some (commit t k)) (answer 10 0) x
+commit-refuses x I t k R h = unmoved x (some (commit t k)) 10 (I .form) (commit-refused edition1 (view x) t (up-is x (R .up)) (live-is x t (R .live)) k h)
+
+module _ (x : Arrays) (I : Intact x) (t k : ℕ) (R : Ready x t) (childless : hasChild (view x) t ≡ false) where
+  abbrev b : Bearers
+  b = bearersOf (x .parent) (x .depth)
+
+  abbrev d : ℕ → ℕ
+  d j = getD (x .depth) j 0
+
+  abbrev alone : ℕ → Bool
+  alone j = same j t
+
+  closed : (z a : ℕ) → same z t ≡ false → same a t ≡ true → mem a (lineOf b z) ≡ false
+  unfolding view
+  closed = alone-closed (I .sound) t (record { up = up-is x (R .up); alive = live-is x t (R .live); childless = childless })
+
+  commits-is : step edition1 (view x) (some (commit t k)) ≡ commits edition1 (view x) t k (lineOf (view x .bearer) t)
+  commits-is = commit-done edition1 (view x) t (up-is x (R .up)) (live-is x t (R .live)) k childless
+
+  -- a top transaction, over what its page writes left
+  module _ (top : d t ≡ 1) (m : ℕ) (mapped : m ≡ mapOf geometry1 (λ r. sets (x .writers) r t)) (store : List ℕ) (made : ℕ) (crashed : Bool) (size : length store ≡ 1056)
+      (L : Leaves (commitAt geometry1 (pagesOf (x .store)) (versionsIn m (x .work)) k) (pagesOf store) made crashed) where
+    abbrev C : Cut Pages
+    C = commitAt geometry1 (pagesOf (x .store)) (versionsIn m (x .work)) k
+
+    version-at : (r : ℕ) → Is (under r 16) → cond (sets (x .writers) r t) (some (pagesOf (x .work) (slot r (d t)))) none ≡ versionsIn m (x .work) r
+    unfolding versionsIn topSlot slot records
+    version-at r (yes′ e) =
+        let s : r * depths + (d t - 1) ≡ r * depths = omega arith in
+        rw e (ap₂ (λ (c : Bool) (n : ℕ). cond c (some (pagesOf (x .work) n)) none)
+        (sym (ap (λ (m : ℕ). named geometry1 m r) mapped ∙ named-mapOf geometry1 (λ r. sets (x .writers) r t) r (under-lt r 16 e))) s)
+    version-at r (no′ e) =
+        rw e (ap (λ (c : Bool). cond c (some (pagesOf (x .work) (slot r (d t)))) none)
+        (sets-past (x .writers) r t (let h = not-under r 16 e in let k = I .form .writerss in omega arith)))
+
+    versions : view x .version t ≡ versionsIn m (x .work)
+    unfolding view versionsOf
+    versions = fun-ext (λ r. version-at r (is? (under r 16)))
+
+    outcome : (c : Bool) → crashed ≡ c → step edition1 (view x) (some (commit t k)) ≡ concluded (ended (view x) alone (pagesOf store)) C c
+    unfolding view lineOf chain commits commitsTop
+    outcome c e =
+        commits-is
+        ∙ ap (λ (n : ℕ). commits edition1 (view x) t k (chain b n t)) (depth-is (x .parent) (x .depth) t ∙ top)
+        ∙ ap (λ (v : ℕ → Option Page). let c = commitAt geometry1 (pagesOf (x .store)) v k in concluded (ended (view x) alone (c .store)) c (c .crashed)) versions
+        ∙ ap₂ (λ (p : Pages) (c : Bool). concluded (ended (view x) alone p) C c) (sym (L .store)) (sym (L .crashed) ∙ e)
+
+    -- all page writes were made
+    pub top-steps : crashed ≡ false → (parent depth line held retained writers : List ℕ) (one : ℕ) → bits one ≡ (λ k. same k t)
+        → Cleared (λ k. same k t) (x .parent) parent → Cleared (λ k. same k t) (x .depth) depth → Cleared (λ k. same k t) (x .line) line
+        → Rows 32 (leaving (bits one) (sets (x .held))) held → Rows 32 (leaving (bits one) (sets (x .retained))) retained → Rows 16 (leaving (bits one) (sets (x .writers))) writers
+        → Stepped x (some (commit t k)) (answer 0 made) (arrays (x .up) parent depth line held retained writers (x .work) store)
+    unfolding concluded saying numberOf valueOf
+    top-steps e parent depth line held retained writers one o P D N H M W =
+        let turn : (n : ℕ) (l l′ : List ℕ) → Rows n (leaving (bits one) (sets l)) l′ → Rows n (leaving alone (sets l)) l′ = λ n l l′ r. subst (λ (f : ℕ → Bool). Rows n (leaving f (sets l)) l′) o r in
+        let H′ = turn 32 (x .held) held H in
+        let M′ = turn 32 (x .retained) retained M in
+        let W′ = turn 16 (x .writers) writers W in
+        stepped x _ (some (commit t k)) (ended (view x) alone (pagesOf store)) (done (C .made)) (answer 0 made) (outcome false e)
+        (rest-is x I alone closed parent depth line held retained writers store P D N H′ M′ W′) (ap (answer 0) (L .made))
+        (rest-form x I alone closed parent depth line held retained writers store P D N H′ M′ W′ size)
+
+    -- a crash came among them
+    pub top-cut : crashed ≡ true → (up : ℕ) (parent depth line held retained writers : List ℕ) → Fallen up parent depth line held retained writers
+        → Stepped x (some (commit t k)) (answer 11 made) (arrays up parent depth line held retained writers (x .work) store)
+    unfolding concluded saying numberOf valueOf
+    top-cut e up parent depth line held retained writers Z =
+        subst⁻¹ (Stepped x (some (commit t k)) (answer 11 made)) (fallen up parent depth line held retained writers (x .work) store Z)
+        (stepped x (zeros (x .work) store) (some (commit t k)) (down (C .store)) (cut (C .made)) (answer 11 made) (outcome true e)
+        (zeros-down (x .work) store ∙ ap down (L .store)) (ap (answer 11) (L .made)) (zeros-formed (x .work) store (I .form .works) size))
+
+  -- a child
+  module _ (n : ℕ) (deep : d t ≡ suc (suc n)) where
+    abbrev p : ℕ
+    p = getD (x .parent) t 0
+
+    parent-there : parentIn (b t) ≡ p
+    parent-there = parent-is (x .parent) (x .depth) t (suc n) deep
+
+    parent-deep : d p ≡ suc n
+    unfolding view
+    parent-deep =
+        sym (depth-is (x .parent) (x .depth) p) ∙ ap (λ (j : ℕ). depthIn (b j)) (sym parent-there)
+        ∙ up-one (rooted-of (I .sound)) t (suc n) (depth-is (x .parent) (x .depth) t ∙ deep)
+
+    p≢t : p ≢ t
+    p≢t e = let k = parent-deep in let m : d p ≡ d t = ap d e in absurd (omega arith)
+
+    abbrev w : Owners
+    w = sets (x .writers)
+
+    line-up : lineOf b t ≡ t ∷ lineOf b p
+    unfolding lineOf chain
+    line-up =
+        ap (λ (m : ℕ). chain b m t) (depth-is (x .parent) (x .depth) t ∙ deep)
+        ∙ ap (λ (j : ℕ). t ∷ chain b (suc n) j) parent-there
+        ∙ ap (λ (m : ℕ). t ∷ chain b m p) (sym (depth-is (x .parent) (x .depth) p ∙ parent-deep))
+
+    -- another writer of a record that t has written isn't at the parent's depth
+    alone-up : (r j : ℕ) → w r t ≡ true → w r j ≡ true → j ≢ t → j ≢ p → d j ≢ suc n
+    unfolding view inLine mem
+    alone-up r j a c n₁ n₂ e =
+        or-cases (mem t (lineOf b j)) (mem j (lineOf b t)) (versions-in-line (I .sound) t j r (wrote-is x t r ∙ a) (wrote-is x j r ∙ c))
+        (λ m. clash m (no-child (I .sound) t childless j n₁))
+        (λ m.
+        let h = line-apart (I .sound) j p (rw (line-up, ne-false j t n₁) at m) n₂ in
+        let f = depth-of x j in let g = depth-of x p in let q = parent-deep in omega arith)
+
+    abbrev up : ℕ → Page
+    up = lifted w t (suc (suc n)) (pagesOf (x .work))
+
+    small : suc (suc n) ≤ depths
+    small = let k = shallow x I t in omega arith
+
+    hit-up : (r j : ℕ) → d j ≡ suc n → w r t ≡ true → up (slot r (d j)) ≡ pagesOf (x .work) (slot r (suc (suc n)))
+    unfolding slot
+    hit-up r j e a = let k = small in hit w t (suc (suc n)) (pagesOf (x .work)) (omega arith) small (r * depths + (d j - 1)) r (omega arith) (omega arith) a
+
+    not-up : (r j : ℕ) → w r t ≡ false → up (slot r (d j)) ≡ pagesOf (x .work) (slot r (d j))
+    unfolding slot
+    not-up r j a = let k = shallow x I j in let m = small in miss-row w t (suc (suc n)) (pagesOf (x .work)) (omega arith) small (r * depths + (d j - 1)) r (omega arith) a
+
+    not-here : (r j : ℕ) → w r j ≡ true → d j ≢ suc n → up (slot r (d j)) ≡ pagesOf (x .work) (slot r (d j))
+    unfolding slot
+    not-here r j c e =
+        let k = shallow x I j in let h = writer-deep x I r j c in let m = small in
+        miss-depth w t (suc (suc n)) (pagesOf (x .work)) (omega arith) small (r * depths + (d j - 1)) (λ q. e (omega arith))
+
+    abbrev v : ℕ → ℕ → Option Page
+    v = versionsOf (x .depth) (x .writers) (x .work)
+
+    version-up : (j r : ℕ) → Same j t → Same j p → Is (w r t) → Is (w r j)
+        → cond (heirsOf (w r t) (w r) t p j) (some (up (slot r (cond (same j t) 0 (d j))))) none ≡ dropped alone (handedUp t p v) j r
+    unfolding heirsOf versionsOf dropped handedUp also
+    version-up j r (is e s _) k a c = rw (s, e, ne-false t p (λ q. p≢t (sym q)))
+    version-up j r (isnt e s _) (is f u _) (yes′ a) c =
+        rw (s, u, a, or-true) (ap some (hit-up r j (ap d f ∙ parent-deep) a ∙ ap (λ (m : ℕ). pagesOf (x .work) (slot r m)) (sym deep)))
+    version-up j r (isnt e s _) (is f u _) (no′ a) c =
+        rw (s, u, a, or-false)
+        (ap (λ (pg : Page). cond (w r j) (some pg) none) (not-up r j a) ∙ ap (λ (j : ℕ). cond (w r j) (some (pagesOf (x .work) (slot r (d j)))) none) f)
+    version-up j r (isnt e s _) (isnt f u _) a (no′ c) = rw (s, u, c)
+    version-up j r (isnt e s _) (isnt f u _) (no′ a) (yes′ c) = rw (s, u, c) (ap some (not-up r j a))
+    version-up j r (isnt e s _) (isnt f u _) (yes′ a) (yes′ c) = rw (s, u, c) (ap some (not-here r j c (alone-up r j a c e f)))
+
+    module _ (parent depth line held retained writers work : List ℕ)
+        (P : Cleared (λ k. same k t) (x .parent) parent) (D : Cleared (λ k. same k t) (x .depth) depth) (N : Cleared (λ k. same k t) (x .line) line)
+        (H : Rows 32 (leaving (λ j. same j t) (sets (x .held))) held)
+        (M : Rows 32 (inheriting t p (sets (x .held)) (sets (x .retained))) retained)
+        (W : Rows 16 (λ r. heirsOf (w r t) (w r) t p) writers) (K : pagesOf work ≡ up) (size : length work ≡ workBytes) where
+      versions-up : versionsOf depth writers work ≡ dropped alone (handedUp t p v)
+      unfolding versionsOf places cleared
+      versions-up = fun-ext (λ j. fun-ext (λ r.
+          ap₂ (λ (f : Owners) (g : ℕ → ℕ). cond (f r j) (some (pagesOf work (slot r (g j)))) none) (W .are) (D .are)
+          ∙ ap (λ (g : ℕ → Page). cond (heirsOf (w r t) (w r) t p j) (some (g (slot r (cond (same j t) 0 (d j))))) none) K
+          ∙ version-up j r (same? j t) (same? j p) (is? (w r t)) (is? (w r j))))
+
+      abbrev y : Arrays
+      y = arrays (x .up) parent depth line held retained writers work (x .store)
+
+      y-is : view y ≡ ended (passed (view x) t p) alone (view x .store)
+      unfolding view ended passed
+      y-is = state-eq refl (bearers-cleared alone (x .parent) (x .depth) parent depth P D)
+          (ap modesOf (H .are) ∙ leaving-discarded alone (sets (x .held)))
+          (ap modesOf (M .are) ∙ inheriting-inherited (sets (x .held)) (sets (x .retained)) t p p≢t) versions-up refl
+
+      commit-is : step edition1 (view x) (some (commit t k)) ≡ commitsChild edition1 (view x) t p
+      unfolding view lineOf chain commits
+      commit-is =
+          commits-is
+          ∙ ap (λ (m : ℕ). commits edition1 (view x) t k (chain b m t)) (depth-is (x .parent) (x .depth) t ∙ deep)
+          ∙ ap (commitsChild edition1 (view x) t) parent-there
+
+      pub child-steps : Stepped x (some (commit t k)) (answer 0 0) y
+      unfolding commitsChild view
+      child-steps =
+          finishes x y (some (commit t k)) (ended (passed (view x) t p) alone (view x .store)) 0 commit-is y-is
+          (let F = I .form in record {
+            lines = lines-cleared (rooted-of (I .sound)) alone closed (x .line) line (F .lines) N ∙ ap lineIn (sym (bearers-cleared alone (x .parent) (x .depth) parent depth P D));
+            flag = F .flag;
+            tidy = tidy-cleared alone (x .parent) (x .depth) parent depth P D (F .tidy);
+            held-nested = nested-cleared alone (x .held) held (F .held-nested) H;
+            retained-nested = subst⁻¹ (λ (o : Owners). Nested o) (M .are) (inheriting-nested t p (sets (x .held)) (sets (x .retained)) (F .held-nested) (F .retained-nested));
+            parents = P .long;
+            depths = D .long;
+            long = N .long;
+            helds = H .long;
+            retaineds = M .long;
+            writerss = W .long;
+            works = size;
+            stores = F .stores;
+          })

@@ -1,0 +1,47 @@
+-- Versions go up, then the locks, then the number is freed.
+use mathlib.Core.Path.{_≡_, refl, sym, ap, ap₂, subst, subst⁻¹, _∙_, fun-ext}
+use mathlib.Core.Bool.{Bool, true, false, not, cond, _&&_, _||_}
+use mathlib.Core.List.{List}
+use Prim.Native.Nat.{ℕ, suc, _+_, _*_, _-_, _/_, _%_, _<_, _≤_}
+use native.Mathlib.Omega.{arith}
+use lib.ListN.{length, getD, set}
+use Rattle.commits.proofs.Commits.{child-test, commit-refuses, top-steps, top-cut, child-steps}
+use Rattle.sets.specs.Sets.{sets}
+use Rattle.rules.specs.Store.{pagesOf}
+use Rattle.slots.specs.Parts.{lifted}
+use Rattle.slots.proofs.Walk.{parent-below}
+use borrow.Author.Needs.{needs}
+use Rattle.commits.proofs.commit_child.Statement.{statement}
+use Rattle.commits.proofs.commit_child.Tie as tie
+use Rattle.commits.proofs.commit_child.Reads as reads
+use Rattle.commits.proofs.commit_child.Lts as lts
+use Rattle.locks.proofs.pass.Reads as pass-reads
+use Rattle.slots.proofs.lift.Reads as lift-reads
+use Rattle.transactions.proofs.retire.Reads as retire-reads
+
+element-copy-out-p : tie.Need-element-copy-out-p
+element-copy-out-p c = search needs
+
+lift-requires : tie.Need-lift-requires
+lift-requires c κs = let k = c .before .before .before .before .pre .10 .shallow (c .before .before .before .before .args .t) in let e = c .before .before .before .before .pre .9 in (omega arith, omega arith, omega arith, search needs, search needs)
+
+pass-requires : tie.Need-pass-requires
+pass-requires c κs = let e = c .before .before .before .before .before .before .before .before .before .before .pre .9 in (omega arith, parent-below _ _ (c .before .before .before .before .before .before .before .before .before .before .pre .10) (c .before .before .before .before .before .before .before .before .before .before .args .t) (omega arith), search needs, search needs, search needs)
+
+retire-requires : tie.Need-retire-requires
+retire-requires c κs = search needs
+
+same-length : tie.Need-same-length
+same-length c = search needs
+
+returns : tie.Need-returns
+returns c = λ up k store I R childless. let a = c .before .before .before .before .before .before .before .before .before .before .before .before .before .before .before .args in let e = c .retire .ensures in let f = c .before .before .before .before .pass .ensures in let q = c .before .before .before .before .before .before .before .before .before .before .before .before .before .before .before .pre .9 in
+    let n = getD (a .depth .now) (a .t) 0 - 2 in
+    let deep : getD (a .depth .now) (a .t) 0 ≡ suc (suc n) = omega arith in
+    child-steps _ I (a .t) k R childless n deep _ _ _ _ _ _ _ (e .0) (e .1) (e .2) (f .0) (f .1) (f .2)
+    (c .before .before .before .before .before .before .before .before .before .before .lift .ensures ∙ ap (λ (m : ℕ). lifted (sets (a .writers .now)) (a .t) m (pagesOf (a .work .now))) (q ∙ deep)) (search needs)
+
+pub commit-child-spec : {M : Type 1} → statement M
+commit-child-spec =
+    tie.close
+    (tie.spec element-copy-out-p lift-requires pass-requires retire-requires same-length returns)

@@ -1,0 +1,196 @@
+-- All go, and the engine is down: arrays of zeros. A crash, and a recovery.
+use mathlib.Core.Path.{_≡_, refl, sym, ap, ap₂, subst⁻¹, _∙_, fun-ext}
+use mathlib.Core.Bool.{Bool, true, false, not, cond, true≢false}
+use mathlib.Core.List.{List, [], _∷_}
+use mathlib.Core.Logic.{_≢_}
+use mathlib.Core.Option.{Option, none, some}
+use Prim.Native.Nat.{ℕ, zero, suc, _≤_}
+use native.Mathlib.Omega.{arith}
+use lib.ListN.{length, getD, replicate, length-replicate}
+use Rattle.laws.specs.Tests.{same}
+use Rattle.laws.specs.Bits.{bits}
+use Rattle.laws.proofs.Tests.{same-refl, ne-false}
+use Rattle.laws.proofs.Bits.{bits-zero}
+use Rattle.laws.proofs.Booleans.{refute, clash}
+use Rattle.rules.specs.Store.{Page, Pages, pagesOf, readCommit, isDamaged, damaged}
+use Rattle.rules.specs.Event.{Event, crash, recover}
+use Rattle.rules.specs.State.{Bearer, free, active, isActive, depthIn, chain, lineOf, mem, Mode, nothing, reading, writing, isLock, State, live, holds, retains, down}
+use Rattle.rules.specs.Versions.{isSome}
+use Rattle.rules.specs.Commit.{Cut, recoverAt}
+use Rattle.rules.specs.Form.{Form}
+use Rattle.rules.specs.Step.{done, refused, cut, StateOf, numberOf, valueOf, raised, concluded, recovers, step}
+use Rattle.rules.specs.Sound.{Sound}
+use Rattle.rules.specs.Editions.{geometry1, edition1, depths, workBytes}
+use Rattle.rules.proofs.Parts.{sound-down}
+use Rattle.rules.proofs.Locks.{no-version}
+use Rattle.sets.specs.Sets.{sets}
+use Rattle.arrays.specs.View.{Owners, bearerAt, bearersOf, anyMode, writeMode, modeOf, modesOf, Nested, slot, versionsOf}
+use Rattle.commitpage.specs.Heard.{heard}
+use Rattle.commitpage.specs.declared.CommitMap.{CommitMap}
+use Rattle.commit.specs.Phase.{Leaves}
+use Rattle.events.specs.Whole.{Arrays, arrays, view, lineIn, Formed, Intact, saying, Stepped}
+use Rattle.events.proofs.Rules.{crash-done, recover-up, recover-damaged, recover-done}
+use Rattle.events.proofs.Steps.{answer, stepped, finishes, unmoved, state-eq, up-is, down-is}
+
+module _ (work store : List ℕ) where
+  abbrev z : ℕ → List ℕ
+  z n = replicate n 0
+
+  -- nothing is live, held, retained or written, and it is down
+  abbrev pub zeros : Arrays
+  zeros = arrays 0 (z 24) (z 24) (z 24) (z 32) (z 32) (z 16) work store
+
+  at : (n k : ℕ) → getD (z n) k 0 ≡ 0
+  at zero k = refl
+  at (suc n) zero = refl
+  at (suc n) (suc k) = at n k
+
+  none-in : (n : ℕ) → sets (z n) ≡ (λ r j. false)
+  unfolding sets
+  none-in n = fun-ext (λ r. fun-ext (λ j. ap (λ (v : ℕ). bits v j) (at n r) ∙ bits-zero j))
+
+  bearers-free : bearersOf (z 24) (z 24) ≡ (λ t. free)
+  unfolding bearersOf bearerAt
+  bearers-free = fun-ext (λ t. ap (λ (d : ℕ). bearerAt (getD (z 24) t 0) d) (at 24 t))
+
+  pub zeros-down : view zeros ≡ down (pagesOf store)
+  unfolding view down versionsOf modesOf modeOf anyMode writeMode
+  zeros-down = state-eq (ne-false 0 1 (λ e. omega arith)) bearers-free (ap modesOf (none-in 32)) (ap modesOf (none-in 32))
+      (fun-ext (λ j. fun-ext (λ r. ap (λ (f : Owners). cond (f r j) (some (pagesOf work (slot r (getD (z 24) j 0)))) none) (none-in 16)))) refl
+
+  zeros-nested : Nested (sets (z 32))
+  unfolding anyMode writeMode
+  zeros-nested = subst⁻¹ (λ (o : Owners). Nested o) (none-in 32) (λ r t e. e)
+
+  pub zeros-formed : length work ≡ workBytes → length store ≡ 1056 → Formed zeros
+  unfolding lineIn lineOf depthIn chain mem
+  zeros-formed w s = record {
+    lines = none-in 24 ∙ sym (ap lineIn bearers-free);
+    flag = omega arith;
+    tidy = λ t e. at 24 t;
+    held-nested = zeros-nested;
+    retained-nested = zeros-nested;
+    parents = length-replicate {A = ℕ} 24 0;
+    depths = length-replicate {A = ℕ} 24 0;
+    long = length-replicate {A = ℕ} 24 0;
+    helds = length-replicate {A = ℕ} 32 0;
+    retaineds = length-replicate {A = ℕ} 32 0;
+    writerss = length-replicate {A = ℕ} 16 0;
+    works = w;
+    stores = s;
+  }
+
+  pub zeros-intact : length work ≡ workBytes → length store ≡ 1056 → Intact zeros
+  zeros-intact w s = record { sound = subst⁻¹ (Sound edition1) zeros-down (sound-down edition1 (pagesOf store)); form = zeros-formed w s }
+
+-- arrays that are all zeros
+abbrev pub Fallen : ℕ → List ℕ → List ℕ → List ℕ → List ℕ → List ℕ → List ℕ → Type 0
+Fallen up parent depth line held retained writers =
+    (up ≡ 0) × (parent ≡ replicate 24 0) × (depth ≡ replicate 24 0) × (line ≡ replicate 24 0) × (held ≡ replicate 32 0) × (retained ≡ replicate 32 0) × (writers ≡ replicate 16 0)
+
+pub fallen : (up : ℕ) (parent depth line held retained writers work store : List ℕ) → Fallen up parent depth line held retained writers
+    → arrays up parent depth line held retained writers work store ≡ zeros work store
+fallen up parent depth line held retained writers work store F =
+    λ i. arrays (F .0 i) (F .1 i) (F .2 i) (F .3 i) (F .4 i) (F .5 i) (F .6 i) work store
+
+-- a crash
+pub crash-steps : (x : Arrays) → Formed x → (up : ℕ) (parent depth line held retained writers : List ℕ) → Fallen up parent depth line held retained writers
+    → Stepped x (some crash) (answer 0 0) (arrays up parent depth line held retained writers (x .work) (x .store))
+unfolding view
+crash-steps x F up parent depth line held retained writers Z =
+    subst⁻¹ (Stepped x (some crash) (answer 0 0)) (fallen up parent depth line held retained writers (x .work) (x .store) Z)
+    (finishes x _ (some crash) (down (pagesOf (x .store))) 0 (crash-done edition1 (view x)) (zeros-down (x .work) (x .store)) (zeros-formed (x .work) (x .store) (F .works) (F .stores)))
+
+-- a sound state that is down has nothing
+module _ {f : Form} {s : StateOf f} (S : Sound f s) (d : s .up ≡ false) where
+  free-of : (b : Bearer) → isActive b ≡ false → b ≡ free
+  unfolding isActive
+  free-of free e = refl
+  free-of (active p n) e = absurd (true≢false e)
+
+  nothing-of : (m : Mode) → isLock m ≡ false → m ≡ nothing
+  unfolding isLock
+  nothing-of nothing e = refl
+  nothing-of reading e = absurd (true≢false e)
+  nothing-of writing e = absurd (true≢false e)
+
+  none-of : (o : Option Page) → isSome o ≡ false → o ≡ none
+  unfolding isSome
+  none-of none e = refl
+  none-of (some p) e = absurd (true≢false e)
+
+  pub idle-down : s ≡ down (s .store)
+  unfolding down live holds retains
+  idle-down = λ i. record {
+    up = d i;
+    bearer = fun-ext (λ t. free-of (s .bearer t) (S .idle t d)) i;
+    held = fun-ext (λ r. fun-ext (λ t. nothing-of (s .held r t) (refute (isLock (s .held r t)) (λ e. clash (S .holder-live r t e) (S .idle t d))))) i;
+    retained = fun-ext (λ r. fun-ext (λ t. nothing-of (s .retained r t) (refute (isLock (s .retained r t)) (λ e. clash (S .retainer-live r t e) (S .idle t d))))) i;
+    version = fun-ext (λ t. fun-ext (λ r. none-of (s .version t r) (no-version S t r (S .idle t d)))) i;
+    store = s .store;
+  }
+
+-- what a commit page says
+damaged-of : (o : Option ℕ) → heard o .good ≡ false → isDamaged o ≡ true
+unfolding heard isDamaged
+damaged-of none e = refl
+damaged-of (some m) e = absurd (true≢false e)
+
+good-of : (o : Option ℕ) → heard o .good ≡ true → (isDamaged o ≡ false) × (o ≡ some (heard o .map))
+unfolding heard isDamaged
+good-of none e = absurd (true≢false (sym e))
+good-of (some m) e = (refl, refl)
+
+module _ (store : List ℕ) (c : CommitMap) (h : c ≡ heard (readCommit geometry1 (pagesOf store 0))) where
+  pub damaged-is : c .good ≡ false → damaged geometry1 (pagesOf store) ≡ true
+  unfolding damaged
+  damaged-is e = damaged-of (readCommit geometry1 (pagesOf store 0)) (sym (ap (λ (c : CommitMap). c .good) h) ∙ e)
+
+  whole-is : c .good ≡ true → damaged geometry1 (pagesOf store) ≡ false
+  unfolding damaged
+  whole-is e = good-of (readCommit geometry1 (pagesOf store 0)) (sym (ap (λ (c : CommitMap). c .good) h) ∙ e) .0
+
+  pub map-is : c .good ≡ true → readCommit geometry1 (pagesOf store 0) ≡ some (c .map)
+  map-is e = good-of (readCommit geometry1 (pagesOf store 0)) (sym (ap (λ (c : CommitMap). c .good) h) ∙ e) .1 ∙ ap some (sym (ap (λ (c : CommitMap). c .map) h))
+
+module _ (x : Arrays) (I : Intact x) (k : ℕ) where
+  pub recover-refuses-3 : x .up ≡ 1 → Stepped x (some (recover k)) (answer 3 0) x
+  recover-refuses-3 e = unmoved x (some (recover k)) 3 (I .form) (recover-up edition1 (view x) k (up-is x e))
+
+  module _ (n : x .up ≢ 1) (c : CommitMap) (h : c ≡ heard (readCommit geometry1 (pagesOf (x .store) 0))) where
+    pub recover-refuses-4 : c .good ≡ false → Stepped x (some (recover k)) (answer 4 0) x
+    unfolding view
+    recover-refuses-4 e =
+        unmoved x (some (recover k)) 4 (I .form) (recover-damaged edition1 (view x) k (down-is x n) (damaged-is (x .store) c h e))
+
+    module _ (g : c .good ≡ true) (store : List ℕ) (made : ℕ) (crashed : Bool) (size : length store ≡ 1056)
+        (L : Leaves (recoverAt geometry1 (pagesOf (x .store)) k) (pagesOf store) made crashed) where
+      abbrev C : Cut Pages
+      C = recoverAt geometry1 (pagesOf (x .store)) k
+
+      outcome : (b : Bool) → crashed ≡ b → step edition1 (view x) (some (recover k)) ≡ concluded (raised (view x) (pagesOf store)) C b
+      unfolding recovers view
+      outcome b e =
+          recover-done edition1 (view x) k (down-is x n) (whole-is (x .store) c h g)
+          ∙ ap₂ (λ (p : Pages) (b : Bool). concluded (raised (view x) p) C b) (sym (L .store)) (sym (L .crashed) ∙ e)
+
+      formed : (up : ℕ) → up ≤ 1 → Formed (arrays up (x .parent) (x .depth) (x .line) (x .held) (x .retained) (x .writers) (x .work) store)
+      formed up h = let F = I .form in record { lines = F .lines; flag = h; tidy = F .tidy; held-nested = F .held-nested; retained-nested = F .retained-nested; parents = F .parents; depths = F .depths; long = F .long; helds = F .helds; retaineds = F .retaineds; writerss = F .writerss; works = F .works; stores = size }
+
+      over : State Pages → State Pages
+      over s = record { up = s .up; bearer = s .bearer; held = s .held; retained = s .retained; version = s .version; store = pagesOf store }
+
+      -- cut: still down, and nothing was live
+      pub recover-cut : crashed ≡ true
+          → Stepped x (some (recover k)) (answer 11 made) (arrays (x .up) (x .parent) (x .depth) (x .line) (x .held) (x .retained) (x .writers) (x .work) store)
+      unfolding concluded saying numberOf valueOf view down over
+      recover-cut e =
+          stepped x _ (some (recover k)) (down (C .store)) (cut (C .made)) (answer 11 made) (outcome true e)
+          (ap over (idle-down (I .sound) (down-is x n)) ∙ ap down (L .store)) (ap (answer 11) (L .made)) (formed (x .up) (I .form .flag))
+
+      pub recover-steps : crashed ≡ false
+          → Stepped x (some (recover k)) (answer 0 made) (arrays 1 (x .parent) (x .depth) (x .line) (x .held) (x .retained) (x .writers) (x .work) store)
+      unfolding concluded saying numberOf valueOf view raised
+      recover-steps e =
+          stepped x _ (some (recover k)) (raised (view x) (pagesOf store)) (done (C .made)) (answer 0 made) (outcome false e)
+          (state-eq (same-refl 1) refl refl refl refl refl) (ap (answer 0) (L .made)) (formed 1 (omega arith))

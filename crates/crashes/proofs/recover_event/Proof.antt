@@ -1,0 +1,57 @@
+-- Refusals 3 and 4; then the page writes of a recovery.
+use mathlib.Core.Path.{_≡_, refl, sym, ap, ap₂, subst, subst⁻¹, _∙_, fun-ext}
+use mathlib.Core.Bool.{Bool, true, false, not, cond, _&&_, _||_}
+use mathlib.Core.List.{List}
+use Prim.Native.Nat.{ℕ, suc, _+_, _*_, _-_, _/_, _%_, _<_, _≤_}
+use native.Mathlib.Omega.{arith}
+use lib.ListN.{length, getD, set}
+use Rattle.crashes.proofs.Falls.{crash-steps, zeros-intact, zeros-down, damaged-is, map-is, recover-refuses-3, recover-refuses-4, recover-cut, recover-steps}
+use Rattle.laws.proofs.Booleans.{not-true, not-false}
+use borrow.Author.Needs.{needs}
+use Rattle.crashes.proofs.recover_event.Statement.{statement}
+use Rattle.crashes.proofs.recover_event.Tie as tie
+use Rattle.crashes.proofs.recover_event.Reads as reads
+use Rattle.crashes.proofs.recover_event.Lts as lts
+use Rattle.commit.proofs.read_map.Reads as read-map-reads
+use Rattle.commit.proofs.recover_pages.Reads as recover-pages-reads
+
+returns : tie.Need-returns
+returns c = λ parent depth line held retained writers work I. recover-refuses-3 _ I (c .before .before .before .args .k) (c .if1 .taken)
+
+read-map-requires : tie.Need-read-map-requires
+read-map-requires c κs = search needs
+
+same-length : tie.Need-same-length
+same-length c = search needs
+
+returns-2 : tie.Need-returns-2
+returns-2 c = λ parent depth line held retained writers work I. recover-refuses-4 _ I (c .before .before .before .before .before .before .before .args .k) (c .before .before .before .before .if1 .left) _ (c .before .before .read-map .ensures) (not-true _ (c .if2 .taken))
+
+recover-pages-requires : tie.Need-recover-pages-requires
+recover-pages-requires c κs = (search needs, map-is _ _ (c .before .before .before .read-map .ensures) (not-false _ (c .before .if2 .left)))
+
+same-length-2 : tie.Need-same-length-2
+same-length-2 c = search needs
+
+returns-3 : tie.Need-returns-3
+returns-3 c = λ parent depth line held retained writers work I. recover-cut _ I (c .before .before .before .before .before .before .before .before .before .before .before .before .args .k) (c .before .before .before .before .before .before .before .before .before .if1 .left) _ (c .before .before .before .before .before .before .before .read-map .ensures) (not-false _ (c .before .before .before .before .before .if2 .left)) _ _ _ (search needs) (c .before .before .before .recover-pages .ensures) (c .if3 .taken)
+
+same-length-3 : tie.Need-same-length-3
+same-length-3 c = search needs
+
+returns-4 : tie.Need-returns-4
+returns-4 c = λ parent depth line held retained writers work I. recover-steps _ I (c .before .before .before .before .before .before .before .before .before .before .before .before .args .k) (c .before .before .before .before .before .before .before .before .before .if1 .left) _ (c .before .before .before .before .before .before .before .read-map .ensures) (not-false _ (c .before .before .before .before .before .if2 .left)) _ _ _ (search needs) (c .before .before .before .recover-pages .ensures) (c .if3 .left)
+
+pub recover-event-spec : {M : Type 1} → statement M
+recover-event-spec =
+    tie.close
+    (tie.spec
+    returns
+    read-map-requires
+    same-length
+    returns-2
+    recover-pages-requires
+    same-length-2
+    returns-3
+    same-length-3
+    returns-4)

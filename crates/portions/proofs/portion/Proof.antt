@@ -1,0 +1,82 @@
+-- The loop's invariant: the first k events have been played, and their answers stand.
+use mathlib.Core.Path.{_≡_, refl, sym, ap, ap₂, subst, subst⁻¹, _∙_, fun-ext}
+use mathlib.Core.Bool.{Bool, true, false, not, cond, _&&_, _||_}
+use mathlib.Core.List.{List}
+use Prim.Native.Nat.{ℕ, suc, _+_, _*_, _-_, _/_, _%_, _<_, _≤_}
+use native.Mathlib.Omega.{arith}
+use lib.ListN.{length, getD, set}
+use borrow.Author.Needs.{needs}
+use Rattle.events.specs.Whole.{arrays}
+use Rattle.portions.proofs.Playing.{Playing, playing-none, playing-next, playing-all}
+use Rattle.portions.proofs.portion.Statement.{statement}
+use Rattle.portions.proofs.portion.Tie as tie
+use Rattle.portions.proofs.portion.Reads as reads
+use Rattle.portions.proofs.portion.Lts as lts
+use Rattle.portions.proofs.put_answer.Reads as put-answer-reads
+use Rattle.engine.proofs.step.Reads as step-reads
+use Rattle.event.proofs.Event.of_word.Reads as of-word-reads
+use Rattle.event.proofs.Event.word_at.Reads as word-at-reads
+
+abbrev Inv-loop : tie.InvT-loop
+Inv-loop e store₀ events work₀ answers₀ up₀ parent₀ depth₀ line₀ held₀ retained₀ writers₀ n k₀ store work answers up parent depth line held retained writers k =
+    (k ≤ n) × (n ≡ length events / 4) × (n ≤ 4096) × (4 * n ≤ length events) × (2 * n ≤ length answers₀)
+    × Playing (arrays up₀ parent₀ depth₀ line₀ held₀ retained₀ writers₀ work₀ store₀) events answers₀ n k (arrays up parent depth line held retained writers work store) answers
+
+abbrev μ-loop : tie.MeasureT-loop
+μ-loop e store₀ events work₀ answers₀ up₀ parent₀ depth₀ line₀ held₀ retained₀ writers₀ n k₀ store work answers up parent depth line held retained writers k =
+    n - k
+
+loop-holds : tie.Need-loop-holds Inv-loop μ-loop
+loop-holds c = (search needs, refl, omega arith, omega arith, omega arith, playing-none _ _ _ _ (c .before .before .before .before .before .before .before .before .before .before .pre .0))
+
+word-at-requires : tie.Need-word-at-requires Inv-loop μ-loop
+word-at-requires c κs = search needs
+
+of-word-requires : tie.Need-of-word-requires Inv-loop μ-loop
+of-word-requires c κs = search needs
+
+step-requires : tie.Need-step-requires Inv-loop μ-loop
+step-requires c κs = (c .of-word .ensures .1, c .before .before .before .before .before .before .before .before .before .before .before .before .loop .inv .5 .intact)
+
+put-answer-requires : tie.Need-put-answer-requires Inv-loop μ-loop
+put-answer-requires c κs = let k = c .before .before .before .before .before .before .before .before .before .before .before .before .before .before .before .before .before .before .loop .inv .5 .long in (omega arith, omega arith)
+
+add-k : tie.Need-add-k Inv-loop μ-loop
+add-k c = let q = c .before .before .before .before .before .before .before .before .before .before .before .before .before .before .before .before .before .before .before .before .loop-test .taken in let b = c .before .before .before .before .before .before .before .before .before .before .before .before .before .before .before .before .before .before .before .before .before .loop .inv .2 in search needs
+
+loop-less : tie.Need-loop-less Inv-loop μ-loop
+loop-less c = let q = c .before .before .before .before .before .before .before .before .before .before .before .before .before .before .before .before .before .before .before .before .loop-test .taken in search needs
+
+loop-again : tie.Need-loop-again Inv-loop μ-loop
+loop-again c = let l = c .before .before .before .before .before .before .before .before .before .before .before .before .before .before .before .before .before .before .before .before .before .loop in let q : l .k < _ = c .before .before .before .before .before .before .before .before .before .before .before .before .before .before .before .before .before .before .before .before .loop-test .taken in let b = l .inv .0 in (omega arith, l .inv .1, l .inv .2, l .inv .3, l .inv .4, playing-next _ _ _ (c .before .before .before .before .before .before .before .before .before .before .before .before .before .before .before .before .before .before .before .before .before .before .before .before .before .before .before .before .before .before .before .before .args .events .now) (c .before .before .before .before .before .before .before .before .before .before .before .before .before .before .before .before .before .before .before .before .before .before .before .before .before .before .before .before .before .before .before .before .args .answers .now) (l .answers) _ _ (l .k) _ _ _ (l .inv .5) q (l .inv .4) (c .before .before .before .before .before .before .before .before .before .before .before .before .before .before .before .before .before .before .before .word-at .ensures) (c .before .before .before .before .before .before .before .before .before .of-word .ensures .0) (c .before .before .before .before .before .before .before .before .step .ensures) (c .before .before .put-answer .ensures))
+
+same-length : tie.Need-same-length Inv-loop μ-loop
+same-length c = search needs
+
+same-length-2 : tie.Need-same-length-2 Inv-loop μ-loop
+same-length-2 c = search needs
+
+same-length-3 : tie.Need-same-length-3 Inv-loop μ-loop
+same-length-3 c = search needs
+
+returns : tie.Need-returns Inv-loop μ-loop
+returns c = let l = c .before .before .loop in (playing-all _ _ _ _ _ (l .k) _ (omega arith) (l .inv .1) (l .inv .5), refl)
+
+pub portion-spec : {M : Type 1} → statement M
+portion-spec =
+    tie.close
+    (tie.spec
+    Inv-loop
+    μ-loop
+    loop-holds
+    word-at-requires
+    of-word-requires
+    step-requires
+    put-answer-requires
+    add-k
+    loop-less
+    loop-again
+    same-length
+    same-length-2
+    same-length-3
+    returns)
