@@ -70,6 +70,9 @@ ok "play standard input" "^40188000 00A5$" bash -c "'$run' play store - <words.t
 ok "answers to a file" "4 events: 4 done" "$run" play store words.txt --answers answers.bin
 text '\x00\x00\x00\x00\x00\x00\x00\xA5' due.bin
 same "the answers" answers.bin due.bin
+ok "answers to a pipe" "^ 00 00 00 00 00 00 00 a5" bash -c "'$run' play store words.txt --answers /dev/stdout | od -An -tx1"
+ok "answers to a program" "^ 00 a5$" bash -c "'$run' play store words.txt --answers >(tail -c 2 | od -An -tx1 >last) >/dev/null && sleep 1 && cat last"
+ok "a list from a program" "^4 events: 4 done" bash -c "'$run' play store <(cat words.txt)"
 ok "trace" "record 3 held by 0" "$run" play store words.txt --trace
 ok "another store" "a fresh store" "$run" fresh other
 ok "trace of a crash" "transaction 0 survives: the commit page was written" "$run" play other hex.txt --trace --dry
@@ -89,7 +92,7 @@ holds "the parent retains" grep -q "record 3 retained to read by 0$" out
 holds "a stranger can't write" grep -q "lock 1 3: refused 8" out
 ok "picture of a report" ">✗↑<" bash -c "'$run' play other reported.txt --picture reported.svg --dry && cat reported.svg"
 cp store before
-ok "a dry run" "11 events" "$run" play store hex.txt --dry
+ok "a dry run" "a dry run: the store is left as it was" "$run" play store hex.txt --dry
 same "a dry run leaves the store" store before
 
 # Portions and state files: as one run over the joined lists.
@@ -247,6 +250,8 @@ cp damaged damaged.before
 ok "a damaged store in words" "damaged, it says committed but names no record" "$run" show damaged
 fails "age of a damaged store" 1 "refused 4" "$run" age damaged 3 0 0
 ok "play on a damaged store" "^80003F00 0400$" "$run" play damaged words.txt
+holds "a refused event: where to find why" grep -qx "why an event was refused: --trace tells it" out
+ok "why an event was refused" "recover 63: refused 4: page 0 is damaged" "$run" play damaged words.txt --trace
 same "a damaged store stays" damaged damaged.before
 
 # Files that can't be written: a clear message, nothing lost, nothing left over.
