@@ -75,7 +75,7 @@ extern "C" {
  *    3    write one byte  transaction, record, offset, value
  *    4    read one byte   transaction, record, offset
  *    5    commit          transaction, count
- *    6    abort           transaction
+ *    6    abort           transaction, value: 0, or 1 with a report
  *    7    crash           none
  *    8    recover         count
  *
@@ -89,6 +89,11 @@ extern "C" {
  * its ancestor. A held read lock is raised by asking for write mode; asking for less than is held
  * changes nothing. When a child commits, its parent retains each lock that the child held or retained,
  * in the strongest of these modes and its own.
+ *
+ * An abort ends the transaction and all its live descendants; their versions go and their locks are
+ * discarded. With a report, which may tell the parent what was read, the parent retains each lock that
+ * the transaction itself held or retained, in the strongest of these modes and its own; the locks of its
+ * descendants are discarded as before, and a top transaction has no parent and discards.
  */
 #define NEKAHUIRO_BEGIN 1
 #define NEKAHUIRO_LOCK 2
@@ -102,13 +107,15 @@ extern "C" {
 #define NEKAHUIRO_NO_CUT 63
 #define NEKAHUIRO_WRITE_MODE 0
 #define NEKAHUIRO_READ_MODE 1
+#define NEKAHUIRO_NO_REPORT 0
+#define NEKAHUIRO_WITH_REPORT 1
 
 /* The answer to an event: a number, then a value. The value is the new transaction's number for
  * begin, the byte for read, the page writes made for commit and recover (also when cut), else 0.
  * A refused event (1 to 10) changes nothing but its answer. The first reason that holds is given.
  */
 #define NEKAHUIRO_DONE 0           /* done */
-#define NEKAHUIRO_BAD_EVENT 1      /* kind 0 or 9 to 15, an unused field isn't 0, or no such mode */
+#define NEKAHUIRO_BAD_EVENT 1      /* kind 0 or 9 to 15, an unused field isn't 0, or no such value */
 #define NEKAHUIRO_DOWN 2           /* down, and the event is neither recover nor crash */
 #define NEKAHUIRO_UP 3             /* recover while up */
 #define NEKAHUIRO_DAMAGED 4        /* recover or age, and page 0 is damaged */

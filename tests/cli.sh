@@ -57,6 +57,10 @@ ok "a bad word to words" "bad, answered 1" "$run" encode 70000001
 ok "a lock to read, to a word" "^20980001$" "$run" encode read-lock 1 3
 ok "a word to a lock to read" "^read-lock 1 3$" "$run" encode 20980001
 ok "a mode that there isn't" "bad, answered 1: lock in mode 2" "$run" encode 20980002
+ok "an abort with a report, to a word" "^60800001$" "$run" encode abort 1 report
+ok "a word to an abort with a report" "^abort 1 report$" "$run" encode 60800001
+ok "a report that there isn't" "bad, answered 1: abort with value 2" "$run" encode 60800002
+fails "an abort with something else" 1 "abort 1 why" "$run" encode abort 1 why
 ok "raw bytes to words" "^lock 0 3$" bash -c "'$run' encode --raw <words.txt | '$run' encode"
 bash -c "'$run' encode --raw <words.txt >raw.bin"
 ok "play raw bytes" "^40188000 00A5$" "$run" play store raw.bin
@@ -82,6 +86,11 @@ holds "a reader waits to write" grep -q "lock 1 3: refused 8" out
 holds "a reader that writes" grep -q "record 3 held by 1$" out
 ok "picture of readers" ">0r 1r<" \
     bash -c "cat readers.txt raised.txt | '$run' play other - --picture readers.svg --dry && cat readers.svg"
+text 'recover 63\nbegin none\nbegin 0\nread-lock 1 3\nabort 1 report\nbegin none\nlock 1 3\n' reported.txt
+ok "trace of a report" "abort 1 report: done, with a report" "$run" play other reported.txt --trace --dry
+holds "the parent retains" grep -q "record 3 retained to read by 0$" out
+holds "a stranger can't write" grep -q "lock 1 3: refused 8" out
+ok "picture of a report" ">✗↑<" bash -c "'$run' play other reported.txt --picture reported.svg --dry && cat reported.svg"
 cp store before
 ok "a dry run" "a dry run: the store is left as it was" "$run" play store hex.txt --dry
 same "a dry run leaves the store" store before

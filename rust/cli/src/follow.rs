@@ -66,7 +66,7 @@ impl Follower {
             Event::Lock { transaction, record } => self.lock(transaction, record, Mode::Write),
             Event::ReadLock { transaction, record } => self.lock(transaction, record, Mode::Read),
             Event::Commit { transaction, .. } => self.commit(transaction.number()),
-            Event::Abort { transaction } => self.abort(transaction.number()),
+            Event::Abort { transaction, report } => self.abort(transaction.number(), report),
             Event::Crash => *self = Follower::default(),
             Event::Recover { .. } => self.up = true,
             Event::Write { .. } | Event::Read { .. } => {}
@@ -82,14 +82,21 @@ impl Follower {
 
     fn commit(&mut self, transaction: u8) {
         let parent = self.live.remove(&transaction).flatten();
+        self.pass(transaction, parent);
+    }
+
+    /// The heir retains what a transaction held or retained; without one nobody does.
+    fn pass(&mut self, transaction: u8, heir: Option<u8>) {
         for lock in &mut self.locks {
-            if let (Some(mode), Some(parent)) = (lock.discard(transaction), parent) {
-                strengthen(&mut lock.retainers, parent, mode);
+            if let (Some(mode), Some(heir)) = (lock.discard(transaction), heir) {
+                strengthen(&mut lock.retainers, heir, mode);
             }
         }
     }
 
-    fn abort(&mut self, aborted: u8) {
+    fn abort(&mut self, aborted: u8, report: bool) {
+        let parent = self.live.get(&aborted).copied().flatten().filter(|_| report);
+        self.pass(aborted, parent);
         let ended: Vec<u8> = self.live.keys().copied().filter(|t| self.line(*t).any(|up| up == aborted)).collect();
         for transaction in ended {
             self.live.remove(&transaction);

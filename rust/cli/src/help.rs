@@ -35,7 +35,8 @@ one to a line; # starts a comment. What has a byte 0 in it is taken as raw event
   write TRANSACTION RECORD OFFSET VALUE   VALUE is in hex, all else decimal
   read TRANSACTION RECORD OFFSET
   commit TRANSACTION COUNT                the power goes after COUNT page writes; 63: it doesn't
-  abort TRANSACTION
+  abort TRANSACTION                       its locks go with it
+  abort TRANSACTION report                its parent retains its locks, since it told what it read
   crash
   recover COUNT                           a run starts down: recover comes first
 

@@ -57,6 +57,7 @@ pub fn what_happened(event: Option<Event>, word: [u8; EVENT_BYTES], answer: Answ
         Some(Event::Read { .. }) => format!("the byte is {:02X}", answer.value),
         Some(Event::Commit { .. }) => format!("done, {}", page_writes(answer.value)),
         Some(Event::Recover { .. }) => format!("the store is up, {}", page_writes(answer.value)),
+        Some(Event::Abort { report: true, .. }) => "done, with a report".to_string(),
         Some(Event::Crash) => "the store is down".to_string(),
         _ => "done".to_string(),
     }

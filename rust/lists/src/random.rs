@@ -19,6 +19,8 @@ pub struct Taste {
     pub nested: usize,
     /// Locks asked for only to read.
     pub reading: usize,
+    /// Aborts with a report.
+    pub reports: usize,
     /// Live transactions before it is time to commit.
     pub crowd: usize,
     /// Nested begins under the deepest transaction: deep rather than wide.
@@ -54,6 +56,7 @@ impl Taste {
             offsets: rng.one_of([1, 2, PAGE_BYTES]),
             nested: rng.one_of([20, 60, 90, 98]),
             reading: rng.one_of([0, 20, 50, 80]),
+            reports: rng.one_of([0, 40, 90]),
             crowd: rng.one_of([1, 2, 3, 5, 9, TRANSACTIONS]),
             deep: rng.one_of([10, 60, 95]),
             cuts: rng.one_of([0, 10, 40, 80]),
@@ -182,7 +185,8 @@ impl Maker<'_> {
             }
             _ => {
                 let transaction = self.rng.pick(&self.sketch.leaves()).copied().unwrap_or(anyone);
-                Fields { kind: 6, transaction: if self.rng.percent(70) { transaction } else { anyone }, ..fields }
+                let transaction = if self.rng.percent(70) { transaction } else { anyone };
+                Fields { kind: 6, transaction, value: u8::from(self.rng.percent(self.taste.reports)), ..fields }
             }
         }
     }
@@ -234,7 +238,7 @@ impl Maker<'_> {
             2 => self.sketch.lock(transaction, record, value == 0),
             3 => self.sketch.write(transaction, record),
             5 => self.sketch.commit(transaction, count),
-            6 => self.sketch.abort(transaction),
+            6 => self.sketch.abort(transaction, value == 1),
             _ => {}
         }
     }

@@ -187,12 +187,7 @@ impl Sketch {
         }
         let heir = live.parent.map_or(0, bit);
         for lock in &mut self.locks {
-            let gone = lock.without(bit(transaction));
-            if gone.writer.is_some() || gone.write_retainers != 0 {
-                lock.write_retainers |= heir;
-            } else if gone.readers | gone.read_retainers != 0 {
-                lock.read_retainers |= heir;
-            }
+            lock.pass(bit(transaction), heir);
         }
         if let Some(parent) = live.parent.and_then(|p| self.live[usize::from(p)].as_mut()) {
             parent.wrote |= live.wrote;
@@ -200,12 +195,14 @@ impl Sketch {
         self.live[usize::from(transaction)] = None;
     }
 
-    /// An abort.
-    pub fn abort(&mut self, transaction: u8) {
+    /// An abort, with a report or without.
+    pub fn abort(&mut self, transaction: u8, report: bool) {
         let under = |t: &u8| self.line(*t) & bit(transaction) != 0;
         let ended: Vec<u8> = self.live().into_iter().filter(under).collect();
         let set = ended.iter().fold(0, |set, t| set | bit(*t));
+        let heir = self.at(transaction).and_then(|live| live.parent).filter(|_| report).map_or(0, bit);
         for lock in &mut self.locks {
+            lock.pass(bit(transaction), heir);
             lock.without(set);
         }
         for t in ended {
@@ -228,6 +225,16 @@ impl Sketch {
 }
 
 impl Lock {
+    /// A transaction's heir retains what it held or retained; without one nobody does.
+    fn pass(&mut self, transaction: u32, heir: u32) {
+        let gone = self.without(transaction);
+        if gone.writer.is_some() || gone.write_retainers != 0 {
+            self.write_retainers |= heir;
+        } else if gone.readers | gone.read_retainers != 0 {
+            self.read_retainers |= heir;
+        }
+    }
+
     /// Takes transactions out, and hands out what they had.
     fn without(&mut self, set: u32) -> Lock {
         let gone = Lock {

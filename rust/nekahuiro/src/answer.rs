@@ -50,7 +50,7 @@ impl Answer {
     pub fn refusal(self) -> Option<String> {
         Some(match self.number {
             DONE | CUT => return None,
-            1 => "bad event: no such kind or mode, or a field that it doesn't use isn't 0".to_string(),
+            1 => "bad event: no such kind, mode or report, or a field that it doesn't use isn't 0".to_string(),
             2 => "the store is down: recover first".to_string(),
             3 => "the store is up already".to_string(),
             4 => "page 0 is damaged".to_string(),

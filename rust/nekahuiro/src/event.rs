@@ -41,7 +41,7 @@ pub struct Fields {
     pub offset: u8,
     /// The page writes that happen before the power goes; 6 bits.
     pub count: u8,
-    /// The byte to write, or the mode of a lock: 0 write, 1 read; 8 bits.
+    /// The byte to write; or the mode of a lock: 0 write, 1 read; or 1 in an abort with a report; 8 bits.
     pub value: u8,
 }
 
@@ -134,6 +134,8 @@ pub enum Event {
     Abort {
         /// Who aborts.
         transaction: Transaction,
+        /// Whether it tells its parent why: the parent then retains its locks.
+        report: bool,
     },
     /// The power goes.
     Crash,
@@ -166,7 +168,9 @@ impl Event {
             Event::Commit { transaction, count } => {
                 Fields { kind: 5, transaction: transaction.number(), count, ..none }
             }
-            Event::Abort { transaction } => Fields { kind: 6, transaction: transaction.number(), ..none },
+            Event::Abort { transaction, report } => {
+                Fields { kind: 6, transaction: transaction.number(), value: report as u8, ..none }
+            }
             Event::Crash => Fields { kind: 7, ..none },
             Event::Recover { count } => Fields { kind: 8, count, ..none },
         }
@@ -188,12 +192,12 @@ impl Event {
             3 => Event::Write { transaction, record, offset, value },
             4 => Event::Read { transaction, record, offset },
             5 => Event::Commit { transaction, count },
-            6 => Event::Abort { transaction },
+            6 => Event::Abort { transaction, report: value == 1 },
             7 => Event::Crash,
             8 => Event::Recover { count },
             _ => return None,
         };
-        // A word with a stray bit or another mode isn't the word of the event that its fields tell.
+        // A word with a stray bit or another value isn't the word of the event that its fields tell.
         (event.word() == word).then_some(event)
     }
 }

@@ -30,7 +30,7 @@ const FORMS: [(&str, &str); 9] = [
     ("write", "write TRANSACTION RECORD OFFSET VALUE"),
     ("read", "read TRANSACTION RECORD OFFSET"),
     ("commit", "commit TRANSACTION COUNT"),
-    ("abort", "abort TRANSACTION"),
+    ("abort", "abort TRANSACTION | abort TRANSACTION report"),
     ("crash", "crash"),
     ("recover", "recover COUNT"),
 ];
@@ -50,7 +50,8 @@ impl fmt::Display for Event {
             }
             Event::Read { transaction, record, offset } => write!(f, "read {transaction} {record} {offset}"),
             Event::Commit { transaction, count } => write!(f, "commit {transaction} {count}"),
-            Event::Abort { transaction } => write!(f, "abort {transaction}"),
+            Event::Abort { transaction, report: false } => write!(f, "abort {transaction}"),
+            Event::Abort { transaction, report: true } => write!(f, "abort {transaction} report"),
             Event::Crash => write!(f, "crash"),
             Event::Recover { count } => write!(f, "recover {count}"),
         }
@@ -73,6 +74,7 @@ pub fn why_bad(word: [u8; EVENT_BYTES]) -> Option<String> {
     let Fields { kind, value, .. } = Fields::of(word);
     Some(match KINDS.get(usize::from(kind).wrapping_sub(1)) {
         Some(&"lock") if value > 1 => format!("lock in mode {value}: there are 0 to write and 1 to read"),
+        Some(&"abort") if value > 1 => format!("abort with value {value}: there are 0, and 1 with a report"),
         Some(name) => format!("{name} with a field that it doesn't use and that isn't 0"),
         None => format!("there is no kind {kind}"),
     })
@@ -102,7 +104,7 @@ impl FromStr for Event {
                 Event::Read { transaction: words.transaction()?, record: words.record()?, offset: words.offset()? }
             }
             "commit" => Event::Commit { transaction: words.transaction()?, count: words.count()? },
-            "abort" => Event::Abort { transaction: words.transaction()? },
+            "abort" => Event::Abort { transaction: words.transaction()?, report: words.report() },
             "crash" => Event::Crash,
             _ => Event::Recover { count: words.count()? },
         };
@@ -168,6 +170,15 @@ impl Words<'_> {
             }
             _ => self.named("parent", TRANSACTION_NAMES, Transaction::new),
         }
+    }
+
+    /// Whether the word `report` comes.
+    fn report(&mut self) -> bool {
+        let said = self.rest.clone().next().is_some_and(|word| word.eq_ignore_ascii_case("report"));
+        if said {
+            self.rest.next();
+        }
+        said
     }
 
     fn record(&mut self) -> Result<Record, BadWords> {

@@ -32,16 +32,16 @@ pub enum Event {
     Read(Transaction, Record, u8),
     /// Commit, with the number of page writes before the power goes.
     Commit(Transaction, u8),
-    /// Abort with all live descendants.
-    Abort(Transaction),
+    /// Abort with all live descendants; with a report the parent keeps the locks.
+    Abort(Transaction, bool),
     /// The power goes.
     Crash,
     /// Recover, with the number of page writes before the power goes.
     Recover(u8),
 }
 
-/// The event that a word tells, or none if the word is bad: an unknown kind, a stray bit or a mode that
-/// there isn't.
+/// The event that a word tells, or none if the word is bad: an unknown kind, a stray bit or a value that
+/// the kind doesn't take.
 pub fn decode(word: [u8; EVENT_BYTES]) -> Option<Event> {
     let bits = u32::from_be_bytes(word);
     let field = |shift: u32, width: u32| ((bits >> shift) & ((1 << width) - 1)) as u8;
@@ -66,7 +66,14 @@ pub fn decode(word: [u8; EVENT_BYTES]) -> Option<Event> {
         3 => (Event::Write(transaction, record, offset, value), no_count),
         4 => (Event::Read(transaction, record, offset), no_count && no_value),
         5 => (Event::Commit(transaction, count), no_record && no_offset && no_value),
-        6 => (Event::Abort(transaction), no_record && no_offset && no_count && no_value),
+        6 => {
+            let report = match value {
+                0 => false,
+                1 => true,
+                _ => return None,
+            };
+            (Event::Abort(transaction, report), no_record && no_offset && no_count)
+        }
         7 => (Event::Crash, bits << 4 == 0),
         8 => (Event::Recover(count), named == 0 && no_record && no_offset && no_value),
         _ => return None,

@@ -62,6 +62,15 @@ impl Locks {
         }
     }
 
+    /// The parent holds what its child held. Only a planted bug does this.
+    pub fn hand_over(&mut self, child: Transaction, parent: Transaction) {
+        for record in (0..RECORDS as u8).map(Record) {
+            if let Some(mode) = self.held(child, record) {
+                self.grant(parent, record, mode);
+            }
+        }
+    }
+
     /// Whoever is among these holds and retains nothing any more.
     pub fn discard(&mut self, ended: &[Transaction]) {
         for shares in &mut self.table {

@@ -1,6 +1,6 @@
 //! Known bugs that a test build can plant, to show that the tests find them.
 
-/// A bug to plant: slips, the five shortcuts that the rules warn of, and slips in the modes of locks.
+/// A bug to plant: slips, the five shortcuts that the rules warn of, and slips in modes and reports.
 #[derive(Clone, Copy, Debug, PartialEq, Eq)]
 pub enum Bug {
     /// A parent with a version of its own keeps it when its child commits one.
@@ -27,11 +27,17 @@ pub enum Bug {
     ParentInheritsWeakerMode,
     /// A read lock is enough to write.
     WriteUnderReadLock,
+    /// A report leaves the parent the versions too.
+    ReportKeepsVersions,
+    /// A report leaves the parent the locks of the descendants too.
+    ReportKeepsDescendantsLocks,
+    /// A report lets the parent hold what was held.
+    ReportLetsParentHold,
 }
 
 impl Bug {
     /// All of them.
-    pub const ALL: [Bug; 12] = [
+    pub const ALL: [Bug; 15] = [
         Bug::ParentKeepsItsVersion,
         Bug::GrantBlindToRetainers,
         Bug::CutOffByOne,
@@ -44,5 +50,8 @@ impl Bug {
         Bug::WriteBlindToReadRetainers,
         Bug::ParentInheritsWeakerMode,
         Bug::WriteUnderReadLock,
+        Bug::ReportKeepsVersions,
+        Bug::ReportKeepsDescendantsLocks,
+        Bug::ReportLetsParentHold,
     ];
 }

@@ -80,7 +80,7 @@ impl<'s> Player<'s> {
             Event::Write(transaction, record, offset, value) => self.write(transaction, record, offset, value),
             Event::Read(transaction, record, offset) => self.read(transaction, record, offset),
             Event::Commit(transaction, count) => self.commit(transaction, count),
-            Event::Abort(transaction) => self.abort(transaction),
+            Event::Abort(transaction, report) => self.abort(transaction, report),
         }
     }
 
@@ -222,17 +222,36 @@ impl<'s> Player<'s> {
         Answer(if cut { CUT } else { DONE }, due.min(count as usize) as u8)
     }
 
-    fn abort(&mut self, transaction: Transaction) -> Outcome {
+    fn abort(&mut self, transaction: Transaction, report: bool) -> Outcome {
         self.live(transaction)?;
         if self.planted(Bug::AbortRestoresHome) {
             self.forget_ancestors_versions(transaction);
         }
         let ended = self.volatile.tree.with_descendants(transaction);
+        let told = self.volatile.tree.get(transaction).and_then(|node| node.parent).filter(|_| report);
+        if let Some(parent) = told {
+            self.report(transaction, parent, &ended);
+        }
         for transaction in &ended {
             self.volatile.tree.remove(*transaction);
         }
         self.volatile.locks.discard(&ended);
         Ok(Answer(DONE, 0))
+    }
+
+    /// The parent retains what the failed transaction itself held or retained, in the stronger mode.
+    fn report(&mut self, failed: Transaction, parent: Transaction, ended: &[Transaction]) {
+        if self.planted(Bug::ReportKeepsVersions) {
+            let versions = self.volatile.tree.get(failed).map(|node| node.versions.clone()).unwrap_or_default();
+            self.volatile.tree.get_mut(parent).into_iter().for_each(|node| node.versions.extend(versions.clone()));
+        }
+        if self.planted(Bug::ReportKeepsDescendantsLocks) {
+            ended.iter().for_each(|t| self.volatile.locks.pass_up(*t, parent, false));
+        }
+        if self.planted(Bug::ReportLetsParentHold) {
+            self.volatile.locks.hand_over(failed, parent);
+        }
+        self.volatile.locks.pass_up(failed, parent, false);
     }
 
     /// Only a planted bug does this.

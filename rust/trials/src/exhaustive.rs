@@ -38,10 +38,15 @@ pub const SHARED_PREFIX: &str = "recover 63, begin none, begin none, begin 0";
 pub const MODES: &str =
     "begin 0, begin none, lock 1 0, read-lock 1 0, write 1 0 0 11, commit 1 63, abort 1, lock 0 0, read-lock 0 0";
 
+/// A child with a child of its own, both aborted with a report or without, and what its parent finds.
+pub const REPORTED: &str = "begin 0, begin 1, lock 1 0, read-lock 1 0, lock 2 0, read-lock 2 15, write 1 0 0 11, \
+    write 2 0 0 22, commit 2 63, abort 1, abort 1 report, abort 2 report, lock 0 0, read 0 0 0, write 0 0 31 33, \
+    begin none, read-lock 1 0, lock 1 15";
+
 /// Events that are bad or name what there isn't.
 pub const STRAY: &str =
     "00000000, 90000000, recover 63, begin none, begin 0, begin 24, 1F800001, lock 0 0, lock 31 0, \
-    20004000, 20000002, 30000100, write 0 0 0 11, 40000001, commit 0 63, 50080000, 60000001, 70000001, 80800000, crash";
+    20004000, 20000002, 30000100, write 0 0 0 11, 40000001, commit 0 63, 50080000, 60000002, 70000001, 80800000, crash";
 
 /// How the lists are chosen.
 #[derive(Clone, Copy, PartialEq, Eq)]

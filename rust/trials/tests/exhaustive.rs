@@ -3,7 +3,7 @@
 use nekahuiro_lists::stores::{self, Bytes};
 use nekahuiro_lists::Rng;
 use nekahuiro_trials::exhaustive::{
-    Choice, Family, CONTENDED, CRASHING, INHERITED, MODES, NESTED, SHARED, SHARED_PREFIX, STRAY,
+    Choice, Family, CONTENDED, CRASHING, INHERITED, MODES, NESTED, REPORTED, SHARED, SHARED_PREFIX, STRAY,
 };
 use nekahuiro_trials::{settings, Program};
 use std::time::Instant;
@@ -62,4 +62,9 @@ fn locks_to_read_and_to_write() {
     play("shared, fresh", stores::fresh(), SHARED, SHARED_PREFIX, 4, Choice::Every);
     play("shared, accepted", committed(), SHARED, SHARED_PREFIX, 6, Choice::AcceptedButLast);
     play("modes, accepted", stores::fresh(), MODES, "recover 63, begin none", 8, Choice::AcceptedButLast);
+}
+
+#[test]
+fn aborts_with_a_report() {
+    play("reported, accepted", committed(), REPORTED, "recover 63, begin none", 6, Choice::AcceptedButLast);
 }

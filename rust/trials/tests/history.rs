@@ -76,6 +76,7 @@ fn demand_3_alone_finds_wrong_programs() {
         Bug::EmptiedTooEarly,
         Bug::AbortRestoresHome,
         Bug::WriteUnderReadLock,
+        Bug::ReportKeepsVersions,
     ];
     for bug in wrong {
         let program = Program::Planted(bug);

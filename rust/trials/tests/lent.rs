@@ -160,6 +160,7 @@ fn events_on(state: &State, rng: &mut Rng) -> Vec<u8> {
         let someone = rng.pick(&live).map_or(anyone, |live| live.number());
         let transaction = if rng.percent(85) { someone } else { anyone };
         let (record, offset, value) = (rng.below(records) as u8, rng.below(32) as u8, rng.byte());
+        // The mode of a lock, or whether an abort has a report.
         let mode = rng.below(2) as u8;
         let count = if rng.percent(70) { 63 } else { rng.below(8) as u8 };
         let none = Fields::default();
@@ -170,7 +171,7 @@ fn events_on(state: &State, rng: &mut Rng) -> Vec<u8> {
             9..=11 => Fields { kind: 3, transaction, record, offset, value, ..none },
             12..=13 => Fields { kind: 4, transaction, record, offset, ..none },
             14..=17 => Fields { kind: 5, transaction, count, ..none },
-            18 => Fields { kind: 6, transaction, ..none },
+            18 => Fields { kind: 6, transaction, value: mode, ..none },
             _ if rng.percent(50) => Fields { kind: 8, count, ..none },
             _ => Fields { kind: rng.below(16) as u8, value: rng.below(2) as u8, ..none },
         };

@@ -2,7 +2,7 @@
 
 use nekahuiro_lists::stores;
 use nekahuiro_player::planted::Bug;
-use nekahuiro_trials::exhaustive::{Choice, Family, CONTENDED, CRASHING, INHERITED, MODES, NESTED};
+use nekahuiro_trials::exhaustive::{Choice, Family, CONTENDED, CRASHING, INHERITED, MODES, NESTED, REPORTED};
 use nekahuiro_trials::{random, settings, Program};
 
 #[test]
@@ -24,7 +24,7 @@ fn exhaustive_lists_find_every_planted_bug() {
 
 /// A failing list of up to this many events after the first two.
 fn shortest(bug: Bug, length: usize) -> Option<String> {
-    let wide: &[&str] = if length <= 6 { &[NESTED, CONTENDED, CRASHING] } else { &[] };
+    let wide: &[&str] = if length <= 6 { &[NESTED, CONTENDED, CRASHING, REPORTED] } else { &[] };
     wide.iter().chain(&[INHERITED, MODES]).find_map(|alphabet| {
         let (program, store, prefix) = (Program::Planted(bug), stores::fresh(), "recover 63, begin none");
         Family { program, store, alphabet, prefix, length, choice: Choice::AcceptedButLast }.play().err()

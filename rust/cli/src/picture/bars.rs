@@ -84,7 +84,7 @@ fn letters(event: Event) -> Option<(&'static str, String)> {
         Event::Write { record, .. } => ("event", format!("W{record}")),
         Event::Read { record, .. } => ("event", format!("R{record}")),
         Event::Commit { .. } => ("end", "\u{2713}".to_string()),
-        Event::Abort { .. } => ("end", "\u{2717}".to_string()),
+        Event::Abort { report, .. } => ("end", format!("\u{2717}{}", if report { "\u{2191}" } else { "" })),
         Event::Crash | Event::Recover { .. } => return None,
     })
 }

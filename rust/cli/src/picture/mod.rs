@@ -146,7 +146,7 @@ fn legend(svg: &mut Svg, told: &Told, scale: &Scale, top: f64) {
         "L lock, W write, R read, each with its record; L3r: only to read",
         "struck through: refused",
         "\u{2713} commit",
-        "\u{2717} abort",
+        "\u{2717} abort, \u{2717}\u{2191} with a report",
     ];
     let marks = ["black: an event of the transaction", "red: a refused one"];
     let crash =
