@@ -88,7 +88,7 @@ module _ (f : Form) (M : MediumLaws (f .geometry) (f .medium)) where
   act-settled s (write t q o v) k r = absurd (false≢true k)
   act-settled s (read t q o) k r = absurd (false≢true k)
   act-settled s (commit t n) k r = absurd (false≢true k)
-  act-settled s (abort t) k r = absurd (false≢true k)
+  act-settled s (abort t w) k r = absurd (false≢true k)
   act-settled s crash k r = refl
   act-settled s (recover n) k r = go (f .medium .recover (s .store) n .crashed)
     where

@@ -13,7 +13,7 @@ use Rattle.rules.specs.Event.{Event, begin, lock, write, read, commit, abort, c
 use Rattle.rules.specs.State.{free, lineOf, mem, live, down, open-state}
 use Rattle.rules.specs.Commit.{Cut}
 use Rattle.rules.specs.Form.{Form}
-use Rattle.rules.specs.Step.{StateOf, OutcomeOf, firstFree, begun, locked, wrote, ended as endedState, passed, raised, concluded, finished, refusal, commitsTop, commitsChild, commits, recovers, act, step}
+use Rattle.rules.specs.Step.{StateOf, OutcomeOf, firstFree, begun, locked, wrote, ended as endedState, passed, retaining, aborted, raised, concluded, finished, refusal, commitsTop, commitsChild, commits, recovers, act, step}
 use Rattle.rules.specs.Sound.{Sound}
 use Rattle.rules.proofs.Tree.{Lines, isCons, mem-cons}
 use Rattle.rules.proofs.Bearers.{endedIn, begun-line, ended-line}
@@ -129,13 +129,13 @@ module _ (f : Form) {s : StateOf f} (S : Sound f s) (φ : Root → Root) where
     fair-commit k (a ∷ y ∷ l) q F = fair-child a y l q F
 
   fair-act : (e : Event) → refusal f s e ≡ none → Keeps e (act f s e)
-  unfolding act finished locked wrote endedState down firstFree
+  unfolding act finished locked wrote endedState retaining aborted down firstFree
   fair-act (begin p) q F = fair-begin p (firstFree s) (begin-ok f s p q .unborne) F
   fair-act (lock t r a) q F = F
   fair-act (write t r o v) q F = F
   fair-act (read t r o) q F = F
   fair-act (commit x k) q F = fair-commit x (commit-ok f s x k q) k (line x) refl F
-  fair-act (abort x) q F = fair-lose (λ j. mem x (line j)) (beneath-closed S x) (fair-ended (λ j. mem x (line j)) (beneath-closed S x) F)
+  fair-act (abort x w) q F = fair-lose (λ j. mem x (line j)) (beneath-closed S x) (fair-ended (λ j. mem x (line j)) (beneath-closed S x) F)
   fair-act crash q F = fair-down F
   fair-act (recover k) q F = fair-recover k F
 

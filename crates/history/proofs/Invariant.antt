@@ -19,7 +19,7 @@ use Rattle.rules.specs.State.{isActive, lineOf, mem, live, down}
 use Rattle.rules.specs.Versions.{isSome}
 use Rattle.rules.specs.Commit.{Cut}
 use Rattle.rules.specs.Form.{Form}
-use Rattle.rules.specs.Step.{Answer, done, refused, cut, valueOf, StateOf, OutcomeOf, firstFree, begun, locked, wrote, ended as endedState, passed, raised, concluded, finished, visible, refusal, commitsTop, commitsChild, commits, recovers, act, step}
+use Rattle.rules.specs.Step.{Answer, done, refused, cut, valueOf, StateOf, OutcomeOf, firstFree, begun, locked, wrote, ended as endedState, passed, retaining, aborted, raised, concluded, finished, visible, refusal, commitsTop, commitsChild, commits, recovers, act, step}
 use Rattle.rules.specs.Sound.{Sound}
 use Rattle.rules.proofs.Tree.{Lines, isCons}
 use Rattle.rules.proofs.Bearers.{begun-line, ended-rooted}
@@ -61,7 +61,7 @@ module _ (f : Form) where
   turnBy s (write t r o v) a c = c
   turnBy s (read t r o) a c = c
   turnBy s (commit x k) a c = commitTurn x (lineOf (s .bearer) x) (suffices a (changedOf s x)) c
-  turnBy s (abort x) a c = lose (λ j. mem x (lineOf (s .bearer) j)) c
+  turnBy s (abort x w) a c = lose (λ j. mem x (lineOf (s .bearer) j)) c
   turnBy s crash a c = allLost c
   turnBy s (recover k) a c = c
 
@@ -121,10 +121,10 @@ module _ (f : Form) (M : MediumLaws (f .geometry) (f .medium)) {start : ℕ → 
   by-ending : (s′ : StateOf f) (h′ : History) (φ : Root → Root) → h′ .begun ≡ h .begun → Holds f start s′ h′ (λ i. φ (root i)) → After f start s′ h h′ root φ
   by-ending s′ h′ φ e T = record { root′ = λ i. φ (root i); turned = λ i k. refl; grown = omega (arith, e); tells = T }
 
-  act-abort : (t : ℕ) → live s t ≡ true
-      → After f start (endedState s (λ j. mem t (lineOf (s .bearer) j)) (s .store)) h (ending (isWithin h (h .bearer t)) ended h) root (lose (λ j. mem t (lineOf (s .bearer) j)))
-  unfolding endedState live ending
-  act-abort t alive = by-ending _ _ (lose (λ j. mem t (lineOf (s .bearer) j))) refl
+  act-abort : (t : ℕ) (w : Bool) → live s t ≡ true
+      → After f start (aborted s t w (lineOf (s .bearer) t)) h (ending (isWithin h (h .bearer t)) ended h) root (lose (λ j. mem t (lineOf (s .bearer) j)))
+  unfolding endedState retaining aborted live ending
+  act-abort t w alive = by-ending _ _ (lose (λ j. mem t (lineOf (s .bearer) j))) refl
       (lost-tells (rooted-of S) H (λ j. mem t (lineOf (s .bearer) j)) (isWithin h (h .bearer t)) (beneath-closed S t) (λ u e. within-is (rooted-of S) (H .table) t u alive e))
 
   -- all end over a store with these settled records
@@ -217,7 +217,7 @@ module _ (f : Form) (M : MediumLaws (f .geometry) (f .medium)) {start : ℕ → 
   act-any (write t r o v) q = act-write t r o v (write-ok f s t r o v q)
   act-any (read t r o) q = nothing-done (λ c. refl)
   act-any (commit x k) q = act-commit x (commit-ok f s x k q) k (lineOf (s .bearer) x) refl
-  act-any (abort t) q = act-abort t (abort-ok f s t q .alive)
+  act-any (abort t w) q = act-abort t w (abort-ok f s t w q .alive)
   act-any crash q = act-down (s .store) (λ r. refl)
   act-any (recover k) q = act-recover k
 

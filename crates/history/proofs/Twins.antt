@@ -17,7 +17,7 @@ use Rattle.rules.specs.State.{lineOf, mem, Versions, down}
 use Rattle.rules.specs.Versions.{isSome, else, also, nearest, withVersion, handedUp, dropped}
 use Rattle.rules.specs.Commit.{Cut}
 use Rattle.rules.specs.Form.{Form}
-use Rattle.rules.specs.Step.{Answer, done, cut, StateOf, OutcomeOf, wrote, ended as endedState, passed, raised, concluded, finished, visible, refusal, commitsTop, commitsChild, recovers, act}
+use Rattle.rules.specs.Step.{Answer, done, cut, StateOf, OutcomeOf, wrote, ended as endedState, retaining, aborted, passed, raised, concluded, finished, visible, refusal, commitsTop, commitsChild, recovers, act}
 use Rattle.rules.specs.Sound.{Sound}
 use Rattle.rules.proofs.Medium.{MediumLaws, stored as storedBy}
 use Rattle.rules.proofs.Owners.{is-also}
@@ -122,16 +122,18 @@ module _ (f : Form) (M : MediumLaws (f .geometry) (f .medium)) {s : StateOf f} {
       go′ j r z (yes′ k) = rw k
       go′ j r z (no′ k) = rw k (W .alike j r (rw (keeps j k) z))
 
-  pub twin-abort : (ψ : Root → Root) (x : ℕ) → Twin f M (λ c. φ (lose (λ j. mem x (lineOf (s .bearer) j)) c)) s ver d
-      → Next f M ψ φ (some (abort x)) (act f s (abort x)) (act f (swap f s ver d) (abort x))
-  unfolding act finished endedState
-  twin-abort ψ x W = record {
-    ver = dropped (λ j. mem x (lineOf (s .bearer) j)) ver;
-    store = d;
-    stands = refl;
-    twin = ended-twin (λ j. mem x (lineOf (s .bearer) j)) (lose (λ j. mem x (lineOf (s .bearer) j))) (s .store) d (λ j k. rw k) W (W .stores);
-    echo = same-answer refl;
-  }
+  pub twin-abort : (ψ : Root → Root) (x : ℕ) (w : Bool) → Twin f M (λ c. φ (lose (λ j. mem x (lineOf (s .bearer) j)) c)) s ver d
+      → Next f M ψ φ (some (abort x w)) (act f s (abort x w)) (act f (swap f s ver d) (abort x w))
+  unfolding act finished endedState retaining aborted
+  twin-abort ψ x w W =
+      let E = ended-twin (λ j. mem x (lineOf (s .bearer) j)) (lose (λ j. mem x (lineOf (s .bearer) j))) (s .store) d (λ j k. rw k) W (W .stores) in
+      record {
+        ver = dropped (λ j. mem x (lineOf (s .bearer) j)) ver;
+        store = d;
+        stands = refl;
+        twin = record { shape = E .shape; alike = E .alike; stores = E .stores };
+        echo = same-answer refl;
+      }
 
   pub twin-child : (ψ : Root → Root) (e : Event) (x y : ℕ) → x ≢ y → Twin f M (λ c. φ (move x (at y) c)) s ver d
       → Next f M ψ φ (some e) (commitsChild f s x y) (commitsChild f (swap f s ver d) x y)

@@ -48,7 +48,7 @@ module _ (f : Form) (M : MediumLaws (f .geometry) (f .medium)) {s : StateOf f} (
   twin-act (write t r o v) q F W = twin-write f M S F W t r o v v (write-ok f s t r o v q .up) (λ e. refl)
   twin-act (read t r o) q F W = twin-read f M S F W t r o (read-ok f s t r o q .up)
   twin-act (commit x k) q F W = twin-commit x k (commit-ok f s x k q) (lineOf (s .bearer) x) refl _ W
-  twin-act (abort x) q F W = twin-abort f M _ x W
+  twin-act (abort x w) q F W = twin-abort f M _ x w W
   twin-act crash q F W = record { ver = λ j r. none; store = d; stands = refl; twin = down-twin f M (s .store) d (W .stores); echo = same-answer refl }
   twin-act (recover k) q F W = twin-recover f M _ k W
 
@@ -60,7 +60,7 @@ module _ (f : Form) (M : MediumLaws (f .geometry) (f .medium)) {s : StateOf f} (
   same-refusal (write t r o v) A = refl
   same-refusal (read t r o) A = refl
   same-refusal (commit x k) A = refl
-  same-refusal (abort x) A = refl
+  same-refusal (abort x w) A = refl
   same-refusal crash A = refl
   same-refusal (recover k) A = rw (M .agree-damaged (s .store) d A)
 

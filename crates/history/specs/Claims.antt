@@ -26,7 +26,7 @@ isRestart (some (lock t r a)) = false
 isRestart (some (write t r o v)) = false
 isRestart (some (read t r o)) = false
 isRestart (some (commit t k)) = false
-isRestart (some (abort t)) = false
+isRestart (some (abort t w)) = false
 isRestart (some crash) = true
 isRestart (some (recover k)) = true
 

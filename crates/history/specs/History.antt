@@ -52,7 +52,7 @@ names (lock t r access) = some t
 names (write t r o v) = some t
 names (read t r o) = some t
 names (commit t k) = some t
-names (abort t) = some t
+names (abort t w) = some t
 names crash = none
 names (recover k) = none
 
@@ -160,7 +160,7 @@ effect (lock t r access) a = nothing
 effect (write t r o v) a = writes t r o v
 effect (read t r o) a = nothing
 effect (commit t k) a = commits t (suffices a)
-effect (abort t) a = aborts t
+effect (abort t w) a = aborts t
 effect crash a = crashes
 effect (recover k) a = nothing
 

@@ -1,6 +1,6 @@
 -- Trials of the history: lists of events with their answers, and how each transaction stands at the end.
 use Prim.Native.Nat.{ℕ, zero, suc}
-use mathlib.Core.Bool.{Bool, true, cond, _&&_}
+use mathlib.Core.Bool.{Bool, true, false, cond, _&&_}
 use mathlib.Core.List.{List, [], _∷_}
 use mathlib.Core.Option.{some}
 use lib.ListN.{getD, length}
@@ -64,13 +64,17 @@ ok = done 0
 abbrev locks : ℕ → ℕ → Event
 locks t r = lock t r toWrite
 
+-- an abort without a report
+abbrev aborts : ℕ → Event
+aborts t = abort t false
+
 abbrev pub trials : List Trial
 trials =
     -- document 01's list in full
     record {
       lines =
           (recover 63, ok) ∷ (begin nobody, done 0) ∷ (begin 0, done 1) ∷ (locks 1 3, ok) ∷ (write 1 3 2 165, ok) ∷ (commit 1 63, ok) ∷
-          (begin 0, done 1) ∷ (locks 1 3, ok) ∷ (write 1 3 2 17, ok) ∷ (abort 1, ok) ∷ (commit 0 2, cut 2) ∷ (read 0 3 2, refused 2) ∷
+          (begin 0, done 1) ∷ (locks 1 3, ok) ∷ (write 1 3 2 17, ok) ∷ (aborts 1, ok) ∷ (commit 0 2, cut 2) ∷ (read 0 3 2, refused 2) ∷
           (recover 63, done 2) ∷ (begin nobody, done 0) ∷ (locks 0 3, ok) ∷ (read 0 3 2, done 165) ∷ [];
       fates = 3 ∷ 2 ∷ 4 ∷ 1 ∷ [];
       survivors = 1 ∷ 2 ∷ [];
@@ -96,7 +100,17 @@ trials =
     record {
       lines =
           (recover 63, ok) ∷ (begin nobody, done 0) ∷ (locks 0 3, ok) ∷ (write 0 3 2 7, ok) ∷ (begin 0, done 1) ∷ (locks 1 4, ok) ∷
-          (write 1 4 2 9, ok) ∷ (abort 1, ok) ∷ (commit 0 2, cut 2) ∷ [];
+          (write 1 4 2 9, ok) ∷ (aborts 1, ok) ∷ (commit 0 2, cut 2) ∷ [];
+      fates = 3 ∷ 4 ∷ [];
+      survivors = 1 ∷ [];
+      place = (4, 2);
+      byte = 0;
+    } ∷
+    -- a report saves nothing
+    record {
+      lines =
+          (recover 63, ok) ∷ (begin nobody, done 0) ∷ (locks 0 3, ok) ∷ (write 0 3 2 7, ok) ∷ (begin 0, done 1) ∷ (locks 1 4, ok) ∷
+          (write 1 4 2 9, ok) ∷ (abort 1 true, ok) ∷ (commit 0 2, cut 2) ∷ [];
       fates = 3 ∷ 4 ∷ [];
       survivors = 1 ∷ [];
       place = (4, 2);
@@ -114,14 +128,14 @@ trials =
     -- an abort ends the descendants, and undoes what a committed child left
     record {
       lines =
-          (recover 63, ok) ∷ (begin nobody, done 0) ∷ (begin 0, done 1) ∷ (begin 1, done 2) ∷ (begin nobody, done 3) ∷ (abort 0, ok) ∷ (begin nobody, done 0) ∷ [];
+          (recover 63, ok) ∷ (begin nobody, done 0) ∷ (begin 0, done 1) ∷ (begin 1, done 2) ∷ (begin nobody, done 3) ∷ (aborts 0, ok) ∷ (begin nobody, done 0) ∷ [];
       fates = 4 ∷ 4 ∷ 4 ∷ 1 ∷ 1 ∷ [];
       survivors = [];
       place = (3, 2);
       byte = 0;
     } ∷
     record {
-      lines = (recover 63, ok) ∷ (begin nobody, done 0) ∷ (begin 0, done 1) ∷ (locks 1 3, ok) ∷ (write 1 3 2 7, ok) ∷ (commit 1 63, ok) ∷ (abort 0, ok) ∷ [];
+      lines = (recover 63, ok) ∷ (begin nobody, done 0) ∷ (begin 0, done 1) ∷ (locks 1 3, ok) ∷ (write 1 3 2 7, ok) ∷ (commit 1 63, ok) ∷ (aborts 0, ok) ∷ [];
       fates = 4 ∷ 2 ∷ [];
       survivors = [];
       place = (3, 2);

@@ -133,9 +133,9 @@ module _ (f : Form) (s : StateOf f) where
       let c = pass 10 (hasChild s t) _ (b .1) in
       record { up = not-false _ (a .0); alive = not-false _ (b .0); childless = c .0 }
 
-  pub abort-ok : (t : ℕ) → refusal f s (abort t) ≡ none → AbortOk s t
+  pub abort-ok : (t : ℕ) (w : Bool) → refusal f s (abort t w) ≡ none → AbortOk s t
   unfolding refusal refusals
-  abort-ok t e =
+  abort-ok t w e =
       let a = pass 2 (not (s .up)) _ e in
       let b = pass 5 (not (live s t)) _ (a .1) in
       record { up = not-false _ (a .0); alive = not-false _ (b .0) }
@@ -173,7 +173,7 @@ module _ (f : Form) (s : StateOf f) where
   act-answer (write t r o v) n e = done-answer 0 n e
   act-answer (read t r o) n e = done-answer (getD (visible f s t r) o 0) n e
   act-answer (commit t k) n e = commits-answer t k (lineOf (s .bearer) t) n e
-  act-answer (abort t) n e = done-answer 0 n e
+  act-answer (abort t w) n e = done-answer 0 n e
   act-answer crash n e = done-answer 0 n e
   act-answer (recover k) n e =
       let c = f .medium .recover (s .store) k in
@@ -217,7 +217,7 @@ module _ (f : Form) (s : StateOf f) where
   tabled (write t r o v) = omega arith
   tabled (read t r o) = omega arith
   tabled (commit t k) = omega arith
-  tabled (abort t) = omega arith
+  tabled (abort t w) = omega arith
   tabled crash = tt
   tabled (recover k) = omega arith
 

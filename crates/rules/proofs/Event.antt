@@ -9,7 +9,7 @@ use Rattle.laws.specs.Tests.{same, under, open-tests}
 use Rattle.laws.proofs.Tests.{same-eq, under-lt, lt-under}
 use Rattle.laws.proofs.Booleans.{both, and-right}
 use Rattle.rules.specs.Geometry.{Geometry, Proper, records, wordSize, pageSize}
-use Rattle.rules.specs.Event.{Access, toWrite, toRead, Event, begin, lock, write, read, commit, abort, crash, recover, Fields, fields, wellFormed, accessOf, accessValue, eventOf, decode, encode, fits, open-event}
+use Rattle.rules.specs.Event.{Access, toWrite, toRead, Event, begin, lock, write, read, commit, abort, crash, recover, Fields, fields, wellFormed, accessOf, accessValue, reportOf, reportValue, eventOf, decode, encode, fits, open-event}
 use Rattle.rules.proofs.Words.{of, Bounded, wordOf, fields-bounded, fields-word, word-fields}
 
 -- the event that fields stand for
@@ -23,7 +23,7 @@ fieldsOf (lock t r a) = record { kind = 2; transaction = t; rec = r; offset = 0;
 fieldsOf (write t r o v) = record { kind = 3; transaction = t; rec = r; offset = o; count = 0; value = v; spare = 0 }
 fieldsOf (read t r o) = record { kind = 4; transaction = t; rec = r; offset = o; count = 0; value = 0; spare = 0 }
 fieldsOf (commit t k) = record { kind = 5; transaction = t; rec = 0; offset = 0; count = k; value = 0; spare = 0 }
-fieldsOf (abort t) = record { kind = 6; transaction = t; rec = 0; offset = 0; count = 0; value = 0; spare = 0 }
+fieldsOf (abort t w) = record { kind = 6; transaction = t; rec = 0; offset = 0; count = 0; value = reportValue w; spare = 0 }
 fieldsOf crash = record { kind = 7; transaction = 0; rec = 0; offset = 0; count = 0; value = 0; spare = 0 }
 fieldsOf (recover k) = record { kind = 8; transaction = 0; rec = 0; offset = 0; count = k; value = 0; spare = 0 }
 
@@ -35,7 +35,8 @@ judged-fieldsOf g (lock t r toRead) h = refl
 judged-fieldsOf g (write t r o v) h = ap (λ (b : Bool). cond b (some (write t r o v)) none) (and-right (under t 32 && under r (records g) && under o pageSize) (under v 256) h)
 judged-fieldsOf g (read t r o) h = refl
 judged-fieldsOf g (commit t k) h = refl
-judged-fieldsOf g (abort t) h = refl
+judged-fieldsOf g (abort t true) h = refl
+judged-fieldsOf g (abort t false) h = refl
 judged-fieldsOf g crash h = refl
 judged-fieldsOf g (recover k) h = refl
 
@@ -94,6 +95,13 @@ access-value zero h = refl
 access-value (suc zero) h = refl
 access-value (suc (suc n)) h = absurd (omega arith)
 
+-- and one of an abort that of its report
+report-value : (v : ℕ) → v < 2 → v ≡ reportValue (reportOf v)
+unfolding reportOf reportValue
+report-value zero h = refl
+report-value (suc zero) h = refl
+report-value (suc (suc n)) h = absurd (omega arith)
+
 -- by kind: what stands for an event is a choice by a test
 abbrev is-of : (k : ℕ) (t r o c v s : ℕ) (e : Event) → Type 0
 is-of k t r o c v s e = judged (of k t r o c v s) ≡ some e
@@ -117,7 +125,9 @@ judged-is k t r o c v s e (kind4 q) h =
 judged-is k t r o c v s e (kind5 q) h =
     let p = chosen _ (commit t c) e (subst (λ k. is-of k t r o c v s e) q h) in cleared t r o c v s 1 true false false true false q (p .0) .0 ∙ ap fieldsOf (p .1)
 judged-is k t r o c v s e (kind6 q) h =
-    let p = chosen _ (abort t) e (subst (λ k. is-of k t r o c v s e) q h) in cleared t r o c v s 1 true false false false false q (p .0) .0 ∙ ap fieldsOf (p .1)
+    let p = chosen _ (abort t (reportOf v)) e (subst (λ k. is-of k t r o c v s e) q h) in
+    let d = cleared t r o c v s 2 true false false false true q (p .0) in
+    d .0 ∙ ap (λ (x : ℕ). of 6 t 0 0 0 x 0) (report-value v (d .1)) ∙ ap fieldsOf (p .1)
 judged-is k t r o c v s e (kind7 q) h =
     let p = chosen _ crash e (subst (λ k. is-of k t r o c v s e) q h) in cleared t r o c v s 1 false false false false false q (p .0) .0 ∙ ap fieldsOf (p .1)
 judged-is k t r o c v s e (kind8 q) h =
@@ -128,6 +138,11 @@ access-small : (a : Access) → accessValue a < 256
 unfolding accessValue
 access-small toWrite = omega arith
 access-small toRead = omega arith
+
+report-small : (w : Bool) → reportValue w < 256
+unfolding reportValue
+report-small true = omega arith
+report-small false = omega arith
 
 -- an event fits exactly if its fields do
 fits-bounded : (g : Geometry) (e : Event) → fits g e ≡ true → Bounded g (fieldsOf e)
@@ -148,7 +163,7 @@ fits-bounded g (read t r o) h =
 fits-bounded g (commit t k) h =
     let a = both (under t 32) _ h in
     record { kind-fits = omega arith; transaction-fits = under-lt t 32 (a .0); rec-fits = pow-pos (g .recordBits); offset-fits = omega arith; count-fits = under-lt k _ (a .1); value-fits = omega arith }
-fits-bounded g (abort t) h = record { kind-fits = omega arith; transaction-fits = under-lt t 32 h; rec-fits = pow-pos (g .recordBits); offset-fits = omega arith; count-fits = pow-pos (g .cutBits); value-fits = omega arith }
+fits-bounded g (abort t w) h = record { kind-fits = omega arith; transaction-fits = under-lt t 32 h; rec-fits = pow-pos (g .recordBits); offset-fits = omega arith; count-fits = pow-pos (g .cutBits); value-fits = report-small w }
 fits-bounded g crash h = record { kind-fits = omega arith; transaction-fits = omega arith; rec-fits = pow-pos (g .recordBits); offset-fits = omega arith; count-fits = pow-pos (g .cutBits); value-fits = omega arith }
 fits-bounded g (recover k) h = record { kind-fits = omega arith; transaction-fits = omega arith; rec-fits = pow-pos (g .recordBits); offset-fits = omega arith; count-fits = under-lt k _ h; value-fits = omega arith }
 
@@ -159,7 +174,7 @@ bounded-fits g (lock t r a) B = rw (lt-under t 32 (B .transaction-fits)) (lt-und
 bounded-fits g (write t r o v) B = rw (lt-under t 32 (B .transaction-fits), lt-under r _ (B .rec-fits), lt-under o 32 (B .offset-fits)) (lt-under v 256 (B .value-fits))
 bounded-fits g (read t r o) B = rw (lt-under t 32 (B .transaction-fits), lt-under r _ (B .rec-fits)) (lt-under o 32 (B .offset-fits))
 bounded-fits g (commit t k) B = rw (lt-under t 32 (B .transaction-fits)) (lt-under k _ (B .count-fits))
-bounded-fits g (abort t) B = lt-under t 32 (B .transaction-fits)
+bounded-fits g (abort t w) B = lt-under t 32 (B .transaction-fits)
 bounded-fits g crash B = refl
 bounded-fits g (recover k) B = lt-under k _ (B .count-fits)
 
@@ -170,7 +185,7 @@ encode-is g (lock t r a) = refl
 encode-is g (write t r o v) = refl
 encode-is g (read t r o) = refl
 encode-is g (commit t k) = refl
-encode-is g (abort t) = refl
+encode-is g (abort t w) = refl
 encode-is g crash = refl
 encode-is g (recover k) = refl
 
@@ -186,7 +201,7 @@ module _ (g : Geometry) where
   no-spare (write t r o v) = refl
   no-spare (read t r o) = refl
   no-spare (commit t k) = refl
-  no-spare (abort t) = refl
+  no-spare (abort t w) = refl
   no-spare crash = refl
   no-spare (recover k) = refl
 

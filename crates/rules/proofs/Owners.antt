@@ -203,6 +203,15 @@ module _ {line : Lines} {held retained : Modes} {version : Versions} (L : Owned 
         by-lock = λ j r v. passes writeMode r j (from j r v) (same? j y);
       }
 
+      -- an abort with a report drops them
+      pub report-owned : Owned lines-left left taken (dropped dead version)
+      unfolding dropped isSome
+      report-owned = taken-owned (dropped dead version) (λ j r v. go j r v (is? (dead j)))
+        where
+          go : (j r : ℕ) → isSome (dropped dead version j r) ≡ true → Is (dead j) → Took writeMode r j
+          go j r v (yes′ d) = absurd (false≢true (rw d at v))
+          go j r v (no′ d) = kept d (L .by-lock j r (rw d at v))
+
       -- a child's commit hands its versions up
       pub child-owned : Owned lines-left left taken (dropped dead (handedUp x y version))
       unfolding dropped handedUp isSome

@@ -16,10 +16,11 @@ use Rattle.rules.specs.Geometry.{Geometry, records, nobody, pageSize}
 use Rattle.rules.specs.Store.{Page}
 use Rattle.rules.specs.Event.{Event, Access, begin, lock, write, read, commit, abort, crash, recover, decode, fits}
 use Rattle.rules.specs.State.{free, isActive, depthIn, lineOf, mem, Modes, isLock, Versions, live, holdsWriting, down}
+use Rattle.rules.specs.Locks.{reported, discarded}
 use Rattle.rules.specs.Versions.{isSome, else, also, nearest, withVersion, handedUp, dropped}
 use Rattle.rules.specs.Commit.{Cut}
 use Rattle.rules.specs.Form.{Form}
-use Rattle.rules.specs.Step.{StateOf, firstFree, begun, locked, wrote, ended, passed, raised, concluded, finished, visible, refusal, commitsTop, commitsChild, commits, recovers, act, step}
+use Rattle.rules.specs.Step.{StateOf, firstFree, begun, locked, wrote, ended, passed, retaining, aborted, raised, concluded, finished, visible, refusal, commitsTop, commitsChild, commits, recovers, act, step}
 use Rattle.rules.specs.Run.{play}
 use Rattle.rules.specs.Sound.{Sound}
 use Rattle.rules.proofs.Tree.{Lines}
@@ -30,7 +31,7 @@ use Rattle.rules.proofs.Acceptance.{BeginOk, LockOk, WriteOk, CommitOk,
 use Rattle.rules.proofs.Grades.{has}
 use Rattle.rules.proofs.Locks.{Owned, Leaf, ChildOf, rooted-of, owned-of, has-live, own-line, no-child, beneath-closed, child-line, grant-alone, grant-above}
 use Rattle.rules.proofs.Parts.{sound-of, sound-down}
-use Rattle.rules.proofs.Owners.{grant-owned, write-owned, ended-owned, child-owned, relined}
+use Rattle.rules.proofs.Owners.{grant-owned, write-owned, ended-owned, child-owned, report-owned, relined}
 
 -- every version of the second is somebody's in the first
 abbrev From : Versions → Versions → Type 0
@@ -181,6 +182,25 @@ module _ {f : Form} {s : StateOf f} (S : Sound f s) where
     unfolding ended
     sound-ended = sound-left _ _ _ (ended-owned (owned-of S) dead) (dropped-from dead (s .version))
 
+  -- an abort: x ends with all beneath it, and its parent has the report
+  module _ (x : ℕ) (up : s .up ≡ true) where
+    abbrev dead : ℕ → Bool
+    dead j = mem x (lineOf (s .bearer) j)
+
+    abbrev OwnedBy : Modes → Type 0
+    OwnedBy retained = Owned (λ j. cond (dead j) [] (lineOf (s .bearer) j)) (discarded dead (s .held)) (discarded dead retained) (dropped dead (s .version))
+
+    reported-owned : (w : Bool) (l : List ℕ) → lineOf (s .bearer) x ≡ l → OwnedBy (reported x w l (s .held) (s .retained))
+    unfolding reported
+    reported-owned false l q = ended-owned (owned-of S) dead
+    reported-owned true [] q = ended-owned (owned-of S) dead
+    reported-owned true (a ∷ []) q = ended-owned (owned-of S) dead
+    reported-owned true (a ∷ y ∷ l) q = let C = child-line S x a y l q in report-owned (owned-of S) dead x y (λ z n. n) (C .under) (C .own-line)
+
+    pub sound-aborted : (w : Bool) → Sound f (aborted s x w (lineOf (s .bearer) x))
+    unfolding aborted retaining ended
+    sound-aborted w = sound-left dead (beneath-closed S x) (s .store) up (S .calm up) _ _ _ (reported-owned w (lineOf (s .bearer) x) refl) (dropped-from dead (s .version))
+
   -- a commit: x, with no live child, ends alone
   module _ (x : ℕ) (ok : CommitOk s x) where
     leaf : Leaf (s .bearer) x
@@ -244,9 +264,7 @@ module _ (f : Form) (M : MediumLaws (f .geometry) (f .medium)) {s : StateOf f} (
       sound-wrote S t r (set (visible f s t r) o v) (write-ok f s t r o v q) small (length-set (visible f s t r) o v ∙ visible-paged t r small)
   sound-act (read t r o) h q = S
   sound-act (commit t k) h q = sound-commits t k (commit-ok f s t k q) (lineOf (s .bearer) t) refl
-  sound-act (abort t) h q =
-      let ok = abort-ok f s t q in
-      sound-ended S (λ j. mem t (lineOf (s .bearer) j)) (beneath-closed S t) (s .store) (ok .up) (S .calm (ok .up))
+  sound-act (abort t w) h q = sound-aborted S t (abort-ok f s t w q .up) w
   sound-act crash h q = sound-down f (s .store)
   sound-act (recover k) h q = sound-recovers k (recover-ok f s k q)
 
@@ -280,13 +298,13 @@ module _ (f : Form) (M : MediumLaws (f .geometry) (f .medium)) {s : StateOf f} (
   shaped-commits x k (a ∷ y ∷ l) = shaped
 
   pub shaped-act : (e : Event) → M .Shaped (act f s e .state .store)
-  unfolding act finished begun locked wrote ended down recovers raised
+  unfolding act finished begun locked wrote ended retaining aborted down recovers raised
   shaped-act (begin p) = shaped
   shaped-act (lock t r a) = shaped
   shaped-act (write t r o v) = shaped
   shaped-act (read t r o) = shaped
   shaped-act (commit t k) = shaped-commits t k (lineOf (s .bearer) t)
-  shaped-act (abort t) = shaped
+  shaped-act (abort t w) = shaped
   shaped-act crash = shaped
   shaped-act (recover k) =
       let c = f .medium .recover (s .store) k in

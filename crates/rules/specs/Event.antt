@@ -22,7 +22,8 @@ pub data Event : Type 0 where
   read : ℕ → ℕ → ℕ → Event
   -- with the count of page writes after which a crash comes
   commit : ℕ → ℕ → Event
-  abort : ℕ → Event
+  -- with a report to the parent, or without
+  abort : ℕ → Bool → Event
   crash : Event
   -- with such a count
   recover : ℕ → Event
@@ -83,7 +84,7 @@ uses =
     row true true true true false true ∷  -- 3 write
     row true true true true false false ∷  -- 4 read
     row true true false false true false ∷  -- 5 commit
-    row true true false false false false ∷  -- 6 abort
+    row true true false false false true ∷  -- 6 abort
     row true false false false false false ∷  -- 7 crash
     row true false false false true false ∷  -- 8 recover
     []
@@ -100,7 +101,7 @@ limits =
     255 ∷  -- 3 write
     0 ∷  -- 4 read
     0 ∷  -- 5 commit
-    0 ∷  -- 6 abort
+    1 ∷  -- 6 abort
     0 ∷  -- 7 crash
     0 ∷  -- 8 recover
     []
@@ -130,6 +131,15 @@ unfoldable pub accessValue : Access → ℕ
 accessValue toWrite = 0
 accessValue toRead = 1
 
+-- the value 1 of an abort is with a report, 0 without
+unfoldable pub reportOf : ℕ → Bool
+reportOf zero = false
+reportOf (suc n) = true
+
+unfoldable pub reportValue : Bool → ℕ
+reportValue false = 0
+reportValue true = 1
+
 -- the event of a kind, with its fields
 unfoldable pub eventOf : Fields → Option Event
 eventOf f =
@@ -140,7 +150,7 @@ eventOf f =
     some (write (f .transaction) (f .rec) (f .offset) (f .value)) ∷
     some (read (f .transaction) (f .rec) (f .offset)) ∷
     some (commit (f .transaction) (f .count)) ∷
-    some (abort (f .transaction)) ∷
+    some (abort (f .transaction) (reportOf (f .value))) ∷
     some crash ∷
     some (recover (f .count)) ∷
     []) (f .kind) none
@@ -159,7 +169,7 @@ encode g (lock t r a) = word g 2 t r 0 0 (accessValue a)
 encode g (write t r o v) = word g 3 t r o 0 v
 encode g (read t r o) = word g 4 t r o 0 0
 encode g (commit t k) = word g 5 t 0 0 k 0
-encode g (abort t) = word g 6 t 0 0 0 0
+encode g (abort t w) = word g 6 t 0 0 0 (reportValue w)
 encode g crash = word g 7 0 0 0 0 0
 encode g (recover k) = word g 8 0 0 0 k 0
 
@@ -170,11 +180,11 @@ fits g (lock t r a) = under t 32 && under r (records g)
 fits g (write t r o v) = under t 32 && under r (records g) && under o pageSize && under v 256
 fits g (read t r o) = under t 32 && under r (records g) && under o pageSize
 fits g (commit t k) = under t 32 && under k (2 ^ g .cutBits)
-fits g (abort t) = under t 32
+fits g (abort t w) = under t 32
 fits g crash = true
 fits g (recover k) = under k (2 ^ g .cutBits)
 
 -- opens the definitions of this module: for what is proved by computing
 unfoldable pub open-event : Unit {0}
-unfolding field fields row noKind uses usesOf limits limitOf wellFormed accessOf accessValue eventOf decode word encode fits
+unfolding field fields row noKind uses usesOf limits limitOf wellFormed accessOf accessValue reportOf reportValue eventOf decode word encode fits
 open-event = tt

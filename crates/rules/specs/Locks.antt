@@ -1,7 +1,8 @@
--- The rules of locks: when one is granted, who has it then, who retains it after a child's commit, who keeps it when others end.
+-- The rules of locks: when one is granted, who has it then, who retains it after a child's commit or its abort with a report, who keeps it when
+-- others end.
 use Prim.Native.Nat.{ℕ}
 use mathlib.Core.Bool.{Bool, true, false, not, cond, _&&_, _||_}
-use mathlib.Core.List.{List}
+use mathlib.Core.List.{List, [], _∷_}
 use Rattle.laws.specs.Tests.{same}
 use Rattle.laws.specs.Counting.{all}
 use Rattle.rules.specs.Geometry.{transactions}
@@ -37,11 +38,19 @@ granted a t r held q j = cond (same q r && same j t) (stronger (held q j) (modeF
 unfoldable pub inherited : ℕ → ℕ → Modes → Modes → Modes
 inherited x y held retained r j = cond (same j y) (stronger (retained r y) (stronger (held r x) (retained r x))) (retained r j)
 
+-- What is retained when x, with this line, aborts: with a report its parent y retains what x held or retained, as after a commit; without one,
+-- or where x is a top transaction and has no parent, all is as it was.
+unfoldable pub reported : ℕ → Bool → List ℕ → Modes → Modes → Modes
+reported x false line held retained = retained
+reported x true [] held retained = retained
+reported x true (a ∷ []) held retained = retained
+reported x true (a ∷ y ∷ l) held retained = inherited x y held retained
+
 -- those that `dead` picks have nothing
 unfoldable pub discarded : (ℕ → Bool) → Modes → Modes
 discarded dead m r j = cond (dead j) nothing (m r j)
 
 -- opens the definitions of this module: for what is proved by computing
 unfoldable pub open-locks : Unit {0}
-unfolding modeFor bars holdersAllow retainersAllow grantable granted inherited discarded
+unfolding modeFor bars holdersAllow retainersAllow grantable granted inherited reported discarded
 open-locks = tt

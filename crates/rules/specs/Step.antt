@@ -10,8 +10,8 @@ use Rattle.laws.specs.Functions.{updated}
 use Rattle.rules.specs.Geometry.{Geometry, transactions, nobody}
 use Rattle.rules.specs.Store.{Page}
 use Rattle.rules.specs.Event.{Event, Access, begin, lock, write, read, commit, abort, crash, recover}
-use Rattle.rules.specs.State.{Bearer, Bearers, free, active, isActive, parentIn, depthIn, lineOf, mem, State, live, holds, holdsWriting, down}
-use Rattle.rules.specs.Locks.{grantable, granted, inherited, discarded}
+use Rattle.rules.specs.State.{Modes, Bearer, Bearers, free, active, isActive, parentIn, depthIn, lineOf, mem, State, live, holds, holdsWriting, down}
+use Rattle.rules.specs.Locks.{grantable, granted, inherited, reported, discarded}
 use Rattle.rules.specs.Versions.{nearest, withVersion, handedUp, dropped}
 use Rattle.rules.specs.Commit.{Cut}
 use Rattle.rules.specs.Form.{Form, Medium}
@@ -106,6 +106,14 @@ module _ {S : Type 0} where
     store = s .store;
   }
 
+  -- this is retained
+  unfoldable pub retaining : State S → Modes → State S
+  retaining s retained = record { up = s .up; bearer = s .bearer; held = s .held; retained = retained; version = s .version; store = s .store }
+
+  -- x, with this line, aborts, with a report or without: it ends with all beneath it
+  unfoldable pub aborted : State S → ℕ → Bool → List ℕ → State S
+  aborted s x w line = ended (retaining s (reported x w line (s .held) (s .retained))) (λ j. mem x (lineOf (s .bearer) j)) (s .store)
+
   -- up over this store
   unfoldable pub raised : State S → S → State S
   raised s store = record { up = true; bearer = s .bearer; held = s .held; retained = s .retained; version = s .version; store = store }
@@ -139,7 +147,7 @@ module _ (f : Form) where
   refusals s (write t r o v) = (2, not (s .up)) ∷ (5, not (live s t)) ∷ (9, not (holdsWriting s r t)) ∷ []
   refusals s (read t r o) = (2, not (s .up)) ∷ (5, not (live s t)) ∷ (9, not (holds s r t)) ∷ []
   refusals s (commit t k) = (2, not (s .up)) ∷ (5, not (live s t)) ∷ (10, hasChild s t) ∷ []
-  refusals s (abort t) = (2, not (s .up)) ∷ (5, not (live s t)) ∷ []
+  refusals s (abort t w) = (2, not (s .up)) ∷ (5, not (live s t)) ∷ []
   refusals s crash = []
   refusals s (recover k) = (3, s .up) ∷ (4, f .medium .damaged (s .store)) ∷ []
 
@@ -170,7 +178,7 @@ module _ (f : Form) where
   act s (write t r o v) = finished (wrote s t r (set (visible s t r) o v)) 0
   act s (read t r o) = finished s (getD (visible s t r) o 0)
   act s (commit t k) = commits s t k (lineOf (s .bearer) t)
-  act s (abort t) = finished (ended s (λ j. mem t (lineOf (s .bearer) j)) (s .store)) 0
+  act s (abort t w) = finished (aborted s t w (lineOf (s .bearer) t)) 0
   act s crash = finished (down (s .store)) 0
   act s (recover k) = recovers s (f .medium .recover (s .store) k)
 
@@ -185,5 +193,5 @@ module _ (f : Form) where
 
 -- opens the definitions of this module: for what is proved by computing
 unfoldable pub open-step : Unit {0}
-unfolding numberOf valueOf firstOf hasChild firstFree begun locked wrote ended passed raised concluded finished visible refusals refusal commitsTop commitsChild commits recovers act judged step
+unfolding numberOf valueOf firstOf hasChild firstFree begun locked wrote ended passed retaining aborted raised concluded finished visible refusals refusal commitsTop commitsChild commits recovers act judged step
 open-step = tt

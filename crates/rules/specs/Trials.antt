@@ -103,6 +103,13 @@ locks t r = lock t r toWrite
 abbrev shares : ℕ → ℕ → Event
 shares t r = lock t r toRead
 
+-- an abort without a report, with one
+abbrev aborts : ℕ → Event
+aborts t = abort t false
+
+abbrev reports : ℕ → Event
+reports t = abort t true
+
 -- a row on a fresh store that is brought up first
 abbrev onFresh : List Line → List Due → Trial
 onFresh ls ds = plays freshBytes (on (recover 63) 0x0000 ∷ ls) ds
@@ -174,7 +181,7 @@ trials =
     plays freshBytes (on crash 0x0000 ∷ []) [] ∷
     -- 13: commit with a live child, then abort takes both
     onFresh (
-    on top 0x0000 ∷ on (begin 0) 0x0001 ∷ on (commit 0 63) 0x0A00 ∷ on (abort 0) 0x0000 ∷
+    on top 0x0000 ∷ on (begin 0) 0x0001 ∷ on (commit 0 63) 0x0A00 ∷ on (aborts 0) 0x0000 ∷
     on (locks 1 3) 0x0500 ∷ on (locks 0 3) 0x0500 ∷ []) [] ∷
     -- 14: clock 5, stamp 7
     ages (set freshBytes (pageSize * home geometry1 3 + 3) 7) 3 5 10 (ahead (negsuc 1)) ∷
@@ -182,7 +189,7 @@ trials =
     onFresh (
     on top 0x0000 ∷ on (locks 0 3) 0x0000 ∷ on (write 0 3 2 0x22) 0x0000 ∷ on (begin 0) 0x0001 ∷ on (begin 1) 0x0002 ∷
     on (locks 2 5) 0x0000 ∷ on (write 2 5 2 0x11) 0x0000 ∷ on (commit 2 0) 0x0000 ∷
-    on (locks 1 5) 0x0000 ∷ on (read 1 5 2) 0x0011 ∷ on (abort 1) 0x0000 ∷
+    on (locks 1 5) 0x0000 ∷ on (read 1 5 2) 0x0011 ∷ on (aborts 1) 0x0000 ∷
     on (locks 0 5) 0x0000 ∷ on (read 0 5 2) 0x0000 ∷ on (read 0 3 2) 0x0022 ∷ []) [] ∷
     -- Shortcut 1, a child's locks freed when it commits: a stranger is refused what the parent now retains.
     onFresh (childWrites11 ++ (on top 0x0001 ∷ on (locks 1 3) 0x0800 ∷ [])) [] ∷
@@ -198,7 +205,7 @@ trials =
     onFresh (writesTwo ++ (on (commit 0 1) 0x0B01 ∷ on (recover 63) 0x0000 ∷ [])) neither ∷
     -- Shortcut 4, an aborted child's record restored from the home page: it is its ancestor's version again.
     onFresh (childWrites11 ++ (
-    on (begin 0) 0x0001 ∷ on (locks 1 3) 0x0000 ∷ on (write 1 3 5 0x12) 0x0000 ∷ on (read 1 3 2) 0x0011 ∷ on (abort 1) 0x0000 ∷
+    on (begin 0) 0x0001 ∷ on (locks 1 3) 0x0000 ∷ on (write 1 3 5 0x12) 0x0000 ∷ on (read 1 3 2) 0x0011 ∷ on (aborts 1) 0x0000 ∷
     on (locks 0 3) 0x0000 ∷ on (read 0 3 2) 0x0011 ∷ on (read 0 3 5) 0x0000 ∷ [])) [] ∷
     -- Shortcut 5, a retainer writes or reads without locking again.
     onFresh (childWrites11 ++ (on (write 0 3 2 0x12) 0x0900 ∷ on (read 0 3 2) 0x0900 ∷ on (locks 0 3) 0x0000 ∷ on (read 0 3 2) 0x0011 ∷ [])) [] ∷
@@ -220,7 +227,7 @@ trials =
     -- Two read together and neither writes; raising is refused and leaves the read hold, and is granted when the other has ended.
     onFresh (
     on top 0x0000 ∷ on top 0x0001 ∷ on (shares 0 3) 0x0000 ∷ on (shares 1 3) 0x0000 ∷ on (read 0 3 2) 0x0000 ∷ on (read 1 3 2) 0x0000 ∷
-    on (write 0 3 2 7) 0x0900 ∷ on (locks 0 3) 0x0800 ∷ on (locks 1 3) 0x0800 ∷ on (read 0 3 2) 0x0000 ∷ on (abort 1) 0x0000 ∷
+    on (write 0 3 2 7) 0x0900 ∷ on (locks 0 3) 0x0800 ∷ on (locks 1 3) 0x0800 ∷ on (read 0 3 2) 0x0000 ∷ on (aborts 1) 0x0000 ∷
     on (locks 0 3) 0x0000 ∷ on (write 0 3 2 7) 0x0000 ∷ []) [] ∷
     -- Asking for less than is held changes nothing; nobody reads beside one that holds to write.
     onFresh (writesA5 ++ (on (shares 0 3) 0x0000 ∷ on (write 0 3 2 7) 0x0000 ∷ on top 0x0001 ∷ on (shares 1 3) 0x0800 ∷ [])) [] ∷
@@ -234,7 +241,7 @@ trials =
     -- Who retains to read stops a stranger's write and not its read; a child of the retainer is stopped by the stranger alone.
     onFresh (
     on top 0x0000 ∷ on (begin 0) 0x0001 ∷ on (shares 1 3) 0x0000 ∷ on (commit 1 0) 0x0000 ∷ on top 0x0001 ∷ on (locks 1 3) 0x0800 ∷
-    on (shares 1 3) 0x0000 ∷ on (begin 0) 0x0002 ∷ on (locks 2 3) 0x0800 ∷ on (abort 1) 0x0000 ∷ on (locks 2 3) 0x0000 ∷ []) [] ∷
+    on (shares 1 3) 0x0000 ∷ on (begin 0) 0x0002 ∷ on (locks 2 3) 0x0800 ∷ on (aborts 1) 0x0000 ∷ on (locks 2 3) 0x0000 ∷ []) [] ∷
     -- Two that retain to read need not be on one line: a child of the one reads and does not write.
     onFresh (
     on top 0x0000 ∷ on top 0x0001 ∷ on (begin 0) 0x0002 ∷ on (begin 1) 0x0003 ∷ on (shares 2 3) 0x0000 ∷ on (shares 3 3) 0x0000 ∷
@@ -243,6 +250,29 @@ trials =
     -- A lock takes the values 0 and 1; another is 1, also while down.
     plays freshBytes ((0x20180002, 0x0100) ∷ (0x20180001, 0x0200) ∷ []) [] ∷
     onFresh (on top 0x0000 ∷ (0x20180002, 0x0100) ∷ (0x201800FF, 0x0100) ∷ (0x20180001, 0x0000) ∷ []) [] ∷
+    -- Reports. The parent retains what the aborted child held, in the same mode: a stranger does not write, and reads.
+    onFresh (
+    on top 0x0000 ∷ on (begin 0) 0x0001 ∷ on (shares 1 3) 0x0000 ∷ (0x60800001, 0x0000) ∷ on top 0x0001 ∷ on (locks 1 3) 0x0800 ∷
+    on (shares 1 3) 0x0000 ∷ on (read 0 3 2) 0x0900 ∷ on (shares 0 3) 0x0000 ∷ []) [] ∷
+    -- Or in its own, if that is stronger.
+    onFresh (childWrites11 ++ (
+    on (begin 0) 0x0001 ∷ on (shares 1 3) 0x0000 ∷ on (reports 1) 0x0000 ∷ on top 0x0001 ∷ on (shares 1 3) 0x0800 ∷ [])) [] ∷
+    -- It retains without a version what the child retained with one, and reads its own byte.
+    onFresh (writesA5 ++ (
+    on (begin 0) 0x0001 ∷ on (begin 1) 0x0002 ∷ on (locks 2 4) 0x0000 ∷ on (write 2 4 2 0x11) 0x0000 ∷ on (commit 2 0) 0x0000 ∷
+    on (reports 1) 0x0000 ∷ on top 0x0001 ∷ on (shares 1 4) 0x0800 ∷ on (locks 0 4) 0x0000 ∷ on (read 0 4 2) 0x0000 ∷ on (commit 0 63) 0x0004 ∷ [])) (
+    value 3 withA5 ∷ value 4 blank ∷ []) ∷
+    -- What live descendants had is discarded; without a report so is what the child had.
+    onFresh (
+    on top 0x0000 ∷ on (begin 0) 0x0001 ∷ on (shares 1 3) 0x0000 ∷ on (begin 1) 0x0002 ∷ on (shares 2 3) 0x0000 ∷ on (locks 2 4) 0x0000 ∷ on (reports 1) 0x0000 ∷
+    on top 0x0001 ∷ on (locks 1 4) 0x0000 ∷ on (locks 1 3) 0x0800 ∷ on (read 2 4 2) 0x0500 ∷ []) [] ∷
+    onFresh (
+    on top 0x0000 ∷ on (begin 0) 0x0001 ∷ on (locks 1 3) 0x0000 ∷ on (aborts 1) 0x0000 ∷ on top 0x0001 ∷ on (locks 1 3) 0x0000 ∷ []) [] ∷
+    -- A top transaction has no parent and discards.
+    onFresh (on top 0x0000 ∷ on (locks 0 3) 0x0000 ∷ (0x60000001, 0x0000) ∷ on top 0x0000 ∷ on (locks 0 3) 0x0000 ∷ []) [] ∷
+    -- An abort takes the values 0 and 1; another is 1, also while down.
+    plays freshBytes ((0x60000002, 0x0100) ∷ (0x60000001, 0x0200) ∷ []) [] ∷
+    onFresh (on top 0x0000 ∷ (0x60000002, 0x0100) ∷ (0x600000FF, 0x0100) ∷ (0x60000000, 0x0000) ∷ []) [] ∷
     -- Refused before the first event, in the order 22, 24, 20, 21, with nothing touched.
     refuses 1055 5 (workSize geometry1 - 1) 0 22 ∷ refuses 1056 5 (workSize geometry1 - 1) 0 24 ∷ refuses 1056 5 (workSize geometry1) 0 20 ∷
     refuses 1056 16388 (workSize geometry1) 8194 20 ∷ refuses 1056 8 (workSize geometry1) 3 21 ∷
