@@ -36,8 +36,8 @@ pub fn holds_writing(held: &[u32; 32], t: u8, r: usize) -> bool
     requires { ⌜ (t < 24) × (r < 16) ⌝ }
     ensures { λ a. ⌜ a ≡ writeMode (sets (now (held .entry))) r t ⌝ }
 {
-    let write = 2 * r + 1;
-    sets::contains(held[write], t)
+    let writing = 2 * r + 1;
+    sets::contains(held[writing], t)
 }
 
 // t now holds the lock of record r, in write mode unless it asked to read.
@@ -66,7 +66,8 @@ pub fn lock(
     ensures { λ a. ⌜ Granting (accessWhen reading) (sets (now (line .entry)) t) (now (held .entry)) (now (retained .entry)) t r a (now (held .exit)) ⌝ }
 {
     let k = barring_place(r, reading);
-    let free = sets::within(held[k], sets::single(t));
+    let own = sets::single(t);
+    let free = sets::within(held[k], own);
     let above = sets::within(retained[k], line[t as usize]);
     let ok = free & above;
     if ok {

@@ -10,11 +10,11 @@ use Rattle.locks.proofs.holds_writing.Reads as reads
 use Rattle.locks.proofs.holds_writing.Lts as lts
 use Rattle.sets.proofs.contains.Reads as contains-reads
 
-mul-write : tie.Need-mul-write
-mul-write c = search needs
+mul-writing : tie.Need-mul-writing
+mul-writing c = search needs
 
-add-write : tie.Need-add-write
-add-write c = search needs
+add-writing : tie.Need-add-writing
+add-writing c = search needs
 
 mul-contains : tie.Need-mul-contains
 mul-contains c = search needs
@@ -32,4 +32,4 @@ returns c = c .contains .ensures
 pub holds-writing-spec : {M : Type 1} → statement M
 holds-writing-spec =
     tie.close
-    (tie.spec mul-write add-write mul-contains element-copy-out-contains contains-requires returns)
+    (tie.spec mul-writing add-writing mul-contains element-copy-out-contains contains-requires returns)

@@ -18,14 +18,14 @@ use Rattle.sets.proofs.within.Reads as within-reads
 barring-place-requires : tie.Need-barring-place-requires
 barring-place-requires c κs = search needs
 
+single-requires : tie.Need-single-requires
+single-requires c κs = search needs
+
 mul-within : tie.Need-mul-within
 mul-within c = search needs
 
 element-copy-out-within : tie.Need-element-copy-out-within
 element-copy-out-within c = search needs
-
-single-requires : tie.Need-single-requires
-single-requires c κs = search needs
 
 within-requires : tie.Need-within-requires
 within-requires c κs = search needs
@@ -52,7 +52,7 @@ returns : tie.Need-returns
 unfolding sets
 returns c = let a = c .before .before .before .before .before .before .before .before .before .before .args in let q = accessWhen (a .reading) in
     record {
-      says = open-is _ (sets (a .held .now)) (sets (a .retained .now)) (a .t) _ _ _ _ (c .before .before .before .before .before .before .before .single .ensures) (c .before .before .before .before .before .before .within .ensures) (c .before .before .before .within2 .ensures) ∙ ap (openTo (sets (a .held .now)) (sets (a .retained .now)) (sets (a .line .now) (a .t)) (a .t)) (c .before .before .before .before .before .before .before .before .before .barring-place .ensures .0);
+      says = open-is _ (sets (a .held .now)) (sets (a .retained .now)) (a .t) _ _ _ _ (c .before .before .before .before .before .before .before .before .single .ensures) (c .before .before .before .before .before .before .within .ensures) (c .before .before .before .within2 .ensures) ∙ ap (openTo (sets (a .held .now)) (sets (a .retained .now)) (sets (a .line .now) (a .t)) (a .t)) (c .before .before .before .before .before .before .before .before .before .barring-place .ensures .0);
       does = c .hold .ensures .are ∙ sym (ap (λ (b : Bool). cond b (joinedFor q (a .t) (a .r) (sets (a .held .now))) (sets (a .held .now))) (c .before .before .if1 .taken));
       long = c .hold .ensures .long;
     }
@@ -61,7 +61,7 @@ returns-2 : tie.Need-returns-2
 unfolding sets
 returns-2 c = let a = c .before .before .before .before .before .before .before .before .args in let q = accessWhen (a .reading) in
     record {
-      says = open-is _ (sets (a .held .now)) (sets (a .retained .now)) (a .t) _ _ _ _ (c .before .before .before .before .before .single .ensures) (c .before .before .before .before .within .ensures) (c .before .within2 .ensures) ∙ ap (openTo (sets (a .held .now)) (sets (a .retained .now)) (sets (a .line .now) (a .t)) (a .t)) (c .before .before .before .before .before .before .before .barring-place .ensures .0);
+      says = open-is _ (sets (a .held .now)) (sets (a .retained .now)) (a .t) _ _ _ _ (c .before .before .before .before .before .before .single .ensures) (c .before .before .before .before .within .ensures) (c .before .within2 .ensures) ∙ ap (openTo (sets (a .held .now)) (sets (a .retained .now)) (sets (a .line .now) (a .t)) (a .t)) (c .before .before .before .before .before .before .before .barring-place .ensures .0);
       does = sym (ap (λ (b : Bool). cond b (joinedFor q (a .t) (a .r) (sets (a .held .now))) (sets (a .held .now))) (c .if1 .left));
       long = search needs;
     }
@@ -71,9 +71,9 @@ lock-spec =
     tie.close
     (tie.spec
     barring-place-requires
+    single-requires
     mul-within
     element-copy-out-within
-    single-requires
     within-requires
     mul-within-2
     element-copy-out-within-2
