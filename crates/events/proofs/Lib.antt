@@ -2,6 +2,8 @@
 pub mod Rules
 pub mod Steps
 pub mod Ends
+pub mod Parents
+pub mod Aborts
 pub mod Falls
 pub mod Begins
 pub mod Commits

@@ -15,16 +15,16 @@ inherit-requires c κs = (c .before .before .pre .0, c .before .before .pre .1 (
 returns : tie.Need-returns
 unfolding reporting
 returns c = let a = c .before .before .before .args in record {
-      are = c .inherit .ensures .are ∙ sym (ap (λ (b : Bool). reporting b (a .t) (a .p) (sets (a .held .now)) (sets (a .retained .now))) (c .before .before .if1 .taken));
-      long = c .inherit .ensures .long;
-    }
+  are = c .inherit .ensures .are ∙ sym (ap (λ (b : Bool). reporting b (a .t) (a .p) (sets (a .held .now)) (sets (a .retained .now))) (c .before .before .if1 .taken));
+  long = c .inherit .ensures .long;
+}
 
 returns-2 : tie.Need-returns-2
 unfolding reporting
 returns-2 c = let a = c .before .args in record {
-      are = sym (ap (λ (b : Bool). reporting b (a .t) (a .p) (sets (a .held .now)) (sets (a .retained .now))) (c .if1 .left));
-      long = c .before .pre .3;
-    }
+  are = sym (ap (λ (b : Bool). reporting b (a .t) (a .p) (sets (a .held .now)) (sets (a .retained .now))) (c .if1 .left));
+  long = c .before .pre .3;
+}
 
 pub report-spec : {M : Type 1} → statement M
 report-spec = tie.close (tie.spec inherit-requires returns returns-2)
