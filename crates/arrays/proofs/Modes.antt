@@ -9,7 +9,7 @@ use Rattle.laws.specs.Counting.{all}
 use Rattle.laws.proofs.Tests.{same?, Same, is, isnt}
 use Rattle.rules.specs.Geometry.{transactions}
 use Rattle.rules.specs.Event.{Access, toWrite, toRead}
-use Rattle.rules.specs.State.{nothing, isLock, isWriting, stronger, mem}
+use Rattle.rules.specs.State.{nothing, isLock, isWriting, stronger, Modes, mem}
 use Rattle.rules.specs.Locks.{modeFor, bars, holdersAllow, retainersAllow, grantable, granted, inherited, discarded}
 use Rattle.arrays.specs.View.{Owners, anyMode, writeMode, modeOf, modesOf, Nested}
 use Rattle.arrays.specs.Changes.{barring, openTo, joinedFor, less, leaving, heirsOf, inheriting}
@@ -100,3 +100,12 @@ inheriting-inherited held retained t p n = fun-ext (λ r. fun-ext (λ j. go (2 *
         rw (s, u, f) (sym (ap (stronger (modeOf (retained k p) (retained l p))) (stronger-is (held k t) (held l t) (retained k t) (retained l t))
         ∙ stronger-is (retained k p) (retained l p) (held k t || retained k t) (held l t || retained l t)))
     go k l j (isnt e s _) (isnt f u _) = rw (s, u) (ap₂ modeOf (or-false (retained k j)) (or-false (retained l j)))
+
+-- who goes anyway may go before
+pub discarded-again : (gone : ℕ → Bool) (t : ℕ) (m : Modes) → gone t ≡ true → discarded gone (discarded (λ j. same j t) m) ≡ discarded gone m
+unfolding discarded
+discarded-again gone t m e = fun-ext (λ r. fun-ext (λ j. go r j (same? j t)))
+  where
+    go : (r j : ℕ) → Same j t → cond (gone j) nothing (cond (same j t) nothing (m r j)) ≡ cond (gone j) nothing (m r j)
+    go r j (is f s _) = rw (s, f, e)
+    go r j (isnt f s _) = rw s

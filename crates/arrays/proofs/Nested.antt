@@ -1,4 +1,4 @@
--- Granting, discarding and passing keep write mode within any mode.
+-- Granting, discarding, passing and reporting keep write mode within any mode.
 use mathlib.Core.Path.{_≡_}
 use mathlib.Core.Bool.{Bool, true, false, not, _&&_, _||_}
 use Prim.Native.Nat.{ℕ}
@@ -6,7 +6,7 @@ use Rattle.laws.specs.Tests.{same}
 use Rattle.laws.proofs.Booleans.{or-cases, or-left, or-right, and-right}
 use Rattle.rules.specs.Event.{Access}
 use Rattle.arrays.specs.View.{Owners, anyMode, writeMode, Nested}
-use Rattle.arrays.specs.Changes.{joinedFor, less, leaving, heirsOf, inheriting}
+use Rattle.arrays.specs.Changes.{joinedFor, less, leaving, heirsOf, inheriting, reporting}
 use Rattle.arrays.proofs.Joined.{raises, joined-any, joined-write}
 
 -- a test that implies another, beside one that both have
@@ -29,3 +29,8 @@ pub inheriting-nested : (t p : ℕ) (held retained : Owners) → Nested held →
 unfolding anyMode writeMode inheriting heirsOf
 inheriting-nested t p held retained h m r j e =
     or-more (and-more (not (same j t)) (m r j)) (and-more (same j p) (or-more (h r t) (m r t))) e
+
+pub reporting-nested : (told : Bool) (t p : ℕ) (held retained : Owners) → Nested held → Nested retained → Nested (reporting told t p held retained)
+unfolding reporting
+reporting-nested true t p held retained h m = inheriting-nested t p held retained h m
+reporting-nested false t p held retained h m = m

@@ -1,10 +1,10 @@
 -- Commits, in the rules: refused with a live child, of a top transaction over its page writes, of a child into its parent.
 use mathlib.Core.Path.{_≡_, refl, sym, ap, ap₂, subst, subst⁻¹, _∙_, fun-ext}
-use mathlib.Core.Bool.{Bool, true, false, not, cond, _&&_, _||_, or-false, or-true}
-use mathlib.Core.List.{List, [], _∷_}
+use mathlib.Core.Bool.{Bool, true, false, not, cond, _&&_, or-false, or-true}
+use mathlib.Core.List.{List}
 use mathlib.Core.Logic.{_≢_}
 use mathlib.Core.Option.{Option, none, some}
-use Prim.Native.Nat.{ℕ, zero, suc, _+_, _-_, _*_, _≤_, _<_}
+use Prim.Native.Nat.{ℕ, suc, _+_, _-_, _*_, _≤_}
 use native.Mathlib.Omega.{arith}
 use lib.ListN.{length, getD}
 use Rattle.laws.specs.Tests.{same, under}
@@ -14,15 +14,13 @@ use Rattle.laws.proofs.Tests.{same?, Same, is, isnt, ne-false, Is, is?, yes′,
 use Rattle.laws.proofs.Booleans.{clash, or-cases}
 use Rattle.rules.specs.Geometry.{records}
 use Rattle.rules.specs.Store.{Page, Pages, pagesOf, mapOf, named}
-use Rattle.rules.specs.Event.{Event, commit}
-use Rattle.rules.specs.State.{Bearers, parentIn, depthIn, chain, lineOf, mem, live, down}
+use Rattle.rules.specs.Event.{commit}
+use Rattle.rules.specs.State.{Bearers, chain, lineOf, mem, live, down}
 use Rattle.rules.specs.Versions.{also, handedUp, dropped}
 use Rattle.rules.specs.Commit.{Cut, commitAt}
-use Rattle.rules.specs.Step.{done, refused, cut, hasChild, ended, passed, concluded, finished, numberOf, valueOf, commitsTop, commitsChild, commits, step}
+use Rattle.rules.specs.Step.{done, refused, cut, hasChild, ended, passed, retaining, concluded, numberOf, valueOf, commitsTop, commitsChild, commits, step}
 use Rattle.rules.specs.Sound.{inLine}
 use Rattle.rules.specs.Editions.{geometry1, edition1, depths, workBytes}
-use Rattle.rules.proofs.Bearers.{up-one}
-use Rattle.rules.proofs.Acceptance.{CommitOk}
 use Rattle.rules.proofs.Locks.{rooted-of, no-child, versions-in-line, line-apart}
 use Rattle.rules.proofs.Map.{named-mapOf}
 use Rattle.rules.proofs.Soundness.{alone-closed}
@@ -30,16 +28,17 @@ use Rattle.sets.specs.Sets.{sets}
 use Rattle.sets.proofs.Sets.{sets-past}
 use Rattle.arrays.specs.View.{Owners, bearersOf, modesOf, Nested, slot, versionsOf}
 use Rattle.arrays.specs.Changes.{leaving, heirsOf, inheriting, Rows, places, cleared, Cleared}
-use Rattle.arrays.proofs.View.{depth-is, parent-is, child-is}
+use Rattle.arrays.proofs.View.{depth-is, child-is}
 use Rattle.arrays.proofs.Nested.{inheriting-nested}
 use Rattle.arrays.proofs.Modes.{leaving-discarded, inheriting-inherited}
 use Rattle.slots.specs.Parts.{lifted}
 use Rattle.slots.proofs.Lifting.{hit, miss-depth, miss-row}
 use Rattle.commit.specs.Phase.{Leaves, topSlot, versionsIn}
-use Rattle.events.specs.Whole.{Arrays, arrays, view, lineIn, Formed, Intact, saying, Stepped, Ready}
+use Rattle.events.specs.Whole.{Arrays, arrays, view, lineIn, Intact, saying, Stepped, Ready}
 use Rattle.events.proofs.Rules.{commit-done, commit-refused}
 use Rattle.events.proofs.Steps.{answer, stepped, finishes, unmoved, state-eq, up-is, live-is, wrote-is, depth-of, shallow, writer-deep}
 use Rattle.events.proofs.Ends.{bearers-cleared, lines-cleared, tidy-cleared, nested-cleared, rest-is, rest-form}
+use Rattle.events.proofs.Parents.{parent-there, parent-deep, parent-other, line-up}
 use Rattle.crashes.proofs.Falls.{zeros, zeros-down, zeros-formed, Fallen, fallen}
 
 -- the test for a child
@@ -100,15 +99,15 @@ module _ (x : Arrays) (I : Intact x) (t k : ℕ) (R : Ready x t) (childless : ha
         → Cleared (λ k. same k t) (x .parent) parent → Cleared (λ k. same k t) (x .depth) depth → Cleared (λ k. same k t) (x .line) line
         → Rows 32 (leaving (bits one) (sets (x .held))) held → Rows 32 (leaving (bits one) (sets (x .retained))) retained → Rows 16 (leaving (bits one) (sets (x .writers))) writers
         → Stepped x (some (commit t k)) (answer 0 made) (arrays (x .up) parent depth line held retained writers (x .work) store)
-    unfolding concluded saying numberOf valueOf
+    unfolding concluded saying numberOf valueOf view ended retaining
     top-steps e parent depth line held retained writers one o P D N H M W =
         let turn : (n : ℕ) (l l′ : List ℕ) → Rows n (leaving (bits one) (sets l)) l′ → Rows n (leaving alone (sets l)) l′ = λ n l l′ r. subst (λ (f : ℕ → Bool). Rows n (leaving f (sets l)) l′) o r in
         let H′ = turn 32 (x .held) held H in
         let M′ = turn 32 (x .retained) retained M in
         let W′ = turn 16 (x .writers) writers W in
         stepped x _ (some (commit t k)) (ended (view x) alone (pagesOf store)) (done (C .made)) (answer 0 made) (outcome false e)
-        (rest-is x I alone closed parent depth line held retained writers store P D N H′ M′ W′) (ap (answer 0) (L .made))
-        (rest-form x I alone closed parent depth line held retained writers store P D N H′ M′ W′ size)
+        (rest-is x I alone closed (x .retained) (modesOf (sets (x .retained))) refl parent depth line held retained writers store P D N H′ M′ W′) (ap (answer 0) (L .made))
+        (rest-form x I alone closed (x .retained) (modesOf (sets (x .retained))) refl parent depth line held retained writers store P D N H′ M′ W′ (I .form .retained-nested) size)
 
     -- a crash came among them
     pub top-cut : crashed ≡ true → (up : ℕ) (parent depth line held retained writers : List ℕ) → Fallen up parent depth line held retained writers
@@ -124,27 +123,8 @@ module _ (x : Arrays) (I : Intact x) (t k : ℕ) (R : Ready x t) (childless : ha
     abbrev p : ℕ
     p = getD (x .parent) t 0
 
-    parent-there : parentIn (b t) ≡ p
-    parent-there = parent-is (x .parent) (x .depth) t (suc n) deep
-
-    parent-deep : d p ≡ suc n
-    unfolding view
-    parent-deep =
-        sym (depth-is (x .parent) (x .depth) p) ∙ ap (λ (j : ℕ). depthIn (b j)) (sym parent-there)
-        ∙ up-one (rooted-of (I .sound)) t (suc n) (depth-is (x .parent) (x .depth) t ∙ deep)
-
-    p≢t : p ≢ t
-    p≢t e = let k = parent-deep in let m : d p ≡ d t = ap d e in absurd (omega arith)
-
     abbrev w : Owners
     w = sets (x .writers)
-
-    line-up : lineOf b t ≡ t ∷ lineOf b p
-    unfolding lineOf chain
-    line-up =
-        ap (λ (m : ℕ). chain b m t) (depth-is (x .parent) (x .depth) t ∙ deep)
-        ∙ ap (λ (j : ℕ). t ∷ chain b (suc n) j) parent-there
-        ∙ ap (λ (m : ℕ). t ∷ chain b m p) (sym (depth-is (x .parent) (x .depth) p ∙ parent-deep))
 
     -- another writer of a record that t has written isn't at the parent's depth
     alone-up : (r j : ℕ) → w r t ≡ true → w r j ≡ true → j ≢ t → j ≢ p → d j ≢ suc n
@@ -153,8 +133,8 @@ module _ (x : Arrays) (I : Intact x) (t k : ℕ) (R : Ready x t) (childless : ha
         or-cases (mem t (lineOf b j)) (mem j (lineOf b t)) (versions-in-line (I .sound) t j r (wrote-is x t r ∙ a) (wrote-is x j r ∙ c))
         (λ m. clash m (no-child (I .sound) t childless j n₁))
         (λ m.
-        let h = line-apart (I .sound) j p (rw (line-up, ne-false j t n₁) at m) n₂ in
-        let f = depth-of x j in let g = depth-of x p in let q = parent-deep in omega arith)
+        let h = line-apart (I .sound) j p (rw (line-up x I t n deep, ne-false j t n₁) at m) n₂ in
+        let f = depth-of x j in let g = depth-of x p in let q = parent-deep x I t n deep in omega arith)
 
     abbrev up : ℕ → Page
     up = lifted w t (suc (suc n)) (pagesOf (x .work))
@@ -182,9 +162,9 @@ module _ (x : Arrays) (I : Intact x) (t k : ℕ) (R : Ready x t) (childless : ha
     version-up : (j r : ℕ) → Same j t → Same j p → Is (w r t) → Is (w r j)
         → cond (heirsOf (w r t) (w r) t p j) (some (up (slot r (cond (same j t) 0 (d j))))) none ≡ dropped alone (handedUp t p v) j r
     unfolding heirsOf versionsOf dropped handedUp also
-    version-up j r (is e s _) k a c = rw (s, e, ne-false t p (λ q. p≢t (sym q)))
+    version-up j r (is e s _) k a c = rw (s, e, ne-false t p (λ q. parent-other x I t n deep (sym q)))
     version-up j r (isnt e s _) (is f u _) (yes′ a) c =
-        rw (s, u, a, or-true) (ap some (hit-up r j (ap d f ∙ parent-deep) a ∙ ap (λ (m : ℕ). pagesOf (x .work) (slot r m)) (sym deep)))
+        rw (s, u, a, or-true) (ap some (hit-up r j (ap d f ∙ parent-deep x I t n deep) a ∙ ap (λ (m : ℕ). pagesOf (x .work) (slot r m)) (sym deep)))
     version-up j r (isnt e s _) (is f u _) (no′ a) c =
         rw (s, u, a, or-false)
         (ap (λ (pg : Page). cond (w r j) (some pg) none) (not-up r j a) ∙ ap (λ (j : ℕ). cond (w r j) (some (pagesOf (x .work) (slot r (d j)))) none) f)
@@ -211,14 +191,14 @@ module _ (x : Arrays) (I : Intact x) (t k : ℕ) (R : Ready x t) (childless : ha
       unfolding view ended passed
       y-is = state-eq refl (bearers-cleared alone (x .parent) (x .depth) parent depth P D)
           (ap modesOf (H .are) ∙ leaving-discarded alone (sets (x .held)))
-          (ap modesOf (M .are) ∙ inheriting-inherited (sets (x .held)) (sets (x .retained)) t p p≢t) versions-up refl
+          (ap modesOf (M .are) ∙ inheriting-inherited (sets (x .held)) (sets (x .retained)) t p (parent-other x I t n deep)) versions-up refl
 
       commit-is : step edition1 (view x) (some (commit t k)) ≡ commitsChild edition1 (view x) t p
       unfolding view lineOf chain commits
       commit-is =
           commits-is
           ∙ ap (λ (m : ℕ). commits edition1 (view x) t k (chain b m t)) (depth-is (x .parent) (x .depth) t ∙ deep)
-          ∙ ap (commitsChild edition1 (view x) t) parent-there
+          ∙ ap (commitsChild edition1 (view x) t) (parent-there x I t n deep)
 
       pub child-steps : Stepped x (some (commit t k)) (answer 0 0) y
       unfolding commitsChild view

@@ -12,7 +12,7 @@ use Rattle.laws.specs.Tests.{same, under}
 use Rattle.laws.proofs.Tests.{lt-under}
 use Rattle.rules.specs.Geometry.{records, pageCount}
 use Rattle.rules.specs.Store.{pagesOf}
-use Rattle.rules.specs.Event.{Event, begin, lock, write, read, commit, abort, crash, recover, accessOf, eventOf, fits}
+use Rattle.rules.specs.Event.{Event, begin, lock, write, read, commit, abort, crash, recover, accessOf, reportOf, eventOf, fits}
 use Rattle.rules.specs.State.{live}
 use Rattle.rules.specs.Form.{atomicPages}
 use Rattle.rules.specs.Step.{refused, StateOf, OutcomeOf, step}
@@ -44,6 +44,12 @@ unfolding accessOf accessWhen same
 access-is zero = refl
 access-is (suc v) = ap (λ (b : Bool). accessWhen (not b)) (sym (eqb·suc-zero v))
 
+-- and one that isn't 0 reports an abort
+pub report-is : (v : ℕ) → reportOf v ≡ not (same v 0)
+unfolding reportOf same
+report-is zero = refl
+report-is (suc v) = ap not (sym (eqb·suc-zero v))
+
 -- down: 2, whatever else
 down-kinds : (s : StateOf edition1) (e : Fields) (k : ℕ) → e .kind ≡ k → 0 < k → k < 7 → s .up ≡ false → step edition1 s (meaning e) ≡ record { state = s; answer = refused 2 }
 down-kinds s e zero q h g d = absurd (omega arith)
@@ -52,7 +58,7 @@ down-kinds s e (suc (suc zero)) q h g d = ap (step edition1 s) (means-lock e q) 
 down-kinds s e (suc (suc (suc zero))) q h g d = ap (step edition1 s) (means-write e q) ∙ write-down edition1 s d (e .transaction) (e .rec) (e .offset) (e .value)
 down-kinds s e (suc (suc (suc (suc zero)))) q h g d = ap (step edition1 s) (means-read e q) ∙ read-down edition1 s d (e .transaction) (e .rec) (e .offset)
 down-kinds s e (suc (suc (suc (suc (suc zero))))) q h g d = ap (step edition1 s) (means-commit e q) ∙ commit-down edition1 s d (e .transaction) (e .count)
-down-kinds s e (suc (suc (suc (suc (suc (suc zero)))))) q h g d = ap (step edition1 s) (means-abort e q) ∙ abort-down edition1 s d (e .transaction)
+down-kinds s e (suc (suc (suc (suc (suc (suc zero)))))) q h g d = ap (step edition1 s) (means-abort e q) ∙ abort-down edition1 s d (e .transaction) (reportOf (e .value))
 down-kinds s e (suc (suc (suc (suc (suc (suc (suc k))))))) q h g d = absurd (omega arith)
 
 pub down-steps : (x : Arrays) (e : Fields) → Intact x → 0 < e .kind → e .kind < 7 → x .up ≢ 1 → Stepped x (meaning e) (answer 2 0) x
@@ -67,7 +73,7 @@ unknown-kinds s e (suc (suc zero)) q h g u l = ap (step edition1 s) (means-lock 
 unknown-kinds s e (suc (suc (suc zero))) q h g u l = ap (step edition1 s) (means-write e q) ∙ write-unknown edition1 s (e .transaction) u l (e .rec) (e .offset) (e .value)
 unknown-kinds s e (suc (suc (suc (suc zero)))) q h g u l = ap (step edition1 s) (means-read e q) ∙ read-unknown edition1 s (e .transaction) u l (e .rec) (e .offset)
 unknown-kinds s e (suc (suc (suc (suc (suc zero))))) q h g u l = ap (step edition1 s) (means-commit e q) ∙ commit-unknown edition1 s (e .transaction) u l (e .count)
-unknown-kinds s e (suc (suc (suc (suc (suc (suc zero)))))) q h g u l = ap (step edition1 s) (means-abort e q) ∙ abort-unknown edition1 s (e .transaction) u l
+unknown-kinds s e (suc (suc (suc (suc (suc (suc zero)))))) q h g u l = ap (step edition1 s) (means-abort e q) ∙ abort-unknown edition1 s (e .transaction) u l (reportOf (e .value))
 unknown-kinds s e (suc (suc (suc (suc (suc (suc (suc k))))))) q h g u l = absurd (omega arith)
 
 pub unknown-steps : (x : Arrays) (e : Fields) → Intact x → 1 < e .kind → e .kind < 7 → x .up ≡ 1 → live (view x) (e .transaction) ≡ false → Stepped x (meaning e) (answer 5 0) x
@@ -82,7 +88,7 @@ fits-of (suc (suc zero)) t r o c v ht hr ho hc hv e q = let p : lock t r (access
 fits-of (suc (suc (suc zero))) t r o c v ht hr ho hc hv e q = let p : write t r o v ≡ e = cc in rw (← p, lt-under t 32 ht, lt-under r 16 hr, lt-under o 32 ho, lt-under v 256 hv)
 fits-of (suc (suc (suc (suc zero)))) t r o c v ht hr ho hc hv e q = let p : read t r o ≡ e = cc in rw (← p, lt-under t 32 ht, lt-under r 16 hr, lt-under o 32 ho)
 fits-of (suc (suc (suc (suc (suc zero))))) t r o c v ht hr ho hc hv e q = let p : commit t c ≡ e = cc in rw (← p, lt-under t 32 ht, lt-under c 64 hc)
-fits-of (suc (suc (suc (suc (suc (suc zero)))))) t r o c v ht hr ho hc hv e q = let p : abort t ≡ e = cc in rw (← p) (lt-under t 32 ht)
+fits-of (suc (suc (suc (suc (suc (suc zero)))))) t r o c v ht hr ho hc hv e q = let p : abort t (reportOf v) ≡ e = cc in rw (← p) (lt-under t 32 ht)
 fits-of (suc (suc (suc (suc (suc (suc (suc zero))))))) t r o c v ht hr ho hc hv e q = let p : crash ≡ e = cc in rw (← p)
 fits-of (suc (suc (suc (suc (suc (suc (suc (suc zero)))))))) t r o c v ht hr ho hc hv e q = let p : recover c ≡ e = cc in rw (← p) (lt-under c 64 hc)
 fits-of (suc (suc (suc (suc (suc (suc (suc (suc (suc k))))))))) t r o c v ht hr ho hc hv e q = let z : true ≡ false = cc in absurd (true≢false z)

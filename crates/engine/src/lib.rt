@@ -83,7 +83,16 @@ fn named_event(
         );
     }
     if kind == 6 {
-        return events::abort_event(parent, depth, line, held, retained, writers, t);
+        return events::abort_event(
+            parent,
+            depth,
+            line,
+            held,
+            retained,
+            writers,
+            t,
+            e.value != 0,
+        );
     }
     match RecordNumber::checked(e.rec) {
         RecordNamed::Number(r) => record_event(

@@ -1,7 +1,7 @@
 -- The event of the rules that an event of each kind stands for.
 use mathlib.Core.Path.{_≡_, refl}
 use mathlib.Core.Option.{none, some}
-use Rattle.rules.specs.Event.{eventOf, accessOf, begin, lock, write, read, commit, abort, crash, recover}
+use Rattle.rules.specs.Event.{eventOf, accessOf, reportOf, begin, lock, write, read, commit, abort, crash, recover}
 use Rattle.event.specs.Meaning.{meaning, fieldsOf}
 use Rattle.event.specs.declared.Event.{Event}
 
@@ -29,7 +29,7 @@ pub means-commit : (e : Event) → e .kind ≡ 5 → meaning e ≡ some (commit 
 unfolding meaning fieldsOf eventOf
 means-commit e h = rw h refl
 
-pub means-abort : (e : Event) → e .kind ≡ 6 → meaning e ≡ some (abort (e .transaction))
+pub means-abort : (e : Event) → e .kind ≡ 6 → meaning e ≡ some (abort (e .transaction) (reportOf (e .value)))
 unfolding meaning fieldsOf eventOf
 means-abort e h = rw h refl
 

@@ -29,7 +29,7 @@ use Rattle.event.proofs.Values.{value-within}
 -- the code's table
 abbrev pub flags : List ℕ
 flags =
-    0 ∷ 0xFF800000 ∷ 0xFFF80001 ∷ 0xFFFFC0FF ∷ 0xFFFFC000 ∷ 0xFF803F00 ∷ 0xFF800000 ∷ 0xF0000000 ∷ 0xF0003F00 ∷
+    0 ∷ 0xFF800000 ∷ 0xFFF80001 ∷ 0xFFFFC0FF ∷ 0xFFFFC000 ∷ 0xFF803F00 ∷ 0xFF800001 ∷ 0xF0000000 ∷ 0xF0003F00 ∷
     0 ∷ 0 ∷ 0 ∷ 0 ∷ 0 ∷ 0 ∷ 0 ∷ []
 
 abbrev agrees : Bool → Bool → Bool
@@ -42,7 +42,7 @@ flagged m a n f = all n (λ k. agrees (bits m (a + k)) f)
 
 -- how many of its lowest bits a kind uses of the value
 abbrev valueBits : ℕ → ℕ
-valueBits k = getD (0 ∷ 0 ∷ 1 ∷ 8 ∷ []) k 0
+valueBits k = getD (0 ∷ 0 ∷ 1 ∷ 8 ∷ 0 ∷ 0 ∷ 1 ∷ []) k 0
 
 -- an entry of the table flags the fields of a row of the rules' table, n bits of the value, and the kind's own field where there is such a kind
 abbrev flagsRow : ℕ → Uses → ℕ → Bool

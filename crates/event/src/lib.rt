@@ -26,7 +26,7 @@ const USES: [u32; 16] = [
     Event::KIND | Event::TRANSACTION | Event::RECORD | Event::OFFSET | Event::VALUE,
     Event::KIND | Event::TRANSACTION | Event::RECORD | Event::OFFSET,
     Event::KIND | Event::TRANSACTION | Event::COUNT,
-    Event::KIND | Event::TRANSACTION,
+    Event::KIND | Event::TRANSACTION | Event::VALUE_FLAG,
     Event::KIND,
     Event::KIND | Event::COUNT,
     0,

@@ -1,29 +1,27 @@
--- Ends: numbers are cleared, locks and writers are discarded. An abort.
+-- Ends: numbers are cleared, locks and writers are discarded. What is retained may have changed before.
 use mathlib.Core.Path.{_≡_, refl, sym, ap, ap₂, subst⁻¹, _∙_, fun-ext}
-use mathlib.Core.Bool.{Bool, true, false, not, cond, _&&_, _||_}
-use mathlib.Core.List.{List, [], _∷_}
-use mathlib.Core.Option.{Option, none, some}
-use Prim.Native.Nat.{ℕ, zero, suc, _<_}
+use mathlib.Core.Bool.{Bool, true, false, not, cond, _&&_}
+use mathlib.Core.List.{List, []}
+use mathlib.Core.Option.{none, some}
+use Prim.Native.Nat.{ℕ}
 use lib.ListN.{length, getD}
 use Rattle.laws.specs.Bits.{bits}
 use Rattle.laws.proofs.Bits.{bits-zero}
 use Rattle.rules.specs.Geometry.{transactions, nobody}
 use Rattle.rules.specs.Store.{pagesOf}
-use Rattle.rules.specs.Event.{Event, abort}
-use Rattle.rules.specs.State.{Bearers, free, active, lineOf, mem, State}
+use Rattle.rules.specs.State.{Bearers, free, lineOf, mem, Modes}
+use Rattle.rules.specs.Locks.{discarded}
 use Rattle.rules.specs.Versions.{dropped}
-use Rattle.rules.specs.Step.{ended}
-use Rattle.rules.specs.Editions.{edition1}
+use Rattle.rules.specs.Step.{ended, retaining}
 use Rattle.rules.proofs.Bearers.{Rooted, endedIn, ended-line}
-use Rattle.rules.proofs.Locks.{rooted-of, beneath-closed}
+use Rattle.rules.proofs.Locks.{rooted-of}
 use Rattle.sets.specs.Sets.{sets}
 use Rattle.arrays.specs.View.{Owners, bearerAt, bearersOf, modesOf, Nested, slot, versionsOf}
 use Rattle.arrays.specs.Changes.{less, leaving, Rows, places, cleared, Cleared}
 use Rattle.arrays.proofs.Nested.{leaving-nested}
 use Rattle.arrays.proofs.Modes.{leaving-discarded}
-use Rattle.events.specs.Whole.{Arrays, arrays, view, lineIn, Formed, Intact, Stepped, Ready}
-use Rattle.events.proofs.Rules.{abort-done}
-use Rattle.events.proofs.Steps.{answer, finishes, state-eq, up-is, live-is}
+use Rattle.events.specs.Whole.{Arrays, arrays, view, lineIn, Formed, Intact}
+use Rattle.events.proofs.Steps.{state-eq}
 
 bearer-at : (b : Bool) (p d : ℕ) → bearerAt (cond b 0 p) (cond b 0 d) ≡ cond b free (bearerAt p d)
 unfolding bearerAt
@@ -70,27 +68,28 @@ tidy-cleared dead parent depth parent′ depth′ P D T t z =
 pub nested-cleared : (dead : ℕ → Bool) (locks locks′ : List ℕ) → Nested (sets locks) → Rows 32 (leaving dead (sets locks)) locks′ → Nested (sets locks′)
 nested-cleared dead locks locks′ n L = subst⁻¹ (λ (o : Owners). Nested o) (L .are) (leaving-nested dead (sets locks) n)
 
--- those that `dead` picks end, over a store
+-- Those that `dead` picks end, over a store, where `kept` was retained before: to those that stay it stands for the modes `left`.
 module _ (x : Arrays) (I : Intact x) (dead : ℕ → Bool) (closed : (z a : ℕ) → dead z ≡ false → dead a ≡ true → mem a (lineOf (bearersOf (x .parent) (x .depth)) z) ≡ false)
+    (kept : List ℕ) (left : Modes) (K : discarded dead (modesOf (sets kept)) ≡ discarded dead left)
     (parent depth line held retained writers store : List ℕ) (P : Cleared dead (x .parent) parent) (D : Cleared dead (x .depth) depth) (L : Cleared dead (x .line) line)
-    (H : Rows 32 (leaving dead (sets (x .held))) held) (M : Rows 32 (leaving dead (sets (x .retained))) retained) (W : Rows 16 (leaving dead (sets (x .writers))) writers) where
+    (H : Rows 32 (leaving dead (sets (x .held))) held) (M : Rows 32 (leaving dead (sets kept)) retained) (W : Rows 16 (leaving dead (sets (x .writers))) writers) where
   abbrev rest : Arrays
   rest = arrays (x .up) parent depth line held retained writers (x .work) store
 
-  pub rest-is : view rest ≡ ended (view x) dead (pagesOf store)
-  unfolding view ended
+  pub rest-is : view rest ≡ ended (retaining (view x) left) dead (pagesOf store)
+  unfolding view ended retaining
   rest-is = state-eq refl (bearers-cleared dead (x .parent) (x .depth) parent depth P D)
-      (ap modesOf (H .are) ∙ leaving-discarded dead (sets (x .held))) (ap modesOf (M .are) ∙ leaving-discarded dead (sets (x .retained)))
+      (ap modesOf (H .are) ∙ leaving-discarded dead (sets (x .held))) (ap modesOf (M .are) ∙ leaving-discarded dead (sets kept) ∙ K)
       (versions-cleared dead (x .depth) depth (x .writers) writers (x .work) D (W .are)) refl
 
-  pub rest-form : length store ≡ 1056 → Formed rest
+  pub rest-form : Nested (sets kept) → length store ≡ 1056 → Formed rest
   unfolding view
-  rest-form size = let F = I .form in record {
+  rest-form nested size = let F = I .form in record {
     lines = lines-cleared (rooted-of (I .sound)) dead closed (x .line) line (F .lines) L ∙ ap lineIn (sym (bearers-cleared dead (x .parent) (x .depth) parent depth P D));
     flag = F .flag;
     tidy = tidy-cleared dead (x .parent) (x .depth) parent depth P D (F .tidy);
     held-nested = nested-cleared dead (x .held) held (F .held-nested) H;
-    retained-nested = nested-cleared dead (x .retained) retained (F .retained-nested) M;
+    retained-nested = nested-cleared dead kept retained nested M;
     parents = P .long;
     depths = D .long;
     long = L .long;
@@ -100,21 +99,3 @@ module _ (x : Arrays) (I : Intact x) (dead : ℕ → Bool) (closed : (z a : ℕ)
     works = F .works;
     stores = size;
   }
-
--- an abort: the transaction and all beneath it
-pub abort-steps : (x : Arrays) → Intact x → (t gone : ℕ) → Ready x t → bits gone ≡ (λ u. sets (x .line) u t)
-    → (parent depth line held retained writers : List ℕ) → Cleared (bits gone) (x .parent) parent → Cleared (bits gone) (x .depth) depth → Cleared (bits gone) (x .line) line
-    → Rows 32 (leaving (bits gone) (sets (x .held))) held → Rows 32 (leaving (bits gone) (sets (x .retained))) retained → Rows 16 (leaving (bits gone) (sets (x .writers))) writers
-    → Stepped x (some (abort t)) (answer 0 0) (arrays (x .up) parent depth line held retained writers (x .work) (x .store))
-unfolding view lineIn
-abort-steps x I t gone R e parent depth line held retained writers P D L H M W =
-    finishes x _ (some (abort t)) (ended (view x) (λ j. mem t (lineOf (view x .bearer) j)) (view x .store)) 0
-    (abort-done edition1 (view x) t (up-is x (R .up)) (live-is x t (R .live)))
-    (rest-is x I (bits gone) closed parent depth line held retained writers (x .store) P D L H M W ∙ ap (λ (f : ℕ → Bool). ended (view x) f (pagesOf (x .store))) same-set)
-    (rest-form x I (bits gone) closed parent depth line held retained writers (x .store) P D L H M W (I .form .stores))
-  where
-    same-set : bits gone ≡ (λ j. mem t (lineOf (bearersOf (x .parent) (x .depth)) j))
-    same-set = e ∙ ap {B = ℕ → Bool} (λ (f : ℕ → ℕ → Bool) u. f u t) (I .form .lines)
-
-    closed : (z a : ℕ) → bits gone z ≡ false → bits gone a ≡ true → mem a (lineOf (bearersOf (x .parent) (x .depth)) z) ≡ false
-    closed z a n k = beneath-closed (I .sound) t z a (sym (ap (λ (f : ℕ → Bool). f z) same-set) ∙ n) (sym (ap (λ (f : ℕ → Bool). f a) same-set) ∙ k)

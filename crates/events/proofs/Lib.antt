@@ -2,3 +2,5 @@
 pub mod Rules
 pub mod Steps
 pub mod Ends
+pub mod Parents
+pub mod Aborts

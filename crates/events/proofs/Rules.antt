@@ -16,7 +16,7 @@ use Rattle.rules.specs.Event.{Event, Access, begin, lock, write, read, commit, 
 use Rattle.rules.specs.State.{State, lineOf, mem, depthIn, live, holds, holdsWriting, down}
 use Rattle.rules.specs.Locks.{grantable}
 use Rattle.rules.specs.Form.{Form, Medium}
-use Rattle.rules.specs.Step.{Answer, done, refused, cut, Outcome, StateOf, OutcomeOf, hasChild, firstFree, begun, locked, wrote, ended, passed, raised, finished, visible, commits, recovers, firstOf, refusals, refusal, act, judged, step, open-step}
+use Rattle.rules.specs.Step.{Answer, done, refused, cut, Outcome, StateOf, OutcomeOf, hasChild, firstFree, begun, locked, wrote, ended, passed, aborted, raised, finished, visible, commits, recovers, firstOf, refusals, refusal, act, judged, step, open-step}
 
 -- nothing is free where the lowest free number is the bound; else something is
 pub full : (n : ℕ) (p : ℕ → Bool) → lowest n (λ u. not (p u)) ≡ n → all n p ≡ true
@@ -62,9 +62,9 @@ module _ (f : Form) (s : StateOf f) where
     unfolding open-step
     commit-down t k = rw d
 
-    pub abort-down : (t : ℕ) → step f s (some (abort t)) ≡ no 2
+    pub abort-down : (t : ℕ) (w : Bool) → step f s (some (abort t w)) ≡ no 2
     unfolding open-step
-    abort-down t = rw d
+    abort-down t w = rw d
 
   module _ (t : ℕ) (u : s .up ≡ true) (l : live s t ≡ false) where
     pub lock-unknown : (r : ℕ) (a : Access) → step f s (some (lock t r a)) ≡ no 5
@@ -83,9 +83,9 @@ module _ (f : Form) (s : StateOf f) where
     unfolding open-step
     commit-unknown k = rw (l, u)
 
-    pub abort-unknown : step f s (some (abort t)) ≡ no 5
+    pub abort-unknown : (w : Bool) → step f s (some (abort t w)) ≡ no 5
     unfolding open-step
-    abort-unknown = rw (l, u)
+    abort-unknown w = rw (l, u)
 
   module _ (t : ℕ) (u : s .up ≡ true) (l : live s t ≡ true) where
     pub lock-done : (r : ℕ) (a : Access) → grantable a (s .held) (s .retained) (lineOf (s .bearer) t) t r ≡ true → step f s (some (lock t r a)) ≡ finished (locked s t r a) 0
@@ -120,9 +120,9 @@ module _ (f : Form) (s : StateOf f) where
     unfolding step refusal refusals firstOf act judged
     commit-refused k h = rw (l, h, u)
 
-    pub abort-done : step f s (some (abort t)) ≡ finished (ended s (λ j. mem t (lineOf (s .bearer) j)) (s .store)) 0
-    unfolding open-step
-    abort-done = rw (l, u)
+    pub abort-done : (w : Bool) → step f s (some (abort t w)) ≡ finished (aborted s t w (lineOf (s .bearer) t)) 0
+    unfolding step refusal refusals firstOf act judged
+    abort-done w = rw (l, u)
 
   module _ (p : ℕ) (u : s .up ≡ true) where
     pub begin-unknown : same p nobody ≡ false → live s p ≡ false → step f s (some (begin p)) ≡ no 5

@@ -118,7 +118,7 @@ pub fn write_event(
     }
 }
 
-// An abort: the transaction and all its live descendants end.
+// An abort, with a report or without: with one the parent, if there is any, retains the locks. The transaction and all its live descendants end.
 pub fn abort_event(
     parent: &mut [u8; 24],
     depth: &mut [u8; 24],
@@ -127,11 +127,15 @@ pub fn abort_event(
     retained: &mut [u32; 32],
     writers: &mut [u32; 16],
     t: TransactionNumber,
+    report: bool,
 ) -> Answer
-    requires { ⌜ (length (now parent) ≡ 24) × (length (now depth) ≡ 24) × (length (now line) ≡ 24) × (length (now held) ≡ 32) × (length (now retained) ≡ 32) × (length (now writers) ≡ 16) ⌝ }
-    ensures { λ a. ⌜ ((up : ℕ) (work store : List ℕ) → Intact (arrays up (now (parent .entry)) (now (depth .entry)) (now (line .entry)) (now (held .entry)) (now (retained .entry)) (now (writers .entry)) work store) → Ready (arrays up (now (parent .entry)) (now (depth .entry)) (now (line .entry)) (now (held .entry)) (now (retained .entry)) (now (writers .entry)) work store) (transactionOf t) → Stepped (arrays up (now (parent .entry)) (now (depth .entry)) (now (line .entry)) (now (held .entry)) (now (retained .entry)) (now (writers .entry)) work store) (some (abort (transactionOf t))) a (arrays up (now (parent .exit)) (now (depth .exit)) (now (line .exit)) (now (held .exit)) (now (retained .exit)) (now (writers .exit)) work store)) ⌝ }
+    requires { ⌜ (length (now parent) ≡ 24) × (length (now depth) ≡ 24) × (length (now line) ≡ 24) × (length (now held) ≡ 32) × (length (now retained) ≡ 32) × (length (now writers) ≡ 16) × Sources (now parent) (now depth) ⌝ }
+    ensures { λ a. ⌜ ((up : ℕ) (work store : List ℕ) → Intact (arrays up (now (parent .entry)) (now (depth .entry)) (now (line .entry)) (now (held .entry)) (now (retained .entry)) (now (writers .entry)) work store) → Ready (arrays up (now (parent .entry)) (now (depth .entry)) (now (line .entry)) (now (held .entry)) (now (retained .entry)) (now (writers .entry)) work store) (transactionOf t) → Stepped (arrays up (now (parent .entry)) (now (depth .entry)) (now (line .entry)) (now (held .entry)) (now (retained .entry)) (now (writers .entry)) work store) (some (abort (transactionOf t) report)) a (arrays up (now (parent .exit)) (now (depth .exit)) (now (line .exit)) (now (held .exit)) (now (retained .exit)) (now (writers .exit)) work store)) ⌝ }
 {
     let n = t.number();
+    let i = n as usize;
+    let told = report & (1 < depth[i]);
+    locks::report(held, retained, n, parent[i], told);
     let gone = transactions::descendants(line, n);
     locks::discard(held, retained, writers, gone);
     transactions::end(parent, depth, line, gone);

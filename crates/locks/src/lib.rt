@@ -8,7 +8,7 @@ ghost use Rattle.laws.specs.Tests.{same};
 ghost use Rattle.laws.specs.Bits.{bits};
 ghost use Rattle.sets.specs.Sets.{sets};
 ghost use Rattle.arrays.specs.View.{anyMode, writeMode};
-ghost use Rattle.arrays.specs.Changes.{accessWhen, barring, joinedFor, leaving, heirsOf, inheriting, Rows};
+ghost use Rattle.arrays.specs.Changes.{accessWhen, barring, joinedFor, leaving, heirsOf, inheriting, reporting, Rows};
 ghost use Rattle.locks.specs.Granting.{Granting};
 
 // The place of those that bar an access to record r: to write, all that have its lock; to read, those that have it in write mode.
@@ -119,6 +119,16 @@ fn inherit(held: &[u32; 32], retained: &mut [u32; 32], t: u8, p: u8)
         let m = retained[k];
         let had = sets::contains(held[k], t) | sets::contains(m, t);
         retained[k] = heirs(had, m, t, p);
+    }
+}
+
+// t aborts. If p is told, it retains what t held or retained.
+pub fn report(held: &[u32; 32], retained: &mut [u32; 32], t: u8, p: u8, told: bool)
+    requires { ⌜ (t < 24) × (told ≡ true → p < 24) × (length (now held) ≡ 32) × (length (now retained) ≡ 32) ⌝ }
+    ensures { λ _. ⌜ Rows 32 (reporting told t p (sets (now (held .entry))) (sets (now (retained .entry)))) (now (retained .exit)) ⌝ }
+{
+    if told {
+        inherit(held, retained, t, p);
     }
 }
 

@@ -1,25 +1,41 @@
--- The transaction and its descendants end.
-use mathlib.Core.Path.{_≡_, refl, sym, ap, ap₂, subst, subst⁻¹, _∙_, fun-ext}
-use mathlib.Core.Bool.{Bool, true, false, not, cond, _&&_, _||_}
-use mathlib.Core.List.{List}
-use Prim.Native.Nat.{ℕ, suc, _+_, _*_, _-_, _/_, _%_, _<_, _≤_}
-use native.Mathlib.Omega.{arith}
-use lib.ListN.{length, getD, set}
-use Rattle.rules.specs.Event.{lock, write, read, commit, abort}
-use Rattle.events.proofs.Ends.{abort-steps}
+-- The report, if there is one to give, then the end of the transaction and its descendants.
+use mathlib.Core.Path.{refl}
+use Prim.Native.Nat.{ℕ}
+use lib.ListN.{getD}
+use Rattle.laws.specs.Tests.{under}
+use Rattle.laws.proofs.Tests.{under-lt}
+use Rattle.laws.proofs.Booleans.{and-right}
+use Rattle.rules.specs.Event.{abort}
+use Rattle.slots.proofs.Walk.{parent-below}
 use Rattle.events.proofs.Steps.{numbered}
+use Rattle.events.proofs.Aborts.{abort-steps}
 use borrow.Author.Needs.{needs}
 use Rattle.events.proofs.abort_event.Statement.{statement}
 use Rattle.events.proofs.abort_event.Tie as tie
 use Rattle.events.proofs.abort_event.Reads as reads
 use Rattle.events.proofs.abort_event.Lts as lts
 use Rattle.locks.proofs.discard.Reads as discard-reads
+use Rattle.locks.proofs.report.Reads as report-reads
 use Rattle.numbers.proofs.TransactionNumber.number.Reads as number-reads
 use Rattle.transactions.proofs.descendants.Reads as descendants-reads
 use Rattle.transactions.proofs.end.Reads as end-reads
 
 number-requires : tie.Need-number-requires
 number-requires c κs = search needs
+
+cast-i : tie.Need-cast-i
+cast-i c = search needs
+
+element-copy-out-told : tie.Need-element-copy-out-told
+element-copy-out-told c = search needs
+
+element-copy-out-report : tie.Need-element-copy-out-report
+element-copy-out-report c = search needs
+
+report-requires : tie.Need-report-requires
+unfolding under
+report-requires c κs = let a = c .before .before .before .before .before .args in let n = c .before .before .before .before .number .result in
+    (c .before .before .before .before .number .ensures .1, λ e. parent-below _ _ (c .before .before .before .before .before .pre .6) n (under-lt 1 (getD (a .depth .now) n 0) (and-right (a .report) (under 1 (getD (a .depth .now) n 0)) e)), c .before .before .before .before .before .pre .3, c .before .before .before .before .before .pre .4)
 
 descendants-requires : tie.Need-descendants-requires
 descendants-requires c κs = search needs
@@ -31,8 +47,20 @@ end-requires : tie.Need-end-requires
 end-requires c κs = search needs
 
 returns : tie.Need-returns
-returns c = λ up work store I R. let e = c .end .ensures in let f = c .before .before .before .before .discard .ensures in numbered _ _ _ (λ t r. abort t) _ _ 0 0 (c .before .before .before .before .before .before .before .before .before .before .number .ensures .0) (refl) (λ R. abort-steps _ I _ _ R (c .before .before .before .before .before .before .before .before .descendants .ensures) _ _ _ _ _ _ (e .0) (e .1) (e .2) (f .0) (f .1) (f .2)) R
+unfolding under
+returns c = λ up work store I R. let w = c .before .before .before .before .before .before .before .before .before .before .before .before .before .before .before .before .args .report in let e = c .end .ensures in let f = c .before .before .before .before .discard .ensures in
+    numbered _ _ _ (λ t r. abort t w) _ _ 0 0 (c .before .before .before .before .before .before .before .before .before .before .before .before .before .before .before .number .ensures .0) refl (λ R. abort-steps _ I _ _ w R (c .before .before .before .before .before .before .before .before .descendants .ensures) _ _ _ _ _ _ _ (c .before .before .before .before .before .before .before .before .before .before .report .ensures) (e .0) (e .1) (e .2) (f .0) (f .1) (f .2)) R
 
 pub abort-event-spec : {M : Type 1} → statement M
 abort-event-spec =
-    tie.close (tie.spec number-requires descendants-requires discard-requires end-requires returns)
+    tie.close
+    (tie.spec
+    number-requires
+    cast-i
+    element-copy-out-told
+    element-copy-out-report
+    report-requires
+    descendants-requires
+    discard-requires
+    end-requires
+    returns)

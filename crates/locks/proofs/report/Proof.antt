@@ -1,0 +1,30 @@
+-- The parent inherits if it is told; else nothing changes.
+use mathlib.Core.Path.{sym, ap, _∙_}
+use mathlib.Core.Bool.{Bool}
+use Rattle.sets.specs.Sets.{sets}
+use Rattle.arrays.specs.Changes.{reporting}
+use Rattle.locks.proofs.report.Statement.{statement}
+use Rattle.locks.proofs.report.Tie as tie
+use Rattle.locks.proofs.report.Reads as reads
+use Rattle.locks.proofs.report.Lts as lts
+use Rattle.locks.proofs.inherit.Reads as inherit-reads
+
+inherit-requires : tie.Need-inherit-requires
+inherit-requires c κs = (c .before .before .pre .0, c .before .before .pre .1 (c .before .if1 .taken), c .before .before .pre .2, c .before .before .pre .3)
+
+returns : tie.Need-returns
+unfolding reporting
+returns c = let a = c .before .before .before .args in record {
+  are = c .inherit .ensures .are ∙ sym (ap (λ (b : Bool). reporting b (a .t) (a .p) (sets (a .held .now)) (sets (a .retained .now))) (c .before .before .if1 .taken));
+  long = c .inherit .ensures .long;
+}
+
+returns-2 : tie.Need-returns-2
+unfolding reporting
+returns-2 c = let a = c .before .args in record {
+  are = sym (ap (λ (b : Bool). reporting b (a .t) (a .p) (sets (a .held .now)) (sets (a .retained .now))) (c .if1 .left));
+  long = c .before .pre .3;
+}
+
+pub report-spec : {M : Type 1} → statement M
+report-spec = tie.close (tie.spec inherit-requires returns returns-2)
