@@ -1,4 +1,5 @@
--- The trials at the edges that document 01 marks, as rows of one table, with rows that shut out its five shortcuts.
+-- The trials at the edges that document 01 marks, as rows of one table, with rows that shut out its five shortcuts, and rows for the locks of
+-- document 02: read locks, reports, live children.
 use Prim.Native.Nat.{ℕ, zero, suc, _+_, _-_, _*_, _/_, _%_}
 use mathlib.Core.Bool.{Bool, true, false, _&&_}
 use mathlib.Core.List.{List, [], _∷_, _++_}
