@@ -70,6 +70,9 @@ ok "play standard input" "^40188000 00A5$" bash -c "'$run' play store - <words.t
 ok "answers to a file" "4 events: 4 done" "$run" play store words.txt --answers answers.bin
 text '\x00\x00\x00\x00\x00\x00\x00\xA5' due.bin
 same "the answers" answers.bin due.bin
+ok "answers to a pipe" "^ 00 00 00 00 00 00 00 a5" bash -c "'$run' play store words.txt --answers /dev/stdout | od -An -tx1"
+ok "answers to a program" "^ 00 a5$" bash -c "'$run' play store words.txt --answers >(tail -c 2 | od -An -tx1 >last) >/dev/null && sleep 1 && cat last"
+ok "a list from a program" "^4 events: 4 done" bash -c "'$run' play store <(cat words.txt)"
 ok "trace" "record 3 held by 0" "$run" play store words.txt --trace
 ok "another store" "a fresh store" "$run" fresh other
 ok "trace of a crash" "transaction 0 survives: the commit page was written" "$run" play other hex.txt --trace --dry
@@ -92,7 +95,7 @@ text 'recover 63\nbegin none\nlock 0 3\nbegin 0\nread 0 3 0\nabort 1\nread 0 3 0
 ok "trace of a parent beside its child" "read 0 3 0: refused 14: a child is still live" "$run" play other parent.txt --trace --dry
 holds "and after it" grep -q "read 0 3 0: the byte is 00" out
 cp store before
-ok "a dry run" "11 events" "$run" play store hex.txt --dry
+ok "a dry run" "a dry run: the store is left as it was" "$run" play store hex.txt --dry
 same "a dry run leaves the store" store before
 
 # Portions and state files: as one run over the joined lists.
@@ -250,6 +253,8 @@ cp damaged damaged.before
 ok "a damaged store in words" "damaged, it says committed but names no record" "$run" show damaged
 fails "age of a damaged store" 1 "refused 4" "$run" age damaged 3 0 0
 ok "play on a damaged store" "^80003F00 0400$" "$run" play damaged words.txt
+holds "a refused event: where to find why" grep -qx "why an event was refused: --trace tells it" out
+ok "why an event was refused" "recover 63: refused 4: page 0 is damaged" "$run" play damaged words.txt --trace
 same "a damaged store stays" damaged damaged.before
 
 # Files that can't be written: a clear message, nothing lost, nothing left over.

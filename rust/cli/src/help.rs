@@ -40,6 +40,9 @@ one to a line; # starts a comment. What has a byte 0 in it is taken as raw event
   crash
   recover COUNT                           a run starts down: recover comes first
 
+Each event has an answer of two bytes, told in hex: a number (00 done, 01 to 0A refused, 0B cut by a
+crash), then a value. --trace tells it in words, and include/nekahuiro.h has all the numbers.
+
 Options may stand anywhere after the command. After -- nothing is an option; a file whose name begins
 with - can also be written ./-name.
 
@@ -48,9 +51,9 @@ The store file is replaced only when all has gone well, in one step. The exit st
 no failure.
 
 A state file has what is live between two portions: a line that says what it is and of which version, a
-digest of the store left with it and one of what follows, the lent state, the working buffer. It goes with that store: if
-another is named, or the store was changed since, nothing is played. If the power goes while the two
-are replaced, the state file is gone: what was live is lost, and the next list starts down.
+digest of the store left with it and one of what follows, the state, the working buffer. It goes with
+that store: if another is named, or the store was changed since, nothing is played. If the power goes
+while the two are replaced, the state file is gone: what was live is lost, and the next list starts down.
 ";
 
 /// Prints the help.

@@ -247,6 +247,9 @@ fn report(options: &Options, played: &Played) -> String {
         transactions - survive - open,
     );
     let _ = if open == 0 { writeln!(text) } else { writeln!(text, ", {open} undecided") };
+    if accepted < answers.len() && !options.trace {
+        let _ = writeln!(text, "why an event was refused: --trace tells it");
+    }
     if let (Some(path), Some(left)) = (options.state, left) {
         let _ = writeln!(text, "{path}: {}", left.in_words());
     }

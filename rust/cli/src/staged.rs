@@ -24,19 +24,17 @@ impl Staged {
 
     fn write(name: &str, content: &[u8]) -> Outcome<Staged> {
         let fails = |error: io::Error| cant_write("write", name, &error);
-        // A link is followed, so that the file it names is replaced and not the link.
-        let target = match fs::canonicalize(name) {
-            Err(_) if fs::symlink_metadata(name).is_ok() => {
-                let reason = format!("can't write {name}: it is a link to a file that isn't there");
-                return Err(Failure::new(&reason, "remove the link, or make the file that it names"));
-            }
-            found => found.unwrap_or_else(|_| PathBuf::from(name)),
-        };
+        // A link is followed, so that the file it names is replaced and not the link. A pipe has no path.
+        let target = fs::canonicalize(name).unwrap_or_else(|_| PathBuf::from(name));
         let found = match fs::metadata(&target) {
             Err(error) if error.kind() == ErrorKind::NotFound => None,
             found => Some(found.map_err(fails)?),
         };
         match &found {
+            None if fs::symlink_metadata(&target).is_ok() => {
+                let reason = format!("can't write {name}: it is a link to a file that isn't there");
+                return Err(Failure::new(&reason, "remove the link, or make the file that it names"));
+            }
             Some(found) if found.is_dir() => return Err(fails(ErrorKind::IsADirectory.into())),
             Some(found) if !found.is_file() => {
                 let mut device = OpenOptions::new().write(true).open(&target).map_err(fails)?;

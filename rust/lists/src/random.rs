@@ -171,7 +171,7 @@ impl Maker<'_> {
                 let able = match self.rng.below(100) {
                     0..=3 => self.sketch.retained(),
                     4..=5 => self.sketch.readers(),
-                    6..=9 => self.sketch.denied(),
+                    6..=13 => self.sketch.denied(),
                     _ if kind == 3 => self.sketch.writers(),
                     _ => self.sketch.held(),
                 };

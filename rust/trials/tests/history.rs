@@ -80,7 +80,7 @@ fn demand_3_alone_finds_wrong_programs() {
     ];
     for bug in wrong {
         let program = Program::Planted(bug);
-        let (tally, failure) = random::search(program, program, settings::seed(), 50_000);
+        let (tally, failure) = random::search(program, program, settings::seed(), 200_000);
         let text = failure.unwrap_or_else(|| panic!("{bug:?} was not found in {}", tally.text()));
         println!("{bug:?} was found by demand 3 after {}:\n{text}", tally.text());
     }
