@@ -112,7 +112,8 @@ extern "C" {
 
 /* The answer to an event: a number, then a value. The value is the new transaction's number for
  * begin, the byte for read, the page writes made for commit and recover (also when cut), else 0.
- * A refused event (1 to 10) changes nothing but its answer. The first reason that holds is given.
+ * A refused event (1 to 10, and 14) changes nothing but its answer. The first reason that holds is
+ * given, in the order of the numbers, but 14 is tried after 5.
  */
 #define NEKAHUIRO_DONE 0           /* done */
 #define NEKAHUIRO_BAD_EVENT 1      /* kind 0 or 9 to 15, an unused field isn't 0, or no such value */
@@ -126,6 +127,7 @@ extern "C" {
 #define NEKAHUIRO_NOT_HELD 9       /* read without holding the lock, or write without holding it to write */
 #define NEKAHUIRO_LIVE_CHILD 10    /* commit with a live child */
 #define NEKAHUIRO_CUT 11           /* no refusal: cut by a crash during commit or recover */
+#define NEKAHUIRO_CHILD_AT_WORK 14 /* lock, read or write by a transaction with a live child */
 
 /* Refusals of a whole call: no buffer is touched. */
 #define NEKAHUIRO_BAD_LIST 20      /* events_size isn't a multiple of 4, or above 16384 */

@@ -91,6 +91,9 @@ ok "trace of a report" "abort 1 report: done, with a report" "$run" play other r
 holds "the parent retains" grep -q "record 3 retained to read by 0$" out
 holds "a stranger can't write" grep -q "lock 1 3: refused 8" out
 ok "picture of a report" ">✗↑<" bash -c "'$run' play other reported.txt --picture reported.svg --dry && cat reported.svg"
+text 'recover 63\nbegin none\nlock 0 3\nbegin 0\nread 0 3 0\nabort 1\nread 0 3 0\n' parent.txt
+ok "trace of a parent beside its child" "read 0 3 0: refused 14: a child is still live" "$run" play other parent.txt --trace --dry
+holds "and after it" grep -q "read 0 3 0: the byte is 00" out
 cp store before
 ok "a dry run" "a dry run: the store is left as it was" "$run" play store hex.txt --dry
 same "a dry run leaves the store" store before

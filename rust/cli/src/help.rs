@@ -40,8 +40,8 @@ one to a line; # starts a comment. What has a byte 0 in it is taken as raw event
   crash
   recover COUNT                           a run starts down: recover comes first
 
-Each event has an answer of two bytes, told in hex: a number (00 done, 01 to 0A refused, 0B cut by a
-crash), then a value. --trace tells it in words, and include/nekahuiro.h has all the numbers.
+Each event has an answer of two bytes, told in hex: a number (00 done, 01 to 0A and 0E refused, 0B cut by
+a crash), then a value. --trace tells it in words, and include/nekahuiro.h has all the numbers.
 
 Options may stand anywhere after the command. After -- nothing is an option; a file whose name begins
 with - can also be written ./-name.

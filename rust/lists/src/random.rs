@@ -159,9 +159,11 @@ impl Maker<'_> {
             return Fields { kind: 1, transaction: self.parent(), ..fields };
         }
         let anyone = self.rng.pick(&live).copied().unwrap_or(0);
+        let leaf = self.rng.pick(&self.sketch.leaves()).copied().unwrap_or(anyone);
         match kind {
             2 => {
-                let ((transaction, record), to_write) = self.wanted(anyone);
+                let asker = if self.rng.percent(5) { anyone } else { leaf };
+                let ((transaction, record), to_write) = self.wanted(asker);
                 Fields { transaction, record, value: u8::from(!to_write), ..fields }
             }
             3 | 4 => {
@@ -173,19 +175,16 @@ impl Maker<'_> {
                     _ if kind == 3 => self.sketch.writers(),
                     _ => self.sketch.held(),
                 };
+                let able = self.mostly_leaves(able);
                 let Some((transaction, record)) = self.rng.pick(&able).copied() else {
                     return self.of_kind(2);
                 };
                 let value = if kind == 3 { self.rng.byte() } else { 0 };
                 Fields { transaction, record, offset: self.rng.below(self.taste.offsets) as u8, value, ..fields }
             }
-            5 => {
-                let transaction = self.rng.pick(&self.sketch.leaves()).copied().unwrap_or(anyone);
-                Fields { transaction, count: self.count(self.sketch.due(transaction)), ..fields }
-            }
+            5 => Fields { transaction: leaf, count: self.count(self.sketch.due(leaf)), ..fields },
             _ => {
-                let transaction = self.rng.pick(&self.sketch.leaves()).copied().unwrap_or(anyone);
-                let transaction = if self.rng.percent(70) { transaction } else { anyone };
+                let transaction = if self.rng.percent(70) { leaf } else { anyone };
                 Fields { kind: 6, transaction, value: u8::from(self.rng.percent(self.taste.reports)), ..fields }
             }
         }
@@ -193,7 +192,7 @@ impl Maker<'_> {
 
     /// Who asks for which lock, and whether to write: mostly for one that its own line retains or for any;
     /// now and then a reader would write, a writer asks for less, a stranger for what is retained.
-    fn wanted(&mut self, anyone: u8) -> (Pair, bool) {
+    fn wanted(&mut self, asker: u8) -> (Pair, bool) {
         let to_write = !self.rng.percent(self.taste.reading);
         let (wanted, to_write) = match self.rng.below(100) {
             0..=44 => (self.sketch.retained(), to_write),
@@ -202,8 +201,18 @@ impl Maker<'_> {
             59..=64 => (self.sketch.strangers(), to_write),
             _ => (Vec::new(), to_write),
         };
-        let any = (anyone, self.rng.below(self.taste.records) as u8);
+        let wanted = self.mostly_leaves(wanted);
+        let any = (asker, self.rng.below(self.taste.records) as u8);
         (self.rng.pick(&wanted).copied().unwrap_or(any), to_write)
+    }
+
+    /// Who has a live child is refused: it comes now and then only.
+    fn mostly_leaves(&mut self, pairs: Vec<Pair>) -> Vec<Pair> {
+        if self.rng.percent(5) {
+            pairs
+        } else {
+            self.sketch.of_leaves(pairs)
+        }
     }
 
     fn parent(&mut self) -> u8 {

@@ -46,8 +46,18 @@ impl Sketch {
 
     /// Live numbers without a live child.
     pub fn leaves(&self) -> Vec<u8> {
-        let is_parent = |t: u8| self.live.iter().flatten().any(|live| live.parent == Some(t));
-        self.live().into_iter().filter(|t| !is_parent(*t)).collect()
+        self.live().into_iter().filter(|t| self.is_leaf(*t)).collect()
+    }
+
+    /// Those of these pairs whose transaction has no live child.
+    pub fn of_leaves(&self, mut pairs: Vec<Pair>) -> Vec<Pair> {
+        let parents = self.live.iter().flatten().fold(0, |set, live| set | live.parent.map_or(0, bit));
+        pairs.retain(|(t, _)| parents & bit(*t) == 0);
+        pairs
+    }
+
+    fn is_leaf(&self, transaction: u8) -> bool {
+        !self.live.iter().flatten().any(|live| live.parent == Some(transaction))
     }
 
     /// Live numbers above the depth limit.
@@ -149,7 +159,7 @@ impl Sketch {
 
     /// A lock, to write or only to read.
     pub fn lock(&mut self, transaction: u8, record: u8, to_write: bool) {
-        if self.at(transaction).is_none() {
+        if self.at(transaction).is_none() || !self.is_leaf(transaction) {
             return;
         }
         let line = self.line(transaction);
@@ -167,7 +177,7 @@ impl Sketch {
 
     /// A write.
     pub fn write(&mut self, transaction: u8, record: u8) {
-        let holds = self.locks[usize::from(record)].writer == Some(transaction);
+        let holds = self.locks[usize::from(record)].writer == Some(transaction) && self.is_leaf(transaction);
         if let Some(live) = self.live.get_mut(usize::from(transaction)).and_then(Option::as_mut).filter(|_| holds) {
             live.wrote |= 1 << record;
         }

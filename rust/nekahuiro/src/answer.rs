@@ -13,7 +13,7 @@ use std::fmt;
 /// ```
 #[derive(Clone, Copy, Debug, PartialEq, Eq)]
 pub struct Answer {
-    /// 0 done, 1 to 10 refused, 11 cut by a crash.
+    /// 0 done, 1 to 10 and 14 refused, 11 cut by a crash.
     pub number: u8,
     /// The new transaction's number for begin, the byte for read, the page writes made for commit
     /// and recover; else 0.
@@ -60,6 +60,7 @@ impl Answer {
             8 => "the lock can't be granted now".to_string(),
             9 => "the transaction doesn't hold the lock, or only to read and would write".to_string(),
             10 => "a child is still live".to_string(),
+            14 => "a child is still live: its parent can't lock, read or write until it ends".to_string(),
             number => format!("unknown number {number}"),
         })
     }

@@ -1,6 +1,7 @@
 //! Known bugs that a test build can plant, to show that the tests find them.
 
-/// A bug to plant: slips, the five shortcuts that the rules warn of, and slips in modes and reports.
+/// A bug to plant: slips, the five shortcuts that the rules warn of, and slips in modes, reports and in what
+/// a live child bars.
 #[derive(Clone, Copy, Debug, PartialEq, Eq)]
 pub enum Bug {
     /// A parent with a version of its own keeps it when its child commits one.
@@ -33,11 +34,15 @@ pub enum Bug {
     ReportKeepsDescendantsLocks,
     /// A report lets the parent hold what was held.
     ReportLetsParentHold,
+    /// Whether a lock can be granted is asked before whether a child is live.
+    ChildTriedAfterGrant,
+    /// A live child stops an abort too.
+    ChildStopsAbort,
 }
 
 impl Bug {
     /// All of them.
-    pub const ALL: [Bug; 15] = [
+    pub const ALL: [Bug; 17] = [
         Bug::ParentKeepsItsVersion,
         Bug::GrantBlindToRetainers,
         Bug::CutOffByOne,
@@ -53,5 +58,7 @@ impl Bug {
         Bug::ReportKeepsVersions,
         Bug::ReportKeepsDescendantsLocks,
         Bug::ReportLetsParentHold,
+        Bug::ChildTriedAfterGrant,
+        Bug::ChildStopsAbort,
     ];
 }

@@ -26,6 +26,7 @@ enum Refusal {
     NotGrantable = 8,
     NotHeld = 9,
     LiveChild = 10,
+    ChildAtWork = 14,
 }
 
 type Outcome = Result<Answer, Refusal>;
@@ -97,6 +98,10 @@ impl<'s> Player<'s> {
 
     fn lock(&mut self, transaction: Transaction, record: Record, mode: Mode) -> Outcome {
         self.live(transaction)?;
+        let child_is_tried_late = self.planted(Bug::ChildTriedAfterGrant);
+        if !child_is_tried_late {
+            self.childless(transaction)?;
+        }
         // Asking for what is held, or for less, changes nothing.
         if self.volatile.locks.held(transaction, record) >= Some(mode) {
             return Ok(Answer(DONE, 0));
@@ -107,6 +112,9 @@ impl<'s> Player<'s> {
         };
         if !grantable {
             return Err(Refusal::NotGrantable);
+        }
+        if child_is_tried_late {
+            self.childless(transaction)?;
         }
         self.volatile.locks.grant(transaction, record, mode);
         Ok(Answer(DONE, 0))
@@ -139,6 +147,7 @@ impl<'s> Player<'s> {
 
     fn write(&mut self, transaction: Transaction, record: Record, offset: u8, value: u8) -> Outcome {
         self.live(transaction)?;
+        self.childless(transaction)?;
         let needed = if self.planted(Bug::WriteUnderReadLock) { Mode::Read } else { Mode::Write };
         self.holds(transaction, record, needed)?;
         let seen = self.volatile.tree.version(transaction, record).copied();
@@ -151,6 +160,7 @@ impl<'s> Player<'s> {
 
     fn read(&mut self, transaction: Transaction, record: Record, offset: u8) -> Outcome {
         self.live(transaction)?;
+        self.childless(transaction)?;
         self.holds(transaction, record, Mode::Read)?;
         let byte = match self.volatile.tree.version(transaction, record) {
             Some(version) => version[offset as usize],
@@ -224,6 +234,9 @@ impl<'s> Player<'s> {
 
     fn abort(&mut self, transaction: Transaction, report: bool) -> Outcome {
         self.live(transaction)?;
+        if self.planted(Bug::ChildStopsAbort) {
+            self.childless(transaction)?;
+        }
         if self.planted(Bug::AbortRestoresHome) {
             self.forget_ancestors_versions(transaction);
         }
@@ -293,6 +306,11 @@ impl<'s> Player<'s> {
 
     fn live(&self, transaction: Transaction) -> Result<(), Refusal> {
         self.volatile.tree.is_live(transaction).then_some(()).ok_or(Refusal::NotLive)
+    }
+
+    /// Who has a live child leaves the records to it.
+    fn childless(&self, transaction: Transaction) -> Result<(), Refusal> {
+        (!self.volatile.tree.has_child(transaction)).then_some(()).ok_or(Refusal::ChildAtWork)
     }
 
     /// Reading and writing need the lock held by that very transaction, in this mode or a stronger one.

@@ -11,6 +11,8 @@ pub struct Node {
     pub parent: Option<Transaction>,
     /// 1 for a top transaction.
     pub depth: u8,
+    /// How many live children it has.
+    pub children: usize,
     /// What it has written, or taken over from children that committed.
     pub versions: BTreeMap<Record, Page>,
 }
@@ -46,7 +48,10 @@ impl Tree {
     pub fn begin(&mut self, parent: Option<Transaction>) -> Option<Transaction> {
         let depth = 1 + parent.and_then(|p| self.get(p)).map_or(0, |node| node.depth);
         let free = self.slots.iter().position(Option::is_none)?;
-        self.slots[free] = Some(Node { parent, depth, versions: BTreeMap::new() });
+        self.slots[free] = Some(Node { parent, depth, children: 0, versions: BTreeMap::new() });
+        if let Some(node) = parent.and_then(|parent| self.get_mut(parent)) {
+            node.children += 1;
+        }
         Some(Transaction(free as u8))
     }
 
@@ -62,7 +67,7 @@ impl Tree {
 
     /// Whether any live transaction has this one as its parent.
     pub fn has_child(&self, transaction: Transaction) -> bool {
-        self.slots.iter().flatten().any(|node| node.parent == Some(transaction))
+        self.get(transaction).is_some_and(|node| node.children > 0)
     }
 
     /// A transaction and its live descendants.
@@ -84,7 +89,11 @@ impl Tree {
 
     /// Ends one transaction and hands out what it was.
     pub fn remove(&mut self, transaction: Transaction) -> Option<Node> {
-        self.slots.get_mut(usize::from(transaction.0))?.take()
+        let ended = self.slots.get_mut(usize::from(transaction.0))?.take()?;
+        if let Some(node) = ended.parent.and_then(|parent| self.get_mut(parent)) {
+            node.children -= 1;
+        }
+        Some(ended)
     }
 
     /// Ends all.

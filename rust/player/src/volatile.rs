@@ -41,7 +41,8 @@ impl Volatile {
         for (transaction, Begun { parent, depth }) in &facts.live {
             let own = facts.versions.iter().filter(|((writer, _), _)| writer == transaction);
             let versions = own.map(|((_, record), page)| (*record, *page)).collect();
-            volatile.tree.put(*transaction, Node { parent: *parent, depth: *depth, versions });
+            let children = facts.live.values().filter(|begun| begun.parent == Some(*transaction)).count();
+            volatile.tree.put(*transaction, Node { parent: *parent, depth: *depth, children, versions });
         }
         facts.holders.iter().for_each(|((record, holder), mode)| volatile.locks.grant(*holder, *record, *mode));
         facts.retainers.iter().for_each(|((record, t), mode)| volatile.locks.retain(*t, *record, *mode));
