@@ -1,15 +1,15 @@
 -- By its kind the event is one of the five that name a live transaction.
-use mathlib.Core.Path.{_≡_, refl, sym, ap, ap₂, subst, subst⁻¹, _∙_, fun-ext}
-use mathlib.Core.Bool.{Bool, true, false, not, cond, _&&_, _||_}
-use mathlib.Core.List.{List}
-use Prim.Native.Nat.{ℕ, suc, _+_, _*_, _-_, _/_, _%_, _<_, _≤_}
+use mathlib.Core.Path.{sym, ap, ap₂, subst⁻¹, _∙_}
+use mathlib.Core.Bool.{Bool}
+use Prim.Native.Nat.{ℕ, _-_, _<_}
 use native.Mathlib.Omega.{arith}
-use lib.ListN.{length, getD, set}
+use lib.ListN.{getD}
 use mathlib.Core.Option.{some}
-use Rattle.rules.specs.Event.{begin, lock, write, read, commit, abort, crash, recover}
-use Rattle.event.proofs.Meaning.{means-bad, means-begin, means-lock, means-write, means-read, means-commit, means-abort, means-crash, means-recover}
-use Rattle.engine.proofs.ByKind.{unknown-steps}
-use Rattle.engine.proofs.Numbers.{transaction-is, no-transaction, record-is, no-record, transaction-small}
+use Rattle.laws.specs.Tests.{same}
+use Rattle.rules.specs.Event.{commit, abort}
+use Rattle.event.proofs.Meaning.{means-commit, means-abort}
+use Rattle.engine.proofs.ByKind.{report-is, unknown-steps}
+use Rattle.engine.proofs.Numbers.{record-is, no-record, transaction-small}
 use Rattle.events.proofs.Steps.{retold, sources, not-live}
 use borrow.Author.Needs.{needs}
 use Rattle.engine.proofs.named_event.Statement.{statement}
@@ -43,10 +43,13 @@ returns-2 : tie.Need-returns-2
 returns-2 c = retold _ _ _ _ _ (means-commit (c .before .before .before .before .before .before .before .before .before .before .before .before .before .before .before .before .before .before .before .before .args .e) (c .before .before .before .before .before .before .before .before .before .before .before .before .before .before .if2 .taken) ∙ ap (λ (t : ℕ). some (commit t (c .before .before .before .before .before .before .before .before .before .before .before .before .before .before .before .before .before .before .before .before .args .e .count))) (sym (c .before .before .before .before .before .before .before .before .before .before .before .before .before .before .before .before .before .before .before .before .pre .0))) (c .before .before .before .before .commit-event .ensures (c .before .before .before .before .before .before .before .before .before .before .before .before .before .before .before .before .before .before .before .before .pre .4) (record { up = c .before .before .before .before .before .before .before .before .before .before .before .before .before .before .before .before .before .before .before .before .pre .5; live = subst⁻¹ (λ (n : ℕ). 0 < getD (c .before .before .before .before .before .before .before .before .before .before .before .before .before .before .before .before .before .before .before .before .args .depth .now) n 0) (c .before .before .before .before .before .before .before .before .before .before .before .before .before .before .before .before .before .before .before .before .pre .0) (omega arith) }))
 
 abort-event-requires : tie.Need-abort-event-requires
-abort-event-requires c κs = search needs
+abort-event-requires c κs = let F = c .before .before .before .before .before .before .before .before .before .before .before .before .before .before .pre .4 .form in (F .parents, F .depths, F .long, F .helds, F .retaineds, F .writerss, sources _ (c .before .before .before .before .before .before .before .before .before .before .before .before .before .before .pre .4))
 
 returns-3 : tie.Need-returns-3
-returns-3 c = retold _ _ _ _ _ (means-abort (c .before .before .before .before .before .before .before .before .before .before .before .before .before .before .args .e) (c .before .before .before .before .before .before .before .if3 .taken) ∙ ap (λ (t : ℕ). some (abort t)) (sym (c .before .before .before .before .before .before .before .before .before .before .before .before .before .before .pre .0))) (c .abort-event .ensures _ _ _ (c .before .before .before .before .before .before .before .before .before .before .before .before .before .before .pre .4) (record { up = c .before .before .before .before .before .before .before .before .before .before .before .before .before .before .pre .5; live = subst⁻¹ (λ (n : ℕ). 0 < getD (c .before .before .before .before .before .before .before .before .before .before .before .before .before .before .args .depth .now) n 0) (c .before .before .before .before .before .before .before .before .before .before .before .before .before .before .pre .0) (omega arith) }))
+unfolding same
+returns-3 c = let a = c .before .before .before .before .before .before .before .before .before .before .before .before .before .before .before .args in let pre = c .before .before .before .before .before .before .before .before .before .before .before .before .before .before .before .pre in
+    retold _ _ _ _ _ (means-abort (a .e) (c .before .before .before .before .before .before .before .before .if3 .taken) ∙ ap₂ (λ (t : ℕ) (w : Bool). some (abort t w)) (sym (pre .0)) (report-is (a .e .value)))
+    (c .abort-event .ensures _ _ _ (pre .4) (record { up = pre .5; live = subst⁻¹ (λ (n : ℕ). 0 < getD (a .depth .now) n 0) (pre .0) (omega arith) }))
 
 checked-requires : tie.Need-checked-requires
 checked-requires c κs = search needs

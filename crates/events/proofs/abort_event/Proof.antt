@@ -35,7 +35,7 @@ element-copy-out-report c = search needs
 report-requires : tie.Need-report-requires
 unfolding under
 report-requires c κs = let a = c .before .before .before .before .before .args in let n = c .before .before .before .before .number .result in
-    (c .before .before .before .before .number .ensures .1, λ e. parent-below _ _ (c .before .before .before .before .before .pre .6) n (under-lt 1 (getD (a .depth .now) n 0) (and-right (a .report) (under 1 (getD (a .depth .now) n 0)) e)), c .before .before .before .before .before .pre .3, c .before .before .before .before .before .pre .4)
+    (c .before .before .before .before .number .ensures .1, λ e. parent-below _ _ (c .before .before .before .before .before .pre .6) n (under-lt 1 (getD (a .depth .now) n 0) (and-right (a .report) (under 1 (getD (a .depth .now) n 0)) e)), search needs, search needs)
 
 descendants-requires : tie.Need-descendants-requires
 descendants-requires c κs = search needs
