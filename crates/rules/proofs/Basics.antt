@@ -1,7 +1,7 @@
--- Ages and lengths at their edges, in other words than the definitions: the sign and the limit decide an age; of wrong lengths the store's is told
--- first, then the working buffer's.
+-- Some rules in other words than their definitions: the sign and the limit decide an age; of wrong lengths the store's is told first, then the
+-- working buffer's; a version that isn't dropped stays; a child's version takes the place of its parent's.
 use mathlib.Core.Path.{_≡_, refl}
-use mathlib.Core.Bool.{true, false}
+use mathlib.Core.Bool.{Bool, true, false}
 use mathlib.Core.List.{List}
 use mathlib.Core.Option.{some}
 use Prim.Native.Nat.{ℕ, _<_, _≤_}
@@ -10,7 +10,11 @@ use lib.IntN.{pos, negsuc}
 use lib.Dec.{leb·suc-zero}
 use borrow.Author.Tests.{le-leb, lt-leb}
 use Rattle.laws.specs.Tests.{same}
+use Rattle.laws.proofs.Tests.{same-refl}
 use Rattle.rules.specs.Geometry.{workSize}
+use Rattle.rules.specs.Store.{Page}
+use Rattle.rules.specs.State.{Versions}
+use Rattle.rules.specs.Versions.{also, handedUp, dropped}
 use Rattle.rules.specs.Form.{Form, Medium}
 use Rattle.rules.specs.Step.{firstOf}
 use Rattle.rules.specs.Run.{runRefusals}
@@ -36,3 +40,11 @@ module _ (f : Form) (store events work answers : List ℕ) where
   pub wrong-work : same (length store) (f .medium .size) ≡ true → same (length work) (workSize (f .geometry)) ≡ false → firstOf (runRefusals f store events work answers) ≡ some 24
   unfolding firstOf runRefusals
   wrong-work e h = rw (e, h) refl
+
+pub version-spared : (dead : ℕ → Bool) (version : Versions) (j r : ℕ) → dead j ≡ false → dropped dead version j r ≡ version j r
+unfolding dropped
+version-spared dead version j r e = rw e refl
+
+pub child-version-first : (x y r : ℕ) (version : Versions) (p : Page) → version x r ≡ some p → handedUp x y version y r ≡ some p
+unfolding handedUp also
+child-version-first x y r version p e = rw (same-refl y, e) refl
