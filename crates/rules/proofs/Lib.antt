@@ -1,4 +1,5 @@
 -- The arguments of this crate.
+pub mod Basics
 pub mod Medium
 pub mod Tree
 pub mod Bearers
@@ -25,4 +26,3 @@ pub mod Words
 pub mod Event
 pub mod Durability
 pub mod Fresh
-pub mod Edges
