@@ -2,7 +2,7 @@
 use mathlib.Core.Path.{_≡_, refl, sym, ap, subst⁻¹, _∙_}
 use mathlib.Core.Bool.{true, false, true≢false, false≢true}
 use mathlib.Core.List.{List, [], _∷_, _++_}
-use mathlib.Core.Logic.{_≢_}
+use mathlib.Core.Logic.{_≢_, _⊎_, inl, inr}
 use Prim.Native.Nat.{ℕ, _≤_}
 use native.Mathlib.Omega.{arith}
 use Rattle.laws.specs.Tests.{open-tests}
@@ -28,14 +28,16 @@ use Rattle.history.proofs.Invariant.{now, turn, Holds, After, step-afte
 abbrev pub rowBy : ℕ → Answer → Row
 rowBy w a = record { word = w; number = numberOf a; value = valueOf a }
 
--- an answer that is a refusal has a number from 1 to 10: it is read back from its bytes
-read-back : (w : ℕ) (a : Answer) → ((n : ℕ) → a ≡ refused n → (1 ≤ n) × (n ≤ 10)) → answerOf (rowBy w a) ≡ a
+-- an answer that is a refusal has a number from 1 to 10, or 14: it is read back from its bytes
+read-back : (w : ℕ) (a : Answer) → ((n : ℕ) → a ≡ refused n → ((1 ≤ n) × (n ≤ 10)) ⊎ (n ≡ 14)) → answerOf (rowBy w a) ≡ a
 unfolding answerOf numberOf valueOf open-tests
 read-back w (done v) h = refl
 read-back w (cut v) h = refl
-read-back w (refused n) h =
-    let k = h n refl in
-    rw (ne-false n 0 (λ q. omega (arith, k .0)), ne-false n 11 (λ q. omega (arith, k .1)))
+read-back w (refused n) h = go (h n refl)
+  where
+    go : ((1 ≤ n) × (n ≤ 10)) ⊎ (n ≡ 14) → answerOf (rowBy w (refused n)) ≡ refused n
+    go (inl k) = rw (ne-false n 0 (λ q. omega (arith, k .0)), ne-false n 11 (λ q. omega (arith, k .1)))
+    go (inr k) = rw (ne-false n 0 (λ q. omega (arith, k)), ne-false n 11 (λ q. omega (arith, k)))
 
 module _ (f : Form) where
   abbrev pub stepOf : StateOf f → ℕ → OutcomeOf f

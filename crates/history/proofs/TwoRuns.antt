@@ -66,7 +66,7 @@ module _ (f : Form) (M : MediumLaws (f .geometry) (f .medium)) {s : StateOf f} (
 
   -- nor at the value of a write
   same-refusal-value : (t r o v w : ℕ) → refusal f (swap f s ver d) (write t r o w) ≡ refusal f s (write t r o v)
-  unfolding refusal refusals live holdsWriting
+  unfolding refusal refusals live holdsWriting hasChild
   same-refusal-value t r o v w = refl
 
   twin-step : (e e′ : Option Event) → let o = step f s e in Fair (lineOf (s .bearer)) (before e (o .answer)) → Twin f M (before e (o .answer)) s ver d

@@ -1,16 +1,16 @@
 -- What it says of a state that an event is not refused there: one record of facts for each kind of event. A refusal changes nothing.
 use mathlib.Core.Path.{_≡_, refl, sym, ap, _∙_}
-use mathlib.Core.Bool.{Bool, true, false, not, cond, _||_, true≢false}
+use mathlib.Core.Bool.{Bool, true, false, not, cond, _&&_, _||_, true≢false}
 use mathlib.Core.List.{List, [], _∷_}
 use mathlib.Core.Logic.{_≢_, _⊎_, inl, inr}
 use mathlib.Core.Option.{Option, none, some}
 use Prim.Native.Nat.{ℕ, _<_, _≤_}
 use native.Mathlib.Omega.{arith}
 use lib.ListN.{getD}
-use Rattle.laws.specs.Tests.{same}
+use Rattle.laws.specs.Tests.{same, under, open-tests}
 use Rattle.laws.specs.Counting.{all}
-use Rattle.laws.proofs.Tests.{same-eq, same-refl}
-use Rattle.laws.proofs.Booleans.{or-cases, not-false}
+use Rattle.laws.proofs.Tests.{same-eq, same-refl, under-lt}
+use Rattle.laws.proofs.Booleans.{or-cases, and-left, and-right, not-false}
 use Rattle.laws.proofs.Counting.{lowest-fails}
 use Rattle.rules.specs.Geometry.{transactions, nobody}
 use Rattle.rules.specs.Event.{Event, Access, begin, lock, write, read, commit, abort, crash, recover}
@@ -27,37 +27,43 @@ unfolding firstOf
 pass n true rest e = let z : true ≡ false = cc in absurd (true≢false z)
 pass n false rest e = (refl, e)
 
--- the numbers of a table of refusals are from 1 to 10; so is that of the first that applies
-abbrev Numbered : List (ℕ × Bool) → Type 0
-Numbered [] = Unit {0}
-Numbered (x ∷ xs) = (1 ≤ x .0) × (x .0 ≤ 10) × Numbered xs
+-- the numbers of a table of refusals are from 1 to 10, or 14; so is that of the first that applies
+abbrev numbers : ℕ → Bool
+numbers n = (under 0 n && under n 11) || same n 14
 
-first-number : (l : List (ℕ × Bool)) (n : ℕ) → Numbered l → firstOf l ≡ some n → (1 ≤ n) × (n ≤ 10)
+abbrev allNumbers : List (ℕ × Bool) → Bool
+allNumbers [] = true
+allNumbers (x ∷ xs) = numbers (x .0) && allNumbers xs
+
+first-number : (l : List (ℕ × Bool)) (n : ℕ) → allNumbers l ≡ true → firstOf l ≡ some n → numbers n ≡ true
 unfolding firstOf
 first-number [] n h e = let z : true ≡ false = cc in absurd (true≢false z)
-first-number (x ∷ xs) n h e = go (x .1) e (λ q. first-number xs n (h .2) q)
+first-number (x ∷ xs) n h e = go (x .1) e (λ q. first-number xs n (and-right (numbers (x .0)) (allNumbers xs) h) q)
   where
-    go : (b : Bool) → cond b (some (x .0)) (firstOf xs) ≡ some n → (firstOf xs ≡ some n → (1 ≤ n) × (n ≤ 10)) → (1 ≤ n) × (n ≤ 10)
-    go true e rest = let k : x .0 ≡ n = cc in rw (← k) (h .0, h .1)
+    go : (b : Bool) → cond b (some (x .0)) (firstOf xs) ≡ some n → (firstOf xs ≡ some n → numbers n ≡ true) → numbers n ≡ true
+    go true e rest = let k : x .0 ≡ n = cc in rw (← k) (and-left (numbers (x .0)) (allNumbers xs) h)
     go false e rest = rest e
 
 module _ {S : Type 0} where
-  -- a lock: the state is up, t is live, and the rule grants r for the access
+  -- a lock: the state is up, t is live and has no live child, and the rule grants r for the access
   pub record LockOk (s : State S) (t r : ℕ) (a : Access) : Type 0 where
     pub up : s .up ≡ true
     pub alive : live s t ≡ true
+    pub childless : hasChild s t ≡ false
     pub grant : grantable a (s .held) (s .retained) (lineOf (s .bearer) t) t r ≡ true
 
-  -- a write: up, live, and t holds r in write mode; a read: in any mode
+  -- a write: up, live with no live child, and t holds r in write mode; a read: in any mode
   pub record WriteOk (s : State S) (t r : ℕ) : Type 0 where
     pub up : s .up ≡ true
     pub alive : live s t ≡ true
+    pub childless : hasChild s t ≡ false
     pub held : holds s r t ≡ true
     pub writing : holdsWriting s r t ≡ true
 
   pub record ReadOk (s : State S) (t r : ℕ) : Type 0 where
     pub up : s .up ≡ true
     pub alive : live s t ≡ true
+    pub childless : hasChild s t ≡ false
     pub held : holds s r t ≡ true
 
   -- a commit: up, live, and no live child
@@ -105,25 +111,28 @@ module _ (f : Form) (s : StateOf f) where
   lock-ok t r access e =
       let a = pass 2 (not (s .up)) _ e in
       let b = pass 5 (not (live s t)) _ (a .1) in
-      let c = pass 8 (not (grantable access (s .held) (s .retained) (lineOf (s .bearer) t) t r)) _ (b .1) in
-      record { up = not-false _ (a .0); alive = not-false _ (b .0); grant = not-false _ (c .0) }
+      let h = pass 14 (hasChild s t) _ (b .1) in
+      let c = pass 8 (not (grantable access (s .held) (s .retained) (lineOf (s .bearer) t) t r)) _ (h .1) in
+      record { up = not-false _ (a .0); alive = not-false _ (b .0); childless = h .0; grant = not-false _ (c .0) }
 
   pub write-ok : (t r o v : ℕ) → refusal f s (write t r o v) ≡ none → WriteOk s t r
   unfolding refusal refusals holds holdsWriting
   write-ok t r o v e =
       let a = pass 2 (not (s .up)) _ e in
       let b = pass 5 (not (live s t)) _ (a .1) in
-      let c = pass 9 (not (holdsWriting s r t)) _ (b .1) in
+      let h = pass 14 (hasChild s t) _ (b .1) in
+      let c = pass 9 (not (holdsWriting s r t)) _ (h .1) in
       let w = not-false (holdsWriting s r t) (c .0) in
-      record { up = not-false _ (a .0); alive = not-false _ (b .0); held = graded-lock writeMode (s .held r t) w; writing = w }
+      record { up = not-false _ (a .0); alive = not-false _ (b .0); childless = h .0; held = graded-lock writeMode (s .held r t) w; writing = w }
 
   pub read-ok : (t r o : ℕ) → refusal f s (read t r o) ≡ none → ReadOk s t r
   unfolding refusal refusals
   read-ok t r o e =
       let a = pass 2 (not (s .up)) _ e in
       let b = pass 5 (not (live s t)) _ (a .1) in
-      let c = pass 9 (not (holds s r t)) _ (b .1) in
-      record { up = not-false _ (a .0); alive = not-false _ (b .0); held = not-false _ (c .0) }
+      let h = pass 14 (hasChild s t) _ (b .1) in
+      let c = pass 9 (not (holds s r t)) _ (h .1) in
+      record { up = not-false _ (a .0); alive = not-false _ (b .0); childless = h .0; held = not-false _ (c .0) }
 
   pub commit-ok : (t k : ℕ) → refusal f s (commit t k) ≡ none → CommitOk s t
   unfolding refusal refusals
@@ -210,23 +219,28 @@ module _ (f : Form) (s : StateOf f) where
       go none q = absurd (act-answer e n q)
       go (some m) q = refl
 
-  tabled : (e : Event) → Numbered (refusals f s e)
-  unfolding refusals
-  tabled (begin p) = omega arith
-  tabled (lock t r a) = omega arith
-  tabled (write t r o v) = omega arith
-  tabled (read t r o) = omega arith
-  tabled (commit t k) = omega arith
-  tabled (abort t w) = omega arith
-  tabled crash = tt
-  tabled (recover k) = omega arith
+  tabled : (e : Event) → allNumbers (refusals f s e) ≡ true
+  unfolding refusals open-tests
+  tabled (begin p) = refl
+  tabled (lock t r a) = refl
+  tabled (write t r o v) = refl
+  tabled (read t r o) = refl
+  tabled (commit t k) = refl
+  tabled (abort t w) = refl
+  tabled crash = refl
+  tabled (recover k) = refl
 
   -- the number of a refusal
-  pub refused-number : (e : Option Event) (n : ℕ) → step f s e .answer ≡ refused n → (1 ≤ n) × (n ≤ 10)
+  pub refused-number : (e : Option Event) (n : ℕ) → step f s e .answer ≡ refused n → ((1 ≤ n) × (n ≤ 10)) ⊎ (n ≡ 14)
   unfolding step judged refusal
-  refused-number none n q = let k : 1 ≡ n = cc in omega arith
-  refused-number (some e) n q = go (firstOf (refusals f s e)) refl q
+  refused-number none n q = let k : 1 ≡ n = cc in inl (omega arith)
+  refused-number (some e) n q = said (go (firstOf (refusals f s e)) refl q)
     where
-      go : (o : Option ℕ) → firstOf (refusals f s e) ≡ o → judged f s e o .answer ≡ refused n → (1 ≤ n) × (n ≤ 10)
+      go : (o : Option ℕ) → firstOf (refusals f s e) ≡ o → judged f s e o .answer ≡ refused n → numbers n ≡ true
       go none h q = absurd (act-answer e n q)
       go (some m) h q = let k : m ≡ n = cc in rw (← k) (first-number (refusals f s e) m (tabled e) h)
+
+      said : numbers n ≡ true → ((1 ≤ n) × (n ≤ 10)) ⊎ (n ≡ 14)
+      said h = or-cases (under 0 n && under n 11) (same n 14) h
+          (λ p. let low = under-lt 0 n (and-left (under 0 n) (under n 11) p) in let high = under-lt n 11 (and-right (under 0 n) (under n 11) p) in inl (omega (arith, low, high)))
+          (λ p. inr (same-eq n 14 p))

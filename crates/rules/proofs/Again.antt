@@ -1,4 +1,5 @@
--- Asking for a lock that is held already, in the mode that is asked for or a stronger one, is done and changes nothing.
+-- Asking for a lock that is held already, in the mode that is asked for or a stronger one, is done and changes nothing. (The asker has no live
+-- child.)
 use mathlib.Core.Path.{_≡_, refl, sym, ap, _∙_, fun-ext}
 use mathlib.Core.Bool.{Bool, true, false, not, cond, _&&_, _||_, false≢true, or-true}
 use mathlib.Core.Logic.{_≢_}
@@ -13,7 +14,7 @@ use Rattle.rules.specs.Event.{Access, toWrite, toRead, lock}
 use Rattle.rules.specs.State.{Mode, nothing, reading, writing, isLock, isWriting, stronger, lineOf, mem, live, holds, holdsWriting}
 use Rattle.rules.specs.Locks.{modeFor, bars, holdersAllow, retainersAllow, grantable, granted}
 use Rattle.rules.specs.Form.{Form}
-use Rattle.rules.specs.Step.{done, firstOf, StateOf, locked, finished, refusals, refusal, act, judged, step}
+use Rattle.rules.specs.Step.{done, firstOf, hasChild, StateOf, locked, finished, refusals, refusal, act, judged, step}
 use Rattle.rules.specs.Sound.{Sound}
 use Rattle.rules.proofs.Grades.{allows, allowing, graded-lock}
 use Rattle.rules.proofs.Locks.{owned-of}
@@ -69,12 +70,12 @@ module _ {f : Form} {s : StateOf f} (S : Sound f s) (t r : ℕ) (a : Access) (he
       go (yes′ d) = d
       go (no′ d) = clash alive (S .idle t d)
 
-  not-refused : refusal f s (lock t r a) ≡ none
+  not-refused : hasChild s t ≡ false → refusal f s (lock t r a) ≡ none
   unfolding refusal refusals firstOf
-  not-refused = rw (alive, grants-again, up)
+  not-refused childless = rw (alive, childless, grants-again, up)
 
-  pub locks-again : step f s (some (lock t r a)) ≡ finished s 0
+  pub locks-again : hasChild s t ≡ false → step f s (some (lock t r a)) ≡ finished s 0
   unfolding step judged act finished locked
-  locks-again =
-      ap (judged f s (lock t r a)) not-refused
+  locks-again childless =
+      ap (judged f s (lock t r a)) (not-refused childless)
       ∙ λ i. record { state = record { up = s .up; bearer = s .bearer; held = granted-again i; retained = s .retained; version = s .version; store = s .store }; answer = done 0 }

@@ -9,6 +9,7 @@ pub mod Acceptance
 pub mod Locks
 pub mod Owners
 pub mod Again
+pub mod Waiting
 pub mod Parts
 pub mod Soundness
 pub mod Portions

@@ -143,9 +143,10 @@ module _ (f : Form) where
       (2, not (s .up)) ∷ (5, not (same p nobody || live s p)) ∷
       (6, same (depthIn (s .bearer p)) (f .geometry .depthLimit)) ∷ (7, all transactions (live s)) ∷ []
   refusals s (lock t r a) =
-      (2, not (s .up)) ∷ (5, not (live s t)) ∷ (8, not (grantable a (s .held) (s .retained) (lineOf (s .bearer) t) t r)) ∷ []
-  refusals s (write t r o v) = (2, not (s .up)) ∷ (5, not (live s t)) ∷ (9, not (holdsWriting s r t)) ∷ []
-  refusals s (read t r o) = (2, not (s .up)) ∷ (5, not (live s t)) ∷ (9, not (holds s r t)) ∷ []
+      (2, not (s .up)) ∷ (5, not (live s t)) ∷
+      (14, hasChild s t) ∷ (8, not (grantable a (s .held) (s .retained) (lineOf (s .bearer) t) t r)) ∷ []
+  refusals s (write t r o v) = (2, not (s .up)) ∷ (5, not (live s t)) ∷ (14, hasChild s t) ∷ (9, not (holdsWriting s r t)) ∷ []
+  refusals s (read t r o) = (2, not (s .up)) ∷ (5, not (live s t)) ∷ (14, hasChild s t) ∷ (9, not (holds s r t)) ∷ []
   refusals s (commit t k) = (2, not (s .up)) ∷ (5, not (live s t)) ∷ (10, hasChild s t) ∷ []
   refusals s (abort t w) = (2, not (s .up)) ∷ (5, not (live s t)) ∷ []
   refusals s crash = []

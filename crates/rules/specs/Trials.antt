@@ -1,4 +1,5 @@
--- The trials at the edges that document 01 marks, as rows of one table, with rows that shut out its five shortcuts.
+-- The trials at the edges that document 01 marks, as rows of one table, with rows that shut out its five shortcuts, and rows for the locks of
+-- document 02: read locks, reports, live children.
 use Prim.Native.Nat.{ℕ, zero, suc, _+_, _-_, _*_, _/_, _%_}
 use mathlib.Core.Bool.{Bool, true, false, _&&_}
 use mathlib.Core.List.{List, [], _∷_, _++_}
@@ -273,6 +274,15 @@ trials =
     -- An abort takes the values 0 and 1; another is 1, also while down.
     plays freshBytes ((0x60000002, 0x0100) ∷ (0x60000001, 0x0200) ∷ []) [] ∷
     onFresh (on top 0x0000 ∷ (0x60000002, 0x0100) ∷ (0x600000FF, 0x0100) ∷ (0x60000000, 0x0000) ∷ []) [] ∷
+    -- While a child is live its parent neither locks, reads nor writes, also what it holds; it begins another, and a commit is 10.
+    onFresh (writesA5 ++ (
+    on (begin 0) 0x0001 ∷ (0x40180000, 0x0E00) ∷ on (write 0 3 2 7) 0x0E00 ∷ on (locks 0 3) 0x0E00 ∷ on (begin 0) 0x0002 ∷ on (commit 0 63) 0x0A00 ∷
+    on (aborts 1) 0x0000 ∷ on (read 0 3 2) 0x0E00 ∷ on (commit 2 0) 0x0000 ∷ on (read 0 3 2) 0x00A5 ∷ on (locks 0 3) 0x0000 ∷ [])) [] ∷
+    -- That is tried after 5 and before 8 and 9, and goes by a grandparent too; it does not stop an abort.
+    onFresh (
+    on top 0x0000 ∷ on top 0x0001 ∷ on (locks 1 3) 0x0000 ∷ on (begin 0) 0x0002 ∷ on (begin 2) 0x0003 ∷ on (locks 0 3) 0x0E00 ∷ on (read 0 3 2) 0x0E00 ∷
+    on (write 2 3 2 7) 0x0E00 ∷ on (locks 3 3) 0x0800 ∷ on (read 3 3 2) 0x0900 ∷ on (locks 4 3) 0x0500 ∷ on (aborts 0) 0x0000 ∷ on (read 0 3 2) 0x0500 ∷
+    on (read 1 3 2) 0x0000 ∷ []) [] ∷
     -- Refused before the first event, in the order 22, 24, 20, 21, with nothing touched.
     refuses 1055 5 (workSize geometry1 - 1) 0 22 ∷ refuses 1056 5 (workSize geometry1 - 1) 0 24 ∷ refuses 1056 5 (workSize geometry1) 0 20 ∷
     refuses 1056 16388 (workSize geometry1) 8194 20 ∷ refuses 1056 8 (workSize geometry1) 3 21 ∷
