@@ -1,35 +1,38 @@
 -- Events by their kind: what is refused before a transaction is looked at, and that every event keeps the arrays sound.
 use mathlib.Core.Path.{_≡_, refl, sym, ap, subst⁻¹, _∙_}
 use mathlib.Core.Bool.{Bool, true, false, not, _&&_, true≢false}
-use mathlib.Core.List.{List, [], _∷_}
+use mathlib.Core.List.{List}
 use mathlib.Core.Logic.{_≢_}
 use mathlib.Core.Option.{Option, none, some}
-use Prim.Native.Nat.{ℕ, zero, suc, _+_, _<_, _≤_}
+use Prim.Native.Nat.{ℕ, zero, suc, _<_}
 use native.Mathlib.Omega.{arith}
 use lib.Dec.{eqb·suc-zero}
 use lib.ListN.{length, getD}
-use Rattle.laws.specs.Tests.{same, under}
+use Rattle.laws.specs.Tests.{same}
+use Rattle.laws.specs.Counting.{any}
 use Rattle.laws.proofs.Tests.{lt-under}
 use Rattle.rules.specs.Geometry.{records, pageCount}
 use Rattle.rules.specs.Store.{pagesOf}
 use Rattle.rules.specs.Event.{Event, begin, lock, write, read, commit, abort, crash, recover, accessOf, reportOf, eventOf, fits}
 use Rattle.rules.specs.State.{live}
 use Rattle.rules.specs.Form.{atomicPages}
-use Rattle.rules.specs.Step.{refused, StateOf, OutcomeOf, step}
+use Rattle.rules.specs.Step.{refused, hasChild, StateOf, step}
 use Rattle.rules.specs.Sound.{Sound}
 use Rattle.rules.specs.Editions.{geometry1, edition1}
 use Rattle.rules.proofs.Medium.{MediumLaws}
 use Rattle.rules.proofs.AtomicPages.{atomic-laws}
 use Rattle.rules.proofs.Editions.{proper1}
 use Rattle.rules.proofs.Soundness.{sound-step, sound-bad}
+use Rattle.rules.proofs.Waiting.{lock-waits, write-waits, read-waits}
 use Rattle.arrays.specs.Changes.{accessWhen}
 use Rattle.event.specs.Meaning.{meaning, fieldsOf, InRange}
 use Rattle.event.specs.declared.Event.{Event as Fields}
 use Rattle.event.proofs.Meaning.{means-begin, means-lock, means-write, means-read, means-commit, means-abort}
-use Rattle.events.specs.Whole.{Arrays, view, Intact, Stepped}
+use Rattle.events.specs.Whole.{Arrays, view, Intact, Stepped, Ready, ReadyLeaf}
 use Rattle.events.specs.declared.Answer.{Answer}
 use Rattle.events.proofs.Rules.{begin-down, lock-down, write-down, read-down, commit-down, abort-down, lock-unknown, write-unknown, read-unknown, commit-unknown, abort-unknown}
-use Rattle.events.proofs.Steps.{answer, unmoved, up-is, down-is, not-live}
+use Rattle.commits.proofs.Commits.{child-test}
+use Rattle.events.proofs.Steps.{answer, unmoved, up-is, down-is, live-is}
 
 abbrev pub laws1 : MediumLaws geometry1 (atomicPages geometry1)
 laws1 = atomic-laws geometry1 proper1
@@ -78,6 +81,25 @@ unknown-kinds s e (suc (suc (suc (suc (suc (suc (suc k))))))) q h g u l = absurd
 
 pub unknown-steps : (x : Arrays) (e : Fields) → Intact x → 1 < e .kind → e .kind < 7 → x .up ≡ 1 → live (view x) (e .transaction) ≡ false → Stepped x (meaning e) (answer 5 0) x
 unknown-steps x e I h g u l = unmoved x (meaning e) 5 (I .form) (unknown-kinds (view x) e (e .kind) refl h g (up-is x u) l)
+
+-- a transaction with a live child names a record: 14
+waits-kinds : (s : StateOf edition1) (e : Fields) (k : ℕ) → e .kind ≡ k → 1 < k → k < 5 → s .up ≡ true → live s (e .transaction) ≡ true → hasChild s (e .transaction) ≡ true
+    → step edition1 s (meaning e) ≡ record { state = s; answer = refused 14 }
+waits-kinds s e zero q h g u l c = absurd (omega arith)
+waits-kinds s e (suc zero) q h g u l c = absurd (omega arith)
+waits-kinds s e (suc (suc zero)) q h g u l c = ap (step edition1 s) (means-lock e q) ∙ lock-waits edition1 s (e .transaction) u l (e .rec) (accessOf (e .value)) c
+waits-kinds s e (suc (suc (suc zero))) q h g u l c = ap (step edition1 s) (means-write e q) ∙ write-waits edition1 s (e .transaction) u l (e .rec) (e .offset) (e .value) c
+waits-kinds s e (suc (suc (suc (suc zero)))) q h g u l c = ap (step edition1 s) (means-read e q) ∙ read-waits edition1 s (e .transaction) u l (e .rec) (e .offset) c
+waits-kinds s e (suc (suc (suc (suc (suc k))))) q h g u l c = absurd (omega arith)
+
+-- the code's test for a child
+module _ (x : Arrays) (t : ℕ) (b : Bool) (test : b ≡ any 24 (λ u. not (same (getD (x .depth) u 0) 0) && same (getD (x .parent) u 0) t)) where
+  pub leaf-of : b ≡ false → Ready x t → (n : ℕ) → n ≡ t → ReadyLeaf x n
+  leaf-of e R n q = subst⁻¹ (ReadyLeaf x) q (record { ready = R; childless = sym (child-test x t b test) ∙ e })
+
+  pub waits-steps : b ≡ true → (e : Fields) → e .transaction ≡ t → Intact x → 1 < e .kind → e .kind < 5 → Ready x t → Stepped x (meaning e) (answer 14 0) x
+  waits-steps c e q I h g R =
+      unmoved x (meaning e) 14 (I .form) (waits-kinds (view x) e (e .kind) refl h g (up-is x (R .up)) (rw q (live-is x t (R .live))) (rw q (sym (child-test x t b test) ∙ c)))
 
 -- an event whose fields are in range fits a word
 fits-of : (k t r o c v : ℕ) → t < 32 → r < 16 → o < 32 → c < 64 → v < 256 → (e : Event) → eventOf (fieldsOf k t r o c v) ≡ some e → fits geometry1 e ≡ true

@@ -8,7 +8,7 @@ ghost use Rattle.rules.specs.State.{down};
 ghost use Rattle.rules.specs.Editions.{workBytes};
 ghost use Rattle.numbers.specs.Named.{transactionOf, recordOf};
 ghost use Rattle.event.specs.Meaning.{meaning, InRange};
-ghost use Rattle.events.specs.Whole.{Arrays, arrays, view, Intact, Stepped, Ready};
+ghost use Rattle.events.specs.Whole.{Arrays, arrays, view, Intact, Stepped, ReadyLeaf};
 use event::Event;
 use events::Answer;
 use numbers::RecordNamed;
@@ -16,7 +16,7 @@ use numbers::RecordNumber;
 use numbers::TransactionNamed;
 use numbers::TransactionNumber;
 
-// An event of a live transaction at a record.
+// An event at a record, of a live transaction without a live child.
 fn record_event(
     up: &mut u8,
     parent: &mut [u8; 24],
@@ -31,7 +31,7 @@ fn record_event(
     t: TransactionNumber,
     r: RecordNumber,
 ) -> Answer
-    requires { ⌜ (transactionOf t ≡ e .transaction) × (recordOf r ≡ e .rec) × (1 < e .kind) × (e .kind < 5) × InRange e × Intact (arrays (now up) (now parent) (now depth) (now line) (now held) (now retained) (now writers) (now work) (now store)) × Ready (arrays (now up) (now parent) (now depth) (now line) (now held) (now retained) (now writers) (now work) (now store)) (transactionOf t) ⌝ }
+    requires { ⌜ (transactionOf t ≡ e .transaction) × (recordOf r ≡ e .rec) × (1 < e .kind) × (e .kind < 5) × InRange e × Intact (arrays (now up) (now parent) (now depth) (now line) (now held) (now retained) (now writers) (now work) (now store)) × ReadyLeaf (arrays (now up) (now parent) (now depth) (now line) (now held) (now retained) (now writers) (now work) (now store)) (transactionOf t) ⌝ }
     ensures { λ a. ⌜ Stepped (arrays (now (up .entry)) (now (parent .entry)) (now (depth .entry)) (now (line .entry)) (now (held .entry)) (now (retained .entry)) (now (writers .entry)) (now (work .entry)) (now (store .entry))) (meaning e) a (arrays (now (up .exit)) (now (parent .exit)) (now (depth .exit)) (now (line .exit)) (now (held .exit)) (now (retained .exit)) (now (writers .exit)) (now (work .exit)) (now (store .exit))) ⌝ }
 {
     let o = e.offset as usize;
@@ -43,7 +43,7 @@ fn record_event(
     }
 }
 
-// An event of a transaction: refused with 5 unless it is live.
+// An event of a transaction: refused with 5 unless it is live. At a record it is refused with 14 while a child lives.
 fn named_event(
     up: &mut u8,
     parent: &mut [u8; 24],
@@ -93,6 +93,12 @@ fn named_event(
             t,
             e.value != 0,
         );
+    }
+    if transactions::has_child(parent, depth, e.transaction) {
+        return Answer {
+            number: 14,
+            value: 0,
+        };
     }
     match RecordNumber::checked(e.rec) {
         RecordNamed::Number(r) => record_event(

@@ -87,31 +87,32 @@ module _ (f : Form) (s : StateOf f) where
     unfolding open-step
     abort-unknown w = rw (l, u)
 
-  module _ (t : ℕ) (u : s .up ≡ true) (l : live s t ≡ true) where
+  module _ (t : ℕ) (u : s .up ≡ true) (l : live s t ≡ true) (n : hasChild s t ≡ false) where
     pub lock-done : (r : ℕ) (a : Access) → grantable a (s .held) (s .retained) (lineOf (s .bearer) t) t r ≡ true → step f s (some (lock t r a)) ≡ finished (locked s t r a) 0
-    unfolding open-step
-    lock-done r a g = rw (l, g, u)
+    unfolding step refusal refusals firstOf act judged
+    lock-done r a g = rw (l, n, g, u)
 
     pub lock-refused : (r : ℕ) (a : Access) → grantable a (s .held) (s .retained) (lineOf (s .bearer) t) t r ≡ false → step f s (some (lock t r a)) ≡ no 8
-    unfolding open-step
-    lock-refused r a g = rw (l, g, u)
+    unfolding step refusal refusals firstOf act judged
+    lock-refused r a g = rw (l, n, g, u)
 
     pub read-done : (r o : ℕ) → holds s r t ≡ true → step f s (some (read t r o)) ≡ finished s (getD (visible f s t r) o 0)
-    unfolding open-step
-    read-done r o h = rw (l, h, u)
+    unfolding step refusal refusals firstOf act judged
+    read-done r o h = rw (l, n, h, u)
 
     pub read-refused : (r o : ℕ) → holds s r t ≡ false → step f s (some (read t r o)) ≡ no 9
-    unfolding open-step
-    read-refused r o h = rw (l, h, u)
+    unfolding step refusal refusals firstOf act judged
+    read-refused r o h = rw (l, n, h, u)
 
     pub write-done : (r o v : ℕ) → holdsWriting s r t ≡ true → step f s (some (write t r o v)) ≡ finished (wrote s t r (set (visible f s t r) o v)) 0
-    unfolding open-step
-    write-done r o v h = rw (l, h, u)
+    unfolding step refusal refusals firstOf act judged
+    write-done r o v h = rw (l, n, h, u)
 
     pub write-refused : (r o v : ℕ) → holdsWriting s r t ≡ false → step f s (some (write t r o v)) ≡ no 9
-    unfolding open-step
-    write-refused r o v h = rw (l, h, u)
+    unfolding step refusal refusals firstOf act judged
+    write-refused r o v h = rw (l, n, h, u)
 
+  module _ (t : ℕ) (u : s .up ≡ true) (l : live s t ≡ true) where
     pub commit-done : (k : ℕ) → hasChild s t ≡ false → step f s (some (commit t k)) ≡ commits f s t k (lineOf (s .bearer) t)
     unfolding step refusal refusals firstOf act judged
     commit-done k h = rw (l, h, u)

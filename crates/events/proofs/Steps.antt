@@ -30,7 +30,7 @@ use Rattle.arrays.proofs.Nested.{joined-nested}
 use Rattle.arrays.proofs.Modes.{writing-is, lock-is, grantable-is, joined-granted}
 use Rattle.locks.specs.Granting.{Granting}
 use Rattle.slots.specs.Parts.{Sources, Written}
-use Rattle.events.specs.Whole.{Arrays, arrays, view, lineIn, Formed, Intact, saying, Stepped, Ready}
+use Rattle.events.specs.Whole.{Arrays, arrays, view, lineIn, Formed, Intact, saying, Stepped, ReadyLeaf}
 use Rattle.events.specs.declared.Answer.{Answer}
 use Rattle.events.proofs.Rules.{lock-done, lock-refused, read-done, read-refused, write-done, write-refused}
 
@@ -58,9 +58,9 @@ pub retold : (x y : Arrays) (e f : Option Event) (a : Answer) → f ≡ e → St
 retold x y e f a q T = subst⁻¹ (λ (e : Option Event). Stepped x e a y) q T
 
 -- the numbers are given by checked ones
-pub numbered : (x y : Arrays) (a : Answer) (e : ℕ → ℕ → Event) (n t m r : ℕ) → n ≡ t → m ≡ r → (Ready x n → Stepped x (some (e n m)) a y) → Ready x t → Stepped x (some (e t r)) a y
-numbered x y a e n t m r p q f R =
-    subst (λ (r : ℕ). Stepped x (some (e t r)) a y) q (subst (λ (t : ℕ). Stepped x (some (e t m)) a y) p (f (subst⁻¹ (Ready x) p R)))
+pub numbered : (x y : Arrays) (a : Answer) (e : ℕ → ℕ → Event) (Able : Arrays → ℕ → Type 0) (n t m r : ℕ) → n ≡ t → m ≡ r → (Able x n → Stepped x (some (e n m)) a y) → Able x t → Stepped x (some (e t r)) a y
+numbered x y a e Able n t m r p q f R =
+    subst (λ (r : ℕ). Stepped x (some (e t r)) a y) q (subst (λ (t : ℕ). Stepped x (some (e t m)) a y) p (f (subst⁻¹ (Able x) p R)))
 
 pub state-eq : {s t : State Pages} → s .up ≡ t .up → s .bearer ≡ t .bearer → s .held ≡ t .held → s .retained ≡ t .retained → s .version ≡ t .version → s .store ≡ t .store → s ≡ t
 state-eq a b c d e f = λ i. record { up = a i; bearer = b i; held = c i; retained = d i; version = e i; store = f i }
@@ -127,7 +127,7 @@ module _ (x : Arrays) (I : Intact x) where
       go m (isnt q _ _) = let k = line-apart (I .sound) u t m q in let a = depth-of x u in let b = depth-of x t in absurd (omega arith)
 
   -- Locks.
-  module _ (q : Access) (t r : ℕ) (R : Ready x t) (a : Bool) (held : List ℕ) (G : Granting q (sets (x .line) t) (x .held) (x .retained) t r a held) where
+  module _ (q : Access) (t r : ℕ) (R : ReadyLeaf x t) (a : Bool) (held : List ℕ) (G : Granting q (sets (x .line) t) (x .held) (x .retained) t r a held) where
     abbrev y : Arrays
     y = record { up = x .up; parent = x .parent; depth = x .depth; line = x .line; held = held; retained = x .retained; writers = x .writers; work = x .work; store = x .store }
 
@@ -162,7 +162,7 @@ module _ (x : Arrays) (I : Intact x) where
     unfolding view locked
     lock-steps e =
         finishes x y (some (lock t r q)) (locked (view x) t r q) 0
-        (lock-done edition1 (view x) t (up-is x (R .up)) (live-is x t (R .live)) r q (sym grants ∙ e))
+        (lock-done edition1 (view x) t (up-is x (R .ready .up)) (live-is x t (R .ready .live)) (R .childless) r q (sym grants ∙ e))
         (state-eq refl refl
         (ap modesOf (G .does ∙ ap (λ (b : Bool). cond b (joinedFor q t r (sets (x .held))) (sets (x .held))) e) ∙ joined-granted q (sets (x .held)) t r)
         refl refl refl) y-form
@@ -171,23 +171,23 @@ module _ (x : Arrays) (I : Intact x) where
     unfolding view saying numberOf valueOf
     lock-refuses e =
         stepped x y (some (lock t r q)) (view x) (refused 8) (answer 8 0)
-        (lock-refused edition1 (view x) t (up-is x (R .up)) (live-is x t (R .live)) r q (sym grants ∙ e))
+        (lock-refused edition1 (view x) t (up-is x (R .ready .up)) (live-is x t (R .ready .live)) (R .childless) r q (sym grants ∙ e))
         (state-eq refl refl (ap modesOf (G .does ∙ ap (λ (b : Bool). cond b (joinedFor q t r (sets (x .held))) (sets (x .held))) e)) refl refl refl) refl y-form
 
   -- Reads.
-  pub read-steps : (t r o v : ℕ) → Ready x t → anyMode (sets (x .held)) r t ≡ true → v ≡ getD (seen (x .parent) (x .depth) (x .writers) (x .work) (x .store) t r) o 0
+  pub read-steps : (t r o v : ℕ) → ReadyLeaf x t → anyMode (sets (x .held)) r t ≡ true → v ≡ getD (seen (x .parent) (x .depth) (x .writers) (x .work) (x .store) t r) o 0
       → Stepped x (some (read t r o)) (answer 0 v) x
   unfolding view seen visible
   read-steps t r o v R h e =
       finishes x x (some (read t r o)) (view x) v
-      (read-done edition1 (view x) t (up-is x (R .up)) (live-is x t (R .live)) r o (holds-is x (I .form) r t ∙ h) ∙ ap (finished (view x)) (sym e)) refl (I .form)
+      (read-done edition1 (view x) t (up-is x (R .ready .up)) (live-is x t (R .ready .live)) (R .childless) r o (holds-is x (I .form) r t ∙ h) ∙ ap (finished (view x)) (sym e)) refl (I .form)
 
-  pub read-refuses : (t r o : ℕ) → Ready x t → anyMode (sets (x .held)) r t ≡ false → Stepped x (some (read t r o)) (answer 9 0) x
+  pub read-refuses : (t r o : ℕ) → ReadyLeaf x t → anyMode (sets (x .held)) r t ≡ false → Stepped x (some (read t r o)) (answer 9 0) x
   read-refuses t r o R h =
-      unmoved x (some (read t r o)) 9 (I .form) (read-refused edition1 (view x) t (up-is x (R .up)) (live-is x t (R .live)) r o (holds-is x (I .form) r t ∙ h))
+      unmoved x (some (read t r o)) 9 (I .form) (read-refused edition1 (view x) t (up-is x (R .ready .up)) (live-is x t (R .ready .live)) (R .childless) r o (holds-is x (I .form) r t ∙ h))
 
   -- Writes.
-  module _ (t r : ℕ) (p : Page) (R : Ready x t) (h : writeMode (sets (x .held)) r t ≡ true) (writers′ work′ : List ℕ)
+  module _ (t r : ℕ) (p : Page) (R : ReadyLeaf x t) (h : writeMode (sets (x .held)) r t ≡ true) (writers′ work′ : List ℕ)
       (W : Written (slot r (getD (x .depth) t 0)) t r p (x .writers) (x .work) writers′ work′) where
     abbrev d : ℕ → ℕ
     d j = getD (x .depth) j 0
@@ -196,7 +196,7 @@ module _ (x : Arrays) (I : Intact x) where
     apart : (j q : ℕ) → (q ≡ r → j ≡ t → ⊥) → sets (x .writers) q j ≡ true → slot q (d j) ≡ slot r (d t) → ⊥
     unfolding slot
     apart j q n e k =
-        let a = writer-deep q j e in let b = shallow j in let c = R .live in let f = shallow t in
+        let a = writer-deep q j e in let b = shallow j in let c = R .ready .live in let f = shallow t in
         let qr : q ≡ r = omega arith in
         n qr (writer-alone r t j (I .form .held-nested r t h) (subst (λ (q : ℕ). sets (x .writers) q j ≡ true) qr e) (omega arith))
 
@@ -216,16 +216,16 @@ module _ (x : Arrays) (I : Intact x) where
     versions-are = fun-ext (λ j. fun-ext (λ q.
         ap₂ (λ (f : Owners) (g : ℕ → Page). cond (f q j) (some (g (slot q (d j)))) none) (W .has) (W .page) ∙ versions-at j q (same? j t) (same? q r) (is? (sets (x .writers) q j))))
 
-  pub write-steps : (t r o v : ℕ) → Ready x t → writeMode (sets (x .held)) r t ≡ true → (writers′ work′ : List ℕ) → length work′ ≡ workBytes
+  pub write-steps : (t r o v : ℕ) → ReadyLeaf x t → writeMode (sets (x .held)) r t ≡ true → (writers′ work′ : List ℕ) → length work′ ≡ workBytes
       → Written (slot r (getD (x .depth) t 0)) t r (set (seen (x .parent) (x .depth) (x .writers) (x .work) (x .store) t r) o v) (x .writers) (x .work) writers′ work′
       → Stepped x (some (write t r o v)) (answer 0 0) (arrays (x .up) (x .parent) (x .depth) (x .line) (x .held) (x .retained) writers′ work′ (x .store))
   unfolding view seen visible wrote
   write-steps t r o v R h writers′ work′ n W =
       finishes x _ (some (write t r o v)) (wrote (view x) t r (set (visible edition1 (view x) t r) o v)) 0
-      (write-done edition1 (view x) t (up-is x (R .up)) (live-is x t (R .live)) r o v (holds-writing-is x r t ∙ h))
+      (write-done edition1 (view x) t (up-is x (R .ready .up)) (live-is x t (R .ready .live)) (R .childless) r o v (holds-writing-is x r t ∙ h))
       (state-eq refl refl refl refl (versions-are t r _ R h writers′ work′ W) refl)
       (let F = I .form in record { lines = F .lines; flag = F .flag; tidy = F .tidy; held-nested = F .held-nested; retained-nested = F .retained-nested; parents = F .parents; depths = F .depths; long = F .long; helds = F .helds; retaineds = F .retaineds; writerss = W .long; works = n; stores = F .stores })
 
-  pub write-refuses : (t r o v : ℕ) → Ready x t → writeMode (sets (x .held)) r t ≡ false → Stepped x (some (write t r o v)) (answer 9 0) x
+  pub write-refuses : (t r o v : ℕ) → ReadyLeaf x t → writeMode (sets (x .held)) r t ≡ false → Stepped x (some (write t r o v)) (answer 9 0) x
   write-refuses t r o v R h =
-      unmoved x (some (write t r o v)) 9 (I .form) (write-refused edition1 (view x) t (up-is x (R .up)) (live-is x t (R .live)) r o v (holds-writing-is x r t ∙ h))
+      unmoved x (some (write t r o v)) 9 (I .form) (write-refused edition1 (view x) t (up-is x (R .ready .up)) (live-is x t (R .ready .live)) (R .childless) r o v (holds-writing-is x r t ∙ h))

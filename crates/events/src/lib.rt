@@ -19,7 +19,7 @@ ghost use Rattle.sets.specs.Sets.{sets};
 ghost use Rattle.arrays.specs.Changes.{accessWhen};
 ghost use Rattle.slots.specs.Parts.{Sources};
 ghost use Rattle.numbers.specs.Named.{transactionOf, recordOf};
-ghost use Rattle.events.specs.Whole.{Arrays, arrays, view, Intact, Stepped, Ready};
+ghost use Rattle.events.specs.Whole.{Arrays, arrays, view, Intact, Stepped, Ready, ReadyLeaf};
 use numbers::RecordNumber;
 use numbers::TransactionNumber;
 
@@ -29,7 +29,8 @@ pub struct Answer {
     pub value: u8,
 }
 
-// Each event takes the arrays that it needs. It promises, for all content of the others, what the rules say.
+// Each event takes the arrays that it needs. It promises, for all content of the others, what the rules say. Locks, reads and writes are those of
+// a transaction without a live child.
 
 // A lock is asked for, to read beside others or to write: granted, or refused with 8.
 pub fn lock_event(
@@ -41,7 +42,7 @@ pub fn lock_event(
     reading: bool,
 ) -> Answer
     requires { ⌜ (length (now held) ≡ 32) ⌝ }
-    ensures { λ a. ⌜ ((up : ℕ) (parent depth writers work store : List ℕ) → Intact (arrays up parent depth (now (line .entry)) (now (held .entry)) (now (retained .entry)) writers work store) → Ready (arrays up parent depth (now (line .entry)) (now (held .entry)) (now (retained .entry)) writers work store) (transactionOf t) → Stepped (arrays up parent depth (now (line .entry)) (now (held .entry)) (now (retained .entry)) writers work store) (some (lock (transactionOf t) (recordOf r) (accessWhen reading))) a (arrays up parent depth (now (line .entry)) (now (held .exit)) (now (retained .entry)) writers work store)) ⌝ }
+    ensures { λ a. ⌜ ((up : ℕ) (parent depth writers work store : List ℕ) → Intact (arrays up parent depth (now (line .entry)) (now (held .entry)) (now (retained .entry)) writers work store) → ReadyLeaf (arrays up parent depth (now (line .entry)) (now (held .entry)) (now (retained .entry)) writers work store) (transactionOf t) → Stepped (arrays up parent depth (now (line .entry)) (now (held .entry)) (now (retained .entry)) writers work store) (some (lock (transactionOf t) (recordOf r) (accessWhen reading))) a (arrays up parent depth (now (line .entry)) (now (held .exit)) (now (retained .entry)) writers work store)) ⌝ }
 {
     let n = t.number();
     let q = r.index();
@@ -71,7 +72,7 @@ pub fn read_event(
     o: usize,
 ) -> Answer
     requires { ⌜ (o < 32) × (length (now work) ≡ workBytes) × (length (now store) ≡ 1056) × Sources (now parent) (now depth) ⌝ }
-    ensures { λ a. ⌜ ((up : ℕ) (line retained : List ℕ) → Intact (arrays up (now (parent .entry)) (now (depth .entry)) line (now (held .entry)) retained (now (writers .entry)) (now (work .entry)) (now (store .entry))) → Ready (arrays up (now (parent .entry)) (now (depth .entry)) line (now (held .entry)) retained (now (writers .entry)) (now (work .entry)) (now (store .entry))) (transactionOf t) → Stepped (arrays up (now (parent .entry)) (now (depth .entry)) line (now (held .entry)) retained (now (writers .entry)) (now (work .entry)) (now (store .entry))) (some (read (transactionOf t) (recordOf r) o)) a (arrays up (now (parent .entry)) (now (depth .entry)) line (now (held .entry)) retained (now (writers .entry)) (now (work .entry)) (now (store .entry)))) ⌝ }
+    ensures { λ a. ⌜ ((up : ℕ) (line retained : List ℕ) → Intact (arrays up (now (parent .entry)) (now (depth .entry)) line (now (held .entry)) retained (now (writers .entry)) (now (work .entry)) (now (store .entry))) → ReadyLeaf (arrays up (now (parent .entry)) (now (depth .entry)) line (now (held .entry)) retained (now (writers .entry)) (now (work .entry)) (now (store .entry))) (transactionOf t) → Stepped (arrays up (now (parent .entry)) (now (depth .entry)) line (now (held .entry)) retained (now (writers .entry)) (now (work .entry)) (now (store .entry))) (some (read (transactionOf t) (recordOf r) o)) a (arrays up (now (parent .entry)) (now (depth .entry)) line (now (held .entry)) retained (now (writers .entry)) (now (work .entry)) (now (store .entry)))) ⌝ }
 {
     let n = t.number();
     let q = r.index();
@@ -101,7 +102,7 @@ pub fn write_event(
     v: u8,
 ) -> Answer
     requires { ⌜ (o < 32) × (length (now work) ≡ workBytes) × (length (now store) ≡ 1056) × (length (now writers) ≡ 16) × (0 < getD (now depth) (transactionOf t) 0) × Sources (now parent) (now depth) ⌝ }
-    ensures { λ a. ⌜ ((up : ℕ) (line retained : List ℕ) → Intact (arrays up (now (parent .entry)) (now (depth .entry)) line (now (held .entry)) retained (now (writers .entry)) (now (work .entry)) (now (store .entry))) → Ready (arrays up (now (parent .entry)) (now (depth .entry)) line (now (held .entry)) retained (now (writers .entry)) (now (work .entry)) (now (store .entry))) (transactionOf t) → Stepped (arrays up (now (parent .entry)) (now (depth .entry)) line (now (held .entry)) retained (now (writers .entry)) (now (work .entry)) (now (store .entry))) (some (write (transactionOf t) (recordOf r) o v)) a (arrays up (now (parent .entry)) (now (depth .entry)) line (now (held .entry)) retained (now (writers .exit)) (now (work .exit)) (now (store .entry)))) ⌝ }
+    ensures { λ a. ⌜ ((up : ℕ) (line retained : List ℕ) → Intact (arrays up (now (parent .entry)) (now (depth .entry)) line (now (held .entry)) retained (now (writers .entry)) (now (work .entry)) (now (store .entry))) → ReadyLeaf (arrays up (now (parent .entry)) (now (depth .entry)) line (now (held .entry)) retained (now (writers .entry)) (now (work .entry)) (now (store .entry))) (transactionOf t) → Stepped (arrays up (now (parent .entry)) (now (depth .entry)) line (now (held .entry)) retained (now (writers .entry)) (now (work .entry)) (now (store .entry))) (some (write (transactionOf t) (recordOf r) o v)) a (arrays up (now (parent .entry)) (now (depth .entry)) line (now (held .entry)) retained (now (writers .exit)) (now (work .exit)) (now (store .entry)))) ⌝ }
 {
     let n = t.number();
     let i = r.index();

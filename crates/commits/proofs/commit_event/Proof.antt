@@ -1,12 +1,11 @@
 -- Refusal 10; then a top transaction or a child by its depth.
-use mathlib.Core.Path.{_≡_, refl, sym, ap, ap₂, subst, subst⁻¹, _∙_, fun-ext}
-use mathlib.Core.Bool.{Bool, true, false, not, cond, _&&_, _||_}
-use mathlib.Core.List.{List}
-use Prim.Native.Nat.{ℕ, suc, _+_, _*_, _-_, _/_, _%_, _<_, _≤_}
+use mathlib.Core.Path.{refl, sym, subst⁻¹, _∙_}
+use Prim.Native.Nat.{ℕ, _-_, _<_}
 use native.Mathlib.Omega.{arith}
-use lib.ListN.{length, getD, set}
-use Rattle.rules.specs.Event.{lock, write, read, commit, abort}
+use lib.ListN.{getD}
+use Rattle.rules.specs.Event.{commit}
 use Rattle.commits.proofs.Commits.{child-test, commit-refuses}
+use Rattle.events.specs.Whole.{Ready}
 use Rattle.events.proofs.Steps.{numbered}
 use borrow.Author.Needs.{needs}
 use Rattle.commits.proofs.commit_event.Statement.{statement}
@@ -25,7 +24,7 @@ has-child-requires : tie.Need-has-child-requires
 has-child-requires c κs = search needs
 
 returns : tie.Need-returns
-returns c = λ I R. numbered _ _ _ (λ t r. commit t (c .before .before .before .before .before .before .before .args .k)) _ _ 0 0 (c .before .before .before .before .number .ensures .0) (refl) (λ R. commit-refuses _ I _ (c .before .before .before .before .before .before .before .args .k) R (sym (child-test _ _ _ (c .before .has-child .ensures)) ∙ c .if1 .taken)) R
+returns c = λ I R. numbered _ _ _ (λ t r. commit t (c .before .before .before .before .before .before .before .args .k)) Ready _ _ 0 0 (c .before .before .before .before .number .ensures .0) (refl) (λ R. commit-refuses _ I _ (c .before .before .before .before .before .before .before .args .k) R (sym (child-test _ _ _ (c .before .has-child .ensures)) ∙ c .if1 .taken)) R
 
 cast-d : tie.Need-cast-d
 cast-d c = search needs
@@ -43,7 +42,7 @@ same-length-2 : tie.Need-same-length-2
 same-length-2 c = search needs
 
 returns-2 : tie.Need-returns-2
-returns-2 c = λ I R. numbered _ _ _ (λ t r. commit t (c .before .before .before .before .before .before .before .before .before .before .before .before .before .before .before .before .before .before .before .before .before .args .k)) _ _ 0 0 (c .before .before .before .before .before .before .before .before .before .before .before .before .before .before .before .before .before .before .number .ensures .0) (refl) (λ R. c .before .before .commit-top .ensures I R (sym (child-test _ _ _ (c .before .before .before .before .before .before .before .before .before .before .before .before .before .before .before .has-child .ensures)) ∙ c .before .before .before .before .before .before .before .before .before .before .before .before .before .before .if1 .left) (c .before .before .before .before .before .before .before .before .before .before .before .before .if2 .taken)) R
+returns-2 c = λ I R. numbered _ _ _ (λ t r. commit t (c .before .before .before .before .before .before .before .before .before .before .before .before .before .before .before .before .before .before .before .before .before .args .k)) Ready _ _ 0 0 (c .before .before .before .before .before .before .before .before .before .before .before .before .before .before .before .before .before .before .number .ensures .0) (refl) (λ R. c .before .before .commit-top .ensures I R (sym (child-test _ _ _ (c .before .before .before .before .before .before .before .before .before .before .before .before .before .before .before .has-child .ensures)) ∙ c .before .before .before .before .before .before .before .before .before .before .before .before .before .before .if1 .left) (c .before .before .before .before .before .before .before .before .before .before .before .before .if2 .taken)) R
 
 commit-child-requires : tie.Need-commit-child-requires
 commit-child-requires c κs = let e = c .before .before .before .before .before .before .before .before .before .before .before .before .before .number .ensures .0 in let h : 0 < getD (c .before .before .before .before .before .before .before .before .before .before .before .before .before .before .before .before .args .depth .now) (c .before .before .before .before .before .before .before .before .before .before .before .before .before .number .result) 0 = subst⁻¹ (λ (n : ℕ). 0 < getD (c .before .before .before .before .before .before .before .before .before .before .before .before .before .before .before .before .args .depth .now) n 0) e (c .before .before .before .before .before .before .before .before .before .before .before .before .before .before .before .before .pre .8) in (c .before .before .before .before .before .before .before .before .before .before .before .before .before .number .ensures .1, search needs, search needs, search needs, search needs, search needs, search needs, search needs, omega arith, refl, c .before .before .before .before .before .before .before .before .before .before .before .before .before .before .before .before .pre .9)
@@ -52,7 +51,7 @@ same-length-3 : tie.Need-same-length-3
 same-length-3 c = search needs
 
 returns-3 : tie.Need-returns-3
-returns-3 c = λ I R. numbered _ _ _ (λ t r. commit t (c .before .before .before .before .before .before .before .before .before .before .before .before .before .before .before .before .before .before .before .args .k)) _ _ 0 0 (c .before .before .before .before .before .before .before .before .before .before .before .before .before .before .before .before .number .ensures .0) (refl) (λ R. c .before .before .commit-child .ensures _ _ _ I R (sym (child-test _ _ _ (c .before .before .before .before .before .before .before .before .before .before .before .before .before .has-child .ensures)) ∙ c .before .before .before .before .before .before .before .before .before .before .before .before .if1 .left)) R
+returns-3 c = λ I R. numbered _ _ _ (λ t r. commit t (c .before .before .before .before .before .before .before .before .before .before .before .before .before .before .before .before .before .before .before .args .k)) Ready _ _ 0 0 (c .before .before .before .before .before .before .before .before .before .before .before .before .before .before .before .before .number .ensures .0) (refl) (λ R. c .before .before .commit-child .ensures _ _ _ I R (sym (child-test _ _ _ (c .before .before .before .before .before .before .before .before .before .before .before .before .before .has-child .ensures)) ∙ c .before .before .before .before .before .before .before .before .before .before .before .before .if1 .left)) R
 
 pub commit-event-spec : {M : Type 1} → statement M
 commit-event-spec =

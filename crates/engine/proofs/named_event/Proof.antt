@@ -1,5 +1,5 @@
 -- By its kind the event is one of the five that name a live transaction.
-use mathlib.Core.Path.{sym, ap, ap₂, subst⁻¹, _∙_}
+use mathlib.Core.Path.{refl, sym, ap, ap₂, subst⁻¹, _∙_}
 use mathlib.Core.Bool.{Bool}
 use Prim.Native.Nat.{ℕ, _-_, _<_}
 use native.Mathlib.Omega.{arith}
@@ -8,7 +8,7 @@ use mathlib.Core.Option.{some}
 use Rattle.laws.specs.Tests.{same}
 use Rattle.rules.specs.Event.{commit, abort}
 use Rattle.event.proofs.Meaning.{means-commit, means-abort}
-use Rattle.engine.proofs.ByKind.{report-is, unknown-steps}
+use Rattle.engine.proofs.ByKind.{report-is, unknown-steps, leaf-of, waits-steps}
 use Rattle.engine.proofs.Numbers.{record-is, no-record, transaction-small}
 use Rattle.events.proofs.Steps.{retold, sources, not-live}
 use borrow.Author.Needs.{needs}
@@ -20,6 +20,7 @@ use Rattle.engine.proofs.record_event.Reads as record-event-reads
 use Rattle.events.proofs.abort_event.Reads as abort-event-reads
 use Rattle.commits.proofs.commit_event.Reads as commit-event-reads
 use Rattle.numbers.proofs.RecordNumber.checked.Reads as checked-reads
+use Rattle.transactions.proofs.has_child.Reads as has-child-reads
 
 cast-if1 : tie.Need-cast-if1
 cast-if1 c = search needs
@@ -51,6 +52,13 @@ returns-3 c = let a = c .before .before .before .before .before .before .before 
     retold _ _ _ _ _ (means-abort (a .e) (c .before .before .before .before .before .before .before .before .if3 .taken) ∙ ap₂ (λ (t : ℕ) (w : Bool). some (abort t w)) (sym (pre .0)) (report-is (a .e .value)))
     (c .abort-event .ensures _ _ _ (pre .4) (record { up = pre .5; live = subst⁻¹ (λ (n : ℕ). 0 < getD (a .depth .now) n 0) (pre .0) (omega arith) }))
 
+has-child-requires : tie.Need-has-child-requires
+has-child-requires c κs = search needs
+
+returns-4 : tie.Need-returns-4
+returns-4 c = let a = c .before .before .before .before .before .before .before .before .before .before .before .args in let pre = c .before .before .before .before .before .before .before .before .before .before .before .pre in
+    waits-steps _ (a .e .transaction) _ (c .before .has-child .ensures) (c .if4 .taken) (a .e) refl (pre .4) (pre .1) (omega arith) (record { up = pre .5; live = omega arith })
+
 checked-requires : tie.Need-checked-requires
 checked-requires c κs = search needs
 
@@ -58,7 +66,15 @@ enum-known-r : tie.Need-enum-known-r
 enum-known-r c = search needs
 
 record-event-requires : tie.Need-record-event-requires
-record-event-requires c κs = (c .before .before .before .before .before .before .before .before .before .before .before .before .before .before .before .before .before .before .before .before .pre .0, record-is (c .before .before .before .before .before .before .before .before .before .before .before .before .before .before .before .before .before .before .before .before .args .e .rec) _ (sym (c .before .before .before .before .before .before .before .before .before .before .r .given .1) ∙ c .before .before .before .before .before .before .before .before .before .before .before .before .checked .ensures), c .before .before .before .before .before .before .before .before .before .before .before .before .before .before .before .before .before .before .before .before .pre .1, omega arith, c .before .before .before .before .before .before .before .before .before .before .before .before .before .before .before .before .before .before .before .before .pre .3, c .before .before .before .before .before .before .before .before .before .before .before .before .before .before .before .before .before .before .before .before .pre .4, record { up = c .before .before .before .before .before .before .before .before .before .before .before .before .before .before .before .before .before .before .before .before .pre .5; live = subst⁻¹ (λ (n : ℕ). 0 < getD (c .before .before .before .before .before .before .before .before .before .before .before .before .before .before .before .before .before .before .before .before .args .depth .now) n 0) (c .before .before .before .before .before .before .before .before .before .before .before .before .before .before .before .before .before .before .before .before .pre .0) (omega arith) })
+record-event-requires c κs = let a = c .before .before .before .before .before .before .before .before .before .before .before .before .before .before .before .before .before .before .before .before .before .before .before .before .args in let pre = c .before .before .before .before .before .before .before .before .before .before .before .before .before .before .before .before .before .before .before .before .before .before .before .before .pre in (
+  pre .0,
+  record-is (a .e .rec) _ (sym (c .before .before .before .before .before .before .before .before .before .before .r .given .1) ∙ c .before .before .before .before .before .before .before .before .before .before .before .before .checked .ensures),
+  pre .1,
+  omega arith,
+  pre .3,
+  pre .4,
+  leaf-of _ (a .e .transaction) _ (c .before .before .before .before .before .before .before .before .before .before .before .before .before .before .has-child .ensures) (c .before .before .before .before .before .before .before .before .before .before .before .before .before .if4 .left) (record { up = pre .5; live = omega arith }) _ (pre .0),
+)
 
 enum-told : tie.Need-enum-told
 enum-told c = search needs
@@ -69,11 +85,11 @@ same-length-3 c = search needs
 same-length-4 : tie.Need-same-length-4
 same-length-4 c = search needs
 
-returns-4 : tie.Need-returns-4
-returns-4 c = search needs
-
 returns-5 : tie.Need-returns-5
-returns-5 c = let h = no-record (c .before .before .before .before .before .before .before .before .before .before .args .e .rec) (sym (c .enum-told .given .1) ∙ c .before .before .checked .ensures) in let k = c .before .before .before .before .before .before .before .before .before .before .pre .3 .rec in absurd (omega arith)
+returns-5 c = search needs
+
+returns-6 : tie.Need-returns-6
+returns-6 c = let h = no-record (c .before .before .before .before .before .before .before .before .before .before .before .before .before .before .args .e .rec) (sym (c .enum-told .given .1) ∙ c .before .before .checked .ensures) in let k = c .before .before .before .before .before .before .before .before .before .before .before .before .before .before .pre .3 .rec in absurd (omega arith)
 
 pub named-event-spec : {M : Type 1} → statement M
 named-event-spec =
@@ -88,11 +104,13 @@ named-event-spec =
     returns-2
     abort-event-requires
     returns-3
+    has-child-requires
+    returns-4
     checked-requires
     enum-known-r
     record-event-requires
     enum-told
     same-length-3
     same-length-4
-    returns-4
-    returns-5)
+    returns-5
+    returns-6)

@@ -25,7 +25,7 @@ lock-event-requires : tie.Need-lock-event-requires
 lock-event-requires c κs = search needs
 
 write-event-requires : tie.Need-write-event-requires
-write-event-requires c κs = let F = c .before .before .before .before .before .before .before .before .before .before .pre .5 .form in (c .before .before .before .before .before .before .before .before .before .before .pre .4 .offset, F .works, F .stores, F .writerss, c .before .before .before .before .before .before .before .before .before .before .pre .6 .live, sources _ (c .before .before .before .before .before .before .before .before .before .before .pre .5))
+write-event-requires c κs = let F = c .before .before .before .before .before .before .before .before .before .before .pre .5 .form in (c .before .before .before .before .before .before .before .before .before .before .pre .4 .offset, F .works, F .stores, F .writerss, c .before .before .before .before .before .before .before .before .before .before .pre .6 .ready .live, sources _ (c .before .before .before .before .before .before .before .before .before .before .pre .5))
 
 read-event-requires : tie.Need-read-event-requires
 read-event-requires c κs = let F = c .before .before .before .before .before .before .before .before .before .before .pre .5 .form in (c .before .before .before .before .before .before .before .before .before .before .pre .4 .offset, F .works, F .stores, sources _ (c .before .before .before .before .before .before .before .before .before .before .pre .5))

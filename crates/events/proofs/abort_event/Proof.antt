@@ -7,6 +7,7 @@ use Rattle.laws.proofs.Tests.{under-lt}
 use Rattle.laws.proofs.Booleans.{and-right}
 use Rattle.rules.specs.Event.{abort}
 use Rattle.slots.proofs.Walk.{parent-below}
+use Rattle.events.specs.Whole.{Ready}
 use Rattle.events.proofs.Steps.{numbered}
 use Rattle.events.proofs.Aborts.{abort-steps}
 use borrow.Author.Needs.{needs}
@@ -49,7 +50,7 @@ end-requires c κs = search needs
 returns : tie.Need-returns
 unfolding under
 returns c = λ up work store I R. let w = c .before .before .before .before .before .before .before .before .before .before .before .before .before .before .before .before .args .report in let e = c .end .ensures in let f = c .before .before .before .before .discard .ensures in
-    numbered _ _ _ (λ t r. abort t w) _ _ 0 0 (c .before .before .before .before .before .before .before .before .before .before .before .before .before .before .before .number .ensures .0) refl (λ R. abort-steps _ I _ _ w R (c .before .before .before .before .before .before .before .before .descendants .ensures) _ _ _ _ _ _ _ (c .before .before .before .before .before .before .before .before .before .before .report .ensures) (e .0) (e .1) (e .2) (f .0) (f .1) (f .2)) R
+    numbered _ _ _ (λ t r. abort t w) Ready _ _ 0 0 (c .before .before .before .before .before .before .before .before .before .before .before .before .before .before .before .number .ensures .0) refl (λ R. abort-steps _ I _ _ w R (c .before .before .before .before .before .before .before .before .descendants .ensures) _ _ _ _ _ _ _ (c .before .before .before .before .before .before .before .before .before .before .report .ensures) (e .0) (e .1) (e .2) (f .0) (f .1) (f .2)) R
 
 pub abort-event-spec : {M : Type 1} → statement M
 abort-event-spec =

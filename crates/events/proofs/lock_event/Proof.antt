@@ -3,6 +3,7 @@ use mathlib.Core.Bool.{not}
 use Prim.Native.Nat.{_-_}
 use Rattle.rules.specs.Event.{lock}
 use Rattle.arrays.specs.Changes.{accessWhen}
+use Rattle.events.specs.Whole.{ReadyLeaf}
 use Rattle.events.proofs.Steps.{numbered, lock-steps, lock-refuses}
 use borrow.Author.Needs.{needs}
 use Rattle.events.proofs.lock_event.Statement.{statement}
@@ -24,11 +25,11 @@ lock-requires c κs = search needs
 
 returns : tie.Need-returns
 returns c = λ up parent depth writers work store I R. let q = accessWhen (c .before .before .before .before .before .args .reading) in
-    numbered _ _ _ (λ t r. lock t r q) _ _ _ _ (c .before .before .before .before .number .ensures .0) (c .before .before .before .index .ensures .0) (λ R. lock-steps _ I q _ _ R _ _ (c .before .lock .ensures) (c .if1 .taken)) R
+    numbered _ _ _ (λ t r. lock t r q) ReadyLeaf _ _ _ _ (c .before .before .before .before .number .ensures .0) (c .before .before .before .index .ensures .0) (λ R. lock-steps _ I q _ _ R _ _ (c .before .lock .ensures) (c .if1 .taken)) R
 
 returns-2 : tie.Need-returns-2
 returns-2 c = λ up parent depth writers work store I R. let q = accessWhen (c .before .before .before .before .before .args .reading) in
-    numbered _ _ _ (λ t r. lock t r q) _ _ _ _ (c .before .before .before .before .number .ensures .0) (c .before .before .before .index .ensures .0) (λ R. lock-refuses _ I q _ _ R _ _ (c .before .lock .ensures) (c .if1 .left)) R
+    numbered _ _ _ (λ t r. lock t r q) ReadyLeaf _ _ _ _ (c .before .before .before .before .number .ensures .0) (c .before .before .before .index .ensures .0) (λ R. lock-refuses _ I q _ _ R _ _ (c .before .lock .ensures) (c .if1 .left)) R
 
 pub lock-event-spec : {M : Type 1} → statement M
 lock-event-spec =

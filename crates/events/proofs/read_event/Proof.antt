@@ -2,6 +2,7 @@
 use mathlib.Core.Path.{sym, _∙_}
 use Prim.Native.Nat.{_-_}
 use Rattle.rules.specs.Event.{lock, read}
+use Rattle.events.specs.Whole.{ReadyLeaf}
 use Rattle.events.proofs.Steps.{numbered, read-steps, read-refuses}
 use borrow.Author.Needs.{needs}
 use Rattle.events.proofs.read_event.Statement.{statement}
@@ -27,11 +28,11 @@ read-requires c κs = search needs
 
 returns : tie.Need-returns
 returns c = λ up line retained I R. let o = c .before .before .before .before .before .before .before .args .o in
-    numbered _ _ _ (λ t r. read t r o) _ _ _ _ (c .before .before .before .before .number .ensures .0) (c .before .before .before .index .ensures .0) (λ R. read-steps _ I _ _ o _ R (sym (c .before .before .holds .ensures) ∙ c .before .if1 .taken) (c .read .ensures)) R
+    numbered _ _ _ (λ t r. read t r o) ReadyLeaf _ _ _ _ (c .before .before .before .before .number .ensures .0) (c .before .before .before .index .ensures .0) (λ R. read-steps _ I _ _ o _ R (sym (c .before .before .holds .ensures) ∙ c .before .if1 .taken) (c .read .ensures)) R
 
 returns-2 : tie.Need-returns-2
 returns-2 c = λ up line retained I R. let o = c .before .before .before .before .before .before .args .o in
-    numbered _ _ _ (λ t r. read t r o) _ _ _ _ (c .before .before .before .number .ensures .0) (c .before .before .index .ensures .0) (λ R. read-refuses _ I _ _ o R (sym (c .before .holds .ensures) ∙ c .if1 .left)) R
+    numbered _ _ _ (λ t r. read t r o) ReadyLeaf _ _ _ _ (c .before .before .before .number .ensures .0) (c .before .before .index .ensures .0) (λ R. read-refuses _ I _ _ o R (sym (c .before .holds .ensures) ∙ c .if1 .left)) R
 
 pub read-event-spec : {M : Type 1} → statement M
 read-event-spec =

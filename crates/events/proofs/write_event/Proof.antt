@@ -3,6 +3,7 @@ use mathlib.Core.Path.{sym, subst⁻¹, _∙_}
 use Prim.Native.Nat.{ℕ, _-_, _<_}
 use lib.ListN.{getD}
 use Rattle.rules.specs.Event.{lock, write}
+use Rattle.events.specs.Whole.{ReadyLeaf}
 use Rattle.events.proofs.Steps.{numbered, write-steps, write-refuses}
 use borrow.Author.Needs.{needs}
 use Rattle.events.proofs.write_event.Statement.{statement}
@@ -42,12 +43,12 @@ same-length c = search needs
 
 returns : tie.Need-returns
 returns c = λ up line retained I R. let a = c .before .before .before .before .before .before .before .before .before .before .before .args in
-    numbered _ _ _ (λ t r. write t r (a .o) (a .v)) _ _ _ _ (c .before .before .before .before .before .before .before .before .number .ensures .0) (c .before .before .before .before .before .before .before .index .ensures .0)
+    numbered _ _ _ (λ t r. write t r (a .o) (a .v)) ReadyLeaf _ _ _ _ (c .before .before .before .before .before .before .before .before .number .ensures .0) (c .before .before .before .before .before .before .before .index .ensures .0)
     (λ R. write-steps _ I _ _ (a .o) (a .v) R (sym (c .before .before .before .before .before .before .holds-writing .ensures) ∙ c .before .before .before .before .before .if1 .taken) _ _ (search needs) (c .before .before .write .ensures)) R
 
 returns-2 : tie.Need-returns-2
 returns-2 c = λ up line retained I R. let a = c .before .before .before .before .before .before .args in
-    numbered _ _ _ (λ t r. write t r (a .o) (a .v)) _ _ _ _ (c .before .before .before .number .ensures .0) (c .before .before .index .ensures .0)
+    numbered _ _ _ (λ t r. write t r (a .o) (a .v)) ReadyLeaf _ _ _ _ (c .before .before .before .number .ensures .0) (c .before .before .index .ensures .0)
     (λ R. write-refuses _ I _ _ (a .o) (a .v) R (sym (c .before .holds-writing .ensures) ∙ c .if1 .left)) R
 
 pub write-event-spec : {M : Type 1} → statement M
