@@ -51,6 +51,10 @@ heirsOf had s t p k = (not (same k t) && s k) || (same k p && had)
 unfoldable pub inheriting : ℕ → ℕ → Owners → Owners → Owners
 inheriting t p held retained k = heirsOf (held k t || retained k t) (retained k) t p
 
+-- p is in each set in the place of t
+unfoldable pub handed : ℕ → ℕ → Owners → Owners
+handed t p o k = heirsOf (o k t) (o k) t p
+
 -- one set of an array becomes s
 pub record Row (r : ℕ) (s : ℕ → Bool) (l l′ : List ℕ) : Type 0 where
   pub word : ℕ
@@ -75,5 +79,5 @@ pub record Cleared (gone : ℕ → Bool) (l l′ : List ℕ) : Type 0 where
 
 -- opens the definitions of this module: for what is proved by computing
 unfoldable pub open-changes : Unit {0}
-unfolding accessWhen barring openTo joined joinedFor less leaving heirsOf inheriting places cleared
+unfolding accessWhen barring openTo joined joinedFor less leaving heirsOf inheriting handed places cleared
 open-changes = tt
