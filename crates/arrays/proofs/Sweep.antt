@@ -17,7 +17,7 @@ use Rattle.laws.proofs.Tests.{same?, Same, is, isnt}
 use Rattle.sets.specs.Sets.{sets}
 use Rattle.sets.proofs.Sets.{sets-set, sets-past}
 use Rattle.arrays.specs.View.{Owners}
-use Rattle.arrays.specs.Changes.{less, leaving, heirsOf, inheriting, Row, Rows, places, cleared, Cleared}
+use Rattle.arrays.specs.Changes.{less, leaving, heirsOf, inheriting, handed, Row, Rows, places, cleared, Cleared}
 
 pub record Swept {A : Type 0} (f was goal : ℕ → A) (i : ℕ) : Type 0 where
   pub below : (k : ℕ) → k < i → f k ≡ goal k
@@ -61,6 +61,10 @@ upto-more n f l l₀ l′ i s U h R e = record {
   long = ap length (R .is) ∙ length-set l i (R .word) ∙ U .long;
 }
 
+-- the same, where the set at i is told of the sets themselves
+pub upto-next : (n : ℕ) (f : Owners) (l l₀ l′ : List ℕ) (i : ℕ) (s : ℕ → Bool) → Upto n f l l₀ i → Rows n (updated i s (sets l)) l′ → s ≡ f i → Upto n f l′ l₀ (i + 1)
+upto-next n f l l₀ l′ i s U R e = record { swept = swept-more (sets l′) s (U .swept) (R .are) e; long = R .long }
+
 pub upto-all : (n : ℕ) (f : Owners) (l l₀ : List ℕ) (i : ℕ) → Upto n f l l₀ i → ((k : ℕ) → i ≤ k → sets l₀ k ≡ f k) → Rows n f l
 upto-all n f l l₀ i U past = record { are = swept-all (U .swept) past; long = U .long }
 
@@ -72,6 +76,10 @@ pub heirs-past : (had : Bool) (l : List ℕ) (t p k : ℕ) → had ≡ false →
 unfolding heirsOf
 heirs-past had l t p k f h = fun-ext (λ j. let e = sets-past l k j h in
     e ∙ sym (ap₂ (λ (b c : Bool). (not (same j t) && b) || (same j p && c)) e f ∙ ap₂ _||_ (and-false (not (same j t))) (and-false (same j p))))
+
+pub handed-past : (l : List ℕ) (t p k : ℕ) → length l ≤ k → sets l k ≡ handed t p (sets l) k
+unfolding handed
+handed-past l t p k h = heirs-past (sets l k t) l t p k (sets-past l k t h) h
 
 pub inheriting-past : (l m : List ℕ) (t p k : ℕ) → length l ≤ k → length m ≤ k → sets m k ≡ inheriting t p (sets l) (sets m) k
 unfolding inheriting

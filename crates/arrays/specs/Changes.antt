@@ -55,6 +55,10 @@ inheriting t p held retained k = heirsOf (held k t || retained k t) (retained k)
 unfoldable pub reporting : Bool → ℕ → ℕ → Owners → Owners → Owners
 reporting told t p held retained = cond told (inheriting t p held retained) retained
 
+-- p is in each set in the place of t
+unfoldable pub handed : ℕ → ℕ → Owners → Owners
+handed t p o k = heirsOf (o k t) (o k) t p
+
 -- one set of an array becomes s
 pub record Row (r : ℕ) (s : ℕ → Bool) (l l′ : List ℕ) : Type 0 where
   pub word : ℕ
@@ -79,5 +83,5 @@ pub record Cleared (gone : ℕ → Bool) (l l′ : List ℕ) : Type 0 where
 
 -- opens the definitions of this module: for what is proved by computing
 unfoldable pub open-changes : Unit {0}
-unfolding accessWhen barring openTo joined joinedFor less leaving heirsOf inheriting reporting places cleared
+unfolding accessWhen barring openTo joined joinedFor less leaving heirsOf inheriting handed reporting places cleared
 open-changes = tt

@@ -27,7 +27,7 @@ use Rattle.rules.proofs.Soundness.{alone-closed}
 use Rattle.sets.specs.Sets.{sets}
 use Rattle.sets.proofs.Sets.{sets-past}
 use Rattle.arrays.specs.View.{Owners, bearersOf, modesOf, Nested, slot, versionsOf}
-use Rattle.arrays.specs.Changes.{leaving, heirsOf, inheriting, Rows, places, cleared, Cleared}
+use Rattle.arrays.specs.Changes.{leaving, heirsOf, inheriting, handed, Rows, places, cleared, Cleared}
 use Rattle.arrays.proofs.View.{depth-is, child-is}
 use Rattle.arrays.proofs.Nested.{inheriting-nested}
 use Rattle.arrays.proofs.Modes.{leaving-discarded, inheriting-inherited}
@@ -176,9 +176,9 @@ module _ (x : Arrays) (I : Intact x) (t k : ℕ) (R : Ready x t) (childless : ha
         (P : Cleared (λ k. same k t) (x .parent) parent) (D : Cleared (λ k. same k t) (x .depth) depth) (N : Cleared (λ k. same k t) (x .line) line)
         (H : Rows 32 (leaving (λ j. same j t) (sets (x .held))) held)
         (M : Rows 32 (inheriting t p (sets (x .held)) (sets (x .retained))) retained)
-        (W : Rows 16 (λ r. heirsOf (w r t) (w r) t p) writers) (K : pagesOf work ≡ up) (size : length work ≡ workBytes) where
+        (W : Rows 16 (handed t p w) writers) (K : pagesOf work ≡ up) (size : length work ≡ workBytes) where
       versions-up : versionsOf depth writers work ≡ dropped alone (handedUp t p v)
-      unfolding versionsOf places cleared
+      unfolding versionsOf places cleared handed
       versions-up = fun-ext (λ j. fun-ext (λ r.
           ap₂ (λ (f : Owners) (g : ℕ → ℕ). cond (f r j) (some (pagesOf work (slot r (g j)))) none) (W .are) (D .are)
           ∙ ap (λ (g : ℕ → Page). cond (heirsOf (w r t) (w r) t p j) (some (g (slot r (cond (same j t) 0 (d j))))) none) K

@@ -67,8 +67,8 @@ fn commit_child(
     ensures { λ a. ⌜ ((up : ℕ) (k : ℕ) (store : List ℕ) → Intact (arrays up (now (parent .entry)) (now (depth .entry)) (now (line .entry)) (now (held .entry)) (now (retained .entry)) (now (writers .entry)) (now (work .entry)) store) → Ready (arrays up (now (parent .entry)) (now (depth .entry)) (now (line .entry)) (now (held .entry)) (now (retained .entry)) (now (writers .entry)) (now (work .entry)) store) t → hasChild (view (arrays up (now (parent .entry)) (now (depth .entry)) (now (line .entry)) (now (held .entry)) (now (retained .entry)) (now (writers .entry)) (now (work .entry)) store)) t ≡ false → Stepped (arrays up (now (parent .entry)) (now (depth .entry)) (now (line .entry)) (now (held .entry)) (now (retained .entry)) (now (writers .entry)) (now (work .entry)) store) (some (commit t k)) a (arrays up (now (parent .exit)) (now (depth .exit)) (now (line .exit)) (now (held .exit)) (now (retained .exit)) (now (writers .exit)) (now (work .exit)) store)) ⌝ }
 {
     let p = parent[t as usize];
-    slots::lift(writers, work, t, d);
-    locks::pass(held, retained, writers, t, p);
+    slots::lift(writers, work, t, p, d);
+    locks::pass(held, retained, t, p);
     transactions::retire(parent, depth, line, t);
     Answer {
         number: 0,

@@ -132,15 +132,11 @@ pub fn report(held: &[u32; 32], retained: &mut [u32; 32], t: u8, p: u8, told: bo
     }
 }
 
-// p retains what t held or retained, and is the writer where t was.
-pub fn pass(held: &mut [u32; 32], retained: &mut [u32; 32], writers: &mut [u32; 16], t: u8, p: u8)
-    requires { ⌜ (t < 24) × (p < 24) × (length (now held) ≡ 32) × (length (now retained) ≡ 32) × (length (now writers) ≡ 16) ⌝ }
-    ensures { λ _. ⌜ Rows 32 (leaving (λ j. same j t) (sets (now (held .entry)))) (now (held .exit)) × Rows 32 (inheriting t p (sets (now (held .entry))) (sets (now (retained .entry)))) (now (retained .exit)) × Rows 16 (λ r. heirsOf (sets (now (writers .entry)) r t) (sets (now (writers .entry)) r) t p) (now (writers .exit)) ⌝ }
+// t commits into p: p retains what t held or retained, and t has nothing.
+pub fn pass(held: &mut [u32; 32], retained: &mut [u32; 32], t: u8, p: u8)
+    requires { ⌜ (t < 24) × (p < 24) × (length (now held) ≡ 32) × (length (now retained) ≡ 32) ⌝ }
+    ensures { λ _. ⌜ Rows 32 (leaving (λ j. same j t) (sets (now (held .entry)))) (now (held .exit)) × Rows 32 (inheriting t p (sets (now (held .entry))) (sets (now (retained .entry)))) (now (retained .exit)) ⌝ }
 {
     inherit(held, retained, t, p);
     leave(held, sets::single(t));
-    for r in 0..16 {
-        let w = writers[r];
-        writers[r] = heirs(sets::contains(w, t), w, t, p);
-    }
 }

@@ -9,6 +9,7 @@ ghost use Rattle.rules.specs.Store.{pagesOf};
 ghost use Rattle.rules.specs.Editions.{depths, slotCount, workBytes};
 ghost use Rattle.sets.specs.Sets.{sets};
 ghost use Rattle.arrays.specs.View.{slot, seen};
+ghost use Rattle.arrays.specs.Changes.{handed, Rows};
 ghost use Rattle.slots.specs.Parts.{Sources, Climbing, Climbed, Written, lifted};
 
 // A walk up from a transaction: where it stands, and how many there are from there up.
@@ -128,22 +129,24 @@ pub fn write(
     page::put_byte(work, slot_of(r, depth[t as usize]), o, v);
 }
 
-// The version of record r at depth d, if t has one, takes the place of that one up.
-fn lift_row(writers: &[u32; 16], work: &mut [u8], t: u8, d: u8, r: usize)
-    requires { ⌜ (t < 24) × (1 < d) × (d ≤ depths) × (r < 16) × (length (now work) ≡ workBytes) ⌝ }
-    ensures { λ _. ⌜ pagesOf (now (work .exit)) ≡ cond (sets (now (writers .entry)) r t) (updated (slot r (d - 1)) (pagesOf (now (work .entry)) (slot r d)) (pagesOf (now (work .entry)))) (pagesOf (now (work .entry))) ⌝ }
+// The version of record r at depth d, if t has one, takes the place of that one up, and p is its writer in t's place.
+fn lift_row(writers: &mut [u32; 16], work: &mut [u8], t: u8, p: u8, d: u8, r: usize)
+    requires { ⌜ (t < 24) × (p < 24) × (1 < d) × (d ≤ depths) × (r < 16) × (length (now work) ≡ workBytes) × (length (now writers) ≡ 16) ⌝ }
+    ensures { λ _. ⌜ (pagesOf (now (work .exit)) ≡ cond (sets (now (writers .entry)) r t) (updated (slot r (d - 1)) (pagesOf (now (work .entry)) (slot r d)) (pagesOf (now (work .entry)))) (pagesOf (now (work .entry)))) × Rows 16 (updated r (handed t p (sets (now (writers .entry))) r) (sets (now (writers .entry)))) (now (writers .exit)) ⌝ }
 {
-    if sets::contains(writers[r], t) {
+    let w = writers[r];
+    if sets::contains(w, t) {
         page::copy_page(work, slot_of(r, d), slot_of(r, d - 1));
+        writers[r] = sets::with(sets::without(w, t), p);
     }
 }
 
 // The same for all records.
-pub fn lift(writers: &[u32; 16], work: &mut [u8], t: u8, d: u8)
-    requires { ⌜ (t < 24) × (1 < d) × (d ≤ depths) × (length (now work) ≡ workBytes) × (length (now writers) ≡ 16) ⌝ }
-    ensures { λ _. ⌜ pagesOf (now (work .exit)) ≡ lifted (sets (now (writers .entry))) t d (pagesOf (now (work .entry))) ⌝ }
+pub fn lift(writers: &mut [u32; 16], work: &mut [u8], t: u8, p: u8, d: u8)
+    requires { ⌜ (t < 24) × (p < 24) × (1 < d) × (d ≤ depths) × (length (now work) ≡ workBytes) × (length (now writers) ≡ 16) ⌝ }
+    ensures { λ _. ⌜ (pagesOf (now (work .exit)) ≡ lifted (sets (now (writers .entry))) t d (pagesOf (now (work .entry)))) × Rows 16 (handed t p (sets (now (writers .entry)))) (now (writers .exit)) ⌝ }
 {
     for r in 0..16 {
-        lift_row(writers, work, t, d, r);
+        lift_row(writers, work, t, p, d, r);
     }
 }

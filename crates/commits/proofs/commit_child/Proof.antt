@@ -23,10 +23,11 @@ element-copy-out-p : tie.Need-element-copy-out-p
 element-copy-out-p c = search needs
 
 lift-requires : tie.Need-lift-requires
-lift-requires c κs = let k = c .before .before .before .before .pre .10 .shallow (c .before .before .before .before .args .t) in let e = c .before .before .before .before .pre .9 in (omega arith, omega arith, omega arith, search needs, search needs)
+lift-requires c κs = let a = c .before .before .before .before .args in let k = c .before .before .before .before .pre .10 .shallow (a .t) in let e = c .before .before .before .before .pre .9 in
+    (omega arith, parent-below _ _ (c .before .before .before .before .pre .10) (a .t) (omega arith), omega arith, omega arith, search needs, search needs)
 
 pass-requires : tie.Need-pass-requires
-pass-requires c κs = let e = c .before .before .before .before .before .before .before .before .before .before .pre .9 in (omega arith, parent-below _ _ (c .before .before .before .before .before .before .before .before .before .before .pre .10) (c .before .before .before .before .before .before .before .before .before .before .args .t) (omega arith), search needs, search needs, search needs)
+pass-requires c κs = let e = c .before .before .before .before .before .before .before .before .before .pre .9 in (omega arith, parent-below _ _ (c .before .before .before .before .before .before .before .before .before .pre .10) (c .before .before .before .before .before .before .before .before .before .args .t) (omega arith), search needs, search needs)
 
 retire-requires : tie.Need-retire-requires
 retire-requires c κs = search needs
@@ -35,11 +36,11 @@ same-length : tie.Need-same-length
 same-length c = search needs
 
 returns : tie.Need-returns
-returns c = λ up k store I R childless. let a = c .before .before .before .before .before .before .before .before .before .before .before .before .before .before .before .args in let e = c .retire .ensures in let f = c .before .before .before .before .pass .ensures in let q = c .before .before .before .before .before .before .before .before .before .before .before .before .before .before .before .pre .9 in
+returns c = λ up k store I R childless. let a = c .before .before .before .before .before .before .before .before .before .before .before .before .before .before .args in let e = c .retire .ensures in let f = c .before .before .before .before .pass .ensures in let g = c .before .before .before .before .before .before .before .before .before .lift .ensures in let q = c .before .before .before .before .before .before .before .before .before .before .before .before .before .before .pre .9 in
     let n = getD (a .depth .now) (a .t) 0 - 2 in
     let deep : getD (a .depth .now) (a .t) 0 ≡ suc (suc n) = omega arith in
-    child-steps _ I (a .t) k R childless n deep _ _ _ _ _ _ _ (e .0) (e .1) (e .2) (f .0) (f .1) (f .2)
-    (c .before .before .before .before .before .before .before .before .before .before .lift .ensures ∙ ap (λ (m : ℕ). lifted (sets (a .writers .now)) (a .t) m (pagesOf (a .work .now))) (q ∙ deep)) (search needs)
+    child-steps _ I (a .t) k R childless n deep _ _ _ _ _ _ _ (e .0) (e .1) (e .2) (f .0) (f .1) (g .1)
+    (g .0 ∙ ap (λ (m : ℕ). lifted (sets (a .writers .now)) (a .t) m (pagesOf (a .work .now))) (q ∙ deep)) (search needs)
 
 pub commit-child-spec : {M : Type 1} → statement M
 commit-child-spec =

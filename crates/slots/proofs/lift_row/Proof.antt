@@ -1,38 +1,30 @@
--- The child's version of one record is copied one slot up, if it has one.
-use mathlib.Core.Path.{_≡_, refl, sym, ap, ap₂, _∙_, fun-ext}
-use mathlib.Core.Bool.{Bool, true, false, not, cond, _&&_, _||_, or-false, and-false, and-true}
-use mathlib.Core.List.{List}
-use Prim.Native.Nat.{ℕ, suc, _+_, _*_, _-_, _/_, _%_, _<_, _≤_}
+-- The child's version of one record, if it has one, is copied one slot up and its writer is the parent.
+use mathlib.Core.Path.{_≡_, sym, ap, ap₂, _∙_}
+use mathlib.Core.Bool.{Bool, true, false, cond, _||_}
+use Prim.Native.Nat.{ℕ, _-_}
 use native.Mathlib.Omega.{arith}
-use lib.ListN.{length, getD, set}
 use borrow.Author.Needs.{needs}
+use Rattle.laws.specs.Tests.{same}
 use Rattle.laws.specs.Functions.{updated}
-use Rattle.laws.proofs.Updated.{updated-same, updated-self, updated-again}
-use Rattle.laws.specs.Bits.{bits}
 use Rattle.sets.specs.Sets.{sets}
 use Rattle.rules.specs.Store.{pagesOf}
-use Rattle.sets.proofs.Sets.{sets-past}
-use Rattle.arrays.specs.View.{slot, seen}
-use Rattle.arrays.proofs.View.{deep-below}
-use Rattle.arrays.proofs.Joined.{sets-joined, joined-self}
-use Rattle.arrays.proofs.Sweep.{Swept, swept-none, swept-all}
-use Rattle.slots.specs.Parts.{Sources, Climbing, ended, found, passed, Climbed, Written, lifted}
-use Rattle.slots.proofs.Walk.{Walk, walk-none, walk-more, walk-all}
-use Rattle.slots.proofs.Seen.{seen-home, seen-slot, seen-own}
-use Rattle.slots.proofs.Lifting.{lifts-row, lifts-past}
+use Rattle.arrays.specs.View.{slot}
+use Rattle.arrays.proofs.Joined.{sets-handed, handed-none}
 use Rattle.slots.proofs.lift_row.Statement.{statement}
 use Rattle.slots.proofs.lift_row.Tie as tie
 use Rattle.slots.proofs.lift_row.Reads as reads
 use Rattle.slots.proofs.lift_row.Lts as lts
-use Rattle.slots.proofs.slot_of.Reads as slot-of-reads
 use Rattle.page.proofs.copy_page.Reads as copy-page-reads
 use Rattle.sets.proofs.contains.Reads as contains-reads
+use Rattle.sets.proofs.with.Reads as with-reads
+use Rattle.sets.proofs.without.Reads as without-reads
+use Rattle.slots.proofs.slot_of.Reads as slot-of-reads
 
-mul-contains : tie.Need-mul-contains
-mul-contains c = search needs
+mul-w : tie.Need-mul-w
+mul-w c = search needs
 
-element-copy-out-contains : tie.Need-element-copy-out-contains
-element-copy-out-contains c = search needs
+element-copy-out-w : tie.Need-element-copy-out-w
+element-copy-out-w c = search needs
 
 contains-requires : tie.Need-contains-requires
 contains-requires c κs = search needs
@@ -49,33 +41,56 @@ slot-of-requires-2 c κs = search needs
 copy-page-requires : tie.Need-copy-page-requires
 copy-page-requires c κs = search needs
 
+without-requires : tie.Need-without-requires
+without-requires c κs = search needs
+
+with-requires : tie.Need-with-requires
+with-requires c κs = search needs
+
+mul-writers : tie.Need-mul-writers
+mul-writers c = search needs
+
+element-write-writers : tie.Need-element-write-writers
+element-write-writers c = search needs
+
 same-length : tie.Need-same-length
 same-length c = search needs
 
 returns : tie.Need-returns
 unfolding sets
-returns c = let a = c .before .before .before .before .before .before .before .before .before .before .args in let s = a .work .now in let m = slot (a .r) (a .d) in let n = slot (a .r) (a .d - 1) in
-    let e : sets (a .writers .now) (a .r) (a .t) ≡ true = sym (c .before .before .before .before .before .before .before .contains .ensures) ∙ c .before .before .before .before .before .before .if1 .taken in
-    c .before .before .copy-page .ensures ∙ ap₂ (λ (i j : ℕ). updated i (pagesOf s j) (pagesOf s)) (c .before .before .before .slot-of2 .ensures .0) (c .before .before .before .before .slot-of .ensures .0)
-    ∙ sym (ap (λ (b : Bool). cond b (updated n (pagesOf s m) (pagesOf s)) (pagesOf s)) e)
+returns c = let a = c .before .before .before .before .before .before .before .before .before .before .before .before .args in let s = a .work .now in let m = slot (a .r) (a .d) in let n = slot (a .r) (a .d - 1) in
+    let e : sets (a .writers .now) (a .r) (a .t) ≡ true = sym (c .before .before .before .before .before .before .before .before .before .contains .ensures) ∙ c .before .before .before .before .before .before .before .before .if1 .taken in (
+      c .before .before .before .before .copy-page .ensures ∙ ap₂ (λ (i j : ℕ). updated i (pagesOf s j) (pagesOf s)) (c .before .before .before .before .before .slot-of2 .ensures .0) (c .before .before .before .before .before .before .slot-of .ensures .0)
+          ∙ sym (ap (λ (b : Bool). cond b (updated n (pagesOf s m) (pagesOf s)) (pagesOf s)) e),
+      record {
+        are = sets-handed (a .writers .now) (a .t) (a .p) (a .r) _ (omega arith) e (c .with .ensures ∙ ap {B = ℕ → Bool} (λ (f : ℕ → Bool) k. f k || same k (a .p)) (c .before .without .ensures));
+        long = search needs;
+      },
+    )
 
 returns-2 : tie.Need-returns-2
 unfolding sets
 returns-2 c = let a = c .before .before .before .before .args in let s = a .work .now in
-    let e : sets (a .writers .now) (a .r) (a .t) ≡ false = sym (c .before .contains .ensures) ∙ c .if1 .left in
-    sym (ap (λ (b : Bool). cond b (updated (slot (a .r) (a .d - 1)) (pagesOf s (slot (a .r) (a .d))) (pagesOf s)) (pagesOf s)) e)
+    let e : sets (a .writers .now) (a .r) (a .t) ≡ false = sym (c .before .contains .ensures) ∙ c .if1 .left in (
+      sym (ap (λ (b : Bool). cond b (updated (slot (a .r) (a .d - 1)) (pagesOf s (slot (a .r) (a .d))) (pagesOf s)) (pagesOf s)) e),
+      record { are = handed-none (sets (a .writers .now)) (a .t) (a .p) (a .r) e; long = search needs },
+    )
 
 pub lift-row-spec : {M : Type 1} → statement M
 lift-row-spec =
     tie.close
     (tie.spec
-    mul-contains
-    element-copy-out-contains
+    mul-w
+    element-copy-out-w
     contains-requires
     slot-of-requires
     sub-slot-of
     slot-of-requires-2
     copy-page-requires
+    without-requires
+    with-requires
+    mul-writers
+    element-write-writers
     same-length
     returns
     returns-2)
