@@ -72,7 +72,7 @@ lay-lay f rs base c r = go (is? (mem r rs))
 module _ (g : Geometry) where
   pub commit-length : (f : ℕ → Page) (m : ℕ) (rs : List ℕ) → length (commitWrites g f m rs) ≡ commitDue (length rs)
   unfolding commitWrites commitDue intentions homes marks
-  commit-length f m [] = rw (same-refl 0)
+  commit-length f m [] = rw (same-refl 0) refl
   commit-length f m (r ∷ rs) = rw (ne-false (suc (length rs)) 0 (λ e. omega arith)) (omega (
     arith,
     length-append (intentions g f (r ∷ rs)) (marks g m ∷ (homes g f (r ∷ rs) ++ (marks g 0 ∷ []))),

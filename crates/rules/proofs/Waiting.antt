@@ -33,7 +33,7 @@ module _ (f : Form) (s : StateOf f) (t : ℕ) (up : s .up ≡ true) (alive : liv
 
   passes : (w : Bool) → refusal f s (abort t w) ≡ none
   unfolding refusal refusals firstOf
-  passes w = rw (alive, up)
+  passes w = rw (alive, up) refl
 
   -- with a live child or without
   pub abort-open : (w : Bool) → step f s (some (abort t w)) ≡ act f s (abort t w)
