@@ -1,13 +1,14 @@
 -- The walk up from a transaction to the nearest that has a version: what it reads stays the same at every step.
 use mathlib.Core.Path.{_≡_, refl, sym, ap, ap₂, _∙_}
 use mathlib.Core.Bool.{Bool, true, false, true≢false}
-use mathlib.Core.List.{List}
+use mathlib.Core.List.{List, [], _∷_}
 use mathlib.Core.Logic.{_⊎_, inl, inr}
 use mathlib.Core.Option.{Option, none, some}
 use Prim.Native.Nat.{ℕ, zero, suc, _+_, _-_, _≤_, _<_}
 use native.Mathlib.Omega.{arith}
-use lib.ListN.{length, getD}
+use lib.ListN.{length, getD, List·getD-eq-default}
 use Rattle.laws.specs.Bits.{bits}
+use Rattle.laws.proofs.Bits.{bits-zero}
 use Rattle.rules.specs.Store.{Page}
 use Rattle.rules.specs.State.{parentIn, depthIn, chain, lineOf, Versions}
 use Rattle.rules.specs.Versions.{isSome, else, nearest}
@@ -30,6 +31,12 @@ unfolding isSome else
 skips none p e = refl
 skips (some q) p e = absurd (true≢false e)
 
+-- on a line without a version the home page is seen
+none-nearest : (ver : Versions) (base : Page) (r : ℕ) → ((j : ℕ) → isSome (ver j r) ≡ false) → (l : List ℕ) → nearest ver base r l ≡ base
+unfolding nearest
+none-nearest ver base r h [] = refl
+none-nearest ver base r h (j ∷ l) = skips (ver j r) (nearest ver base r l) (h j) ∙ none-nearest ver base r h l
+
 module _ (parent depth : List ℕ) (S : Sources parent depth) (w t : ℕ) where
   pub walk-none : (c : Climb) → c .at ≡ t → c .left ≡ getD depth t 0 → Walk parent depth w t c 0
   unfolding lineOf
@@ -37,6 +44,21 @@ module _ (parent depth : List ℕ) (S : Sources parent depth) (w t : ℕ) where
     going = inl (let k = S .shallow t in omega arith);
     level = ap (λ (j : ℕ). getD depth j 0) e ∙ sym f;
     reads = λ ver base r h. ap₂ (λ (n j : ℕ). nearest ver base r (chain (bearersOf parent depth) n j)) (depth-is parent depth t ∙ sym f) (sym e);
+  }
+
+  -- who is in w needs no walk
+  pub walk-own : (c : Climb) → c .at ≡ t → c .left ≡ getD depth t 0 → bits w t ≡ true → Climbed parent depth w t c
+  walk-own c e f h = let W = walk-none c e f in record { stops = inr (ap (bits w) e ∙ h); level = W .level; reads = W .reads }
+
+  -- where w is empty, nobody is left
+  pub walk-empty : (c : Climb) → w ≡ 0 → c .at ≡ 31 → c .left ≡ 0 → Climbed parent depth w t c
+  unfolding nearest chain
+  walk-empty c z e f = record {
+    stops = inl f;
+    level = ap (λ (j : ℕ). getD depth j 0) e ∙ List·getD-eq-default depth 0 {n = 31} (let k = S .long in omega arith) ∙ sym f;
+    reads = λ ver base r h.
+        none-nearest ver base r (λ j. h j ∙ ap (λ (s : ℕ). bits s j) z ∙ bits-zero j) (lineOf (bearersOf parent depth) t)
+        ∙ ap (λ (n : ℕ). nearest ver base r (chain (bearersOf parent depth) n (c .at))) (sym f);
   }
 
   pub walk-more : (c d : Climb) (n : ℕ) → Walk parent depth w t c n → n < depths → Climbing parent w c d → Walk parent depth w t d (n + 1)

@@ -37,11 +37,14 @@ fn one_up(parent: &[u8; 24], w: u32, c: Climb) -> Climb
     }
 }
 
-// The nearest of t and its ancestors that is in w; nobody is left where there is none.
+// The nearest of t and its ancestors that is in w; nobody is left where there is none, as where w is empty.
 fn source(parent: &[u8; 24], depth: &[u8; 24], w: u32, t: u8) -> Climb
     requires { ⌜ (t < 24) × Sources (now parent) (now depth) ⌝ }
     ensures { λ c. ⌜ Climbed (now (parent .entry)) (now (depth .entry)) w t c ⌝ }
 {
+    if w == 0 {
+        return Climb { at: 31, left: 0 };
+    }
     let mut c = Climb {
         at: t,
         left: depth[t as usize],
@@ -50,6 +53,20 @@ fn source(parent: &[u8; 24], depth: &[u8; 24], w: u32, t: u8) -> Climb
         c = one_up(parent, w, c);
     }
     c
+}
+
+// The same, without a walk where t itself is in w.
+fn nearest(parent: &[u8; 24], depth: &[u8; 24], w: u32, t: u8) -> Climb
+    requires { ⌜ (t < 24) × Sources (now parent) (now depth) ⌝ }
+    ensures { λ c. ⌜ Climbed (now (parent .entry)) (now (depth .entry)) w t c ⌝ }
+{
+    if sets::contains(w, t) {
+        return Climb {
+            at: t,
+            left: depth[t as usize],
+        };
+    }
+    source(parent, depth, w, t)
 }
 
 // The slot of record r at depth d.
@@ -74,12 +91,12 @@ pub fn read(
     requires { ⌜ (t < 24) × (r < 16) × (o < 32) × (length (now work) ≡ workBytes) × (length (now store) ≡ 1056) × Sources (now parent) (now depth) ⌝ }
     ensures { λ v. ⌜ v ≡ getD (seen (now (parent .entry)) (now (depth .entry)) (now (writers .entry)) (now (work .entry)) (now (store .entry)) t r) o 0 ⌝ }
 {
-    let c = source(parent, depth, writers[r], t);
-    let nearest = c.left;
-    if nearest == 0 {
+    let c = nearest(parent, depth, writers[r], t);
+    let level = c.left;
+    if level == 0 {
         return page::get_byte(store, 17 + r, o);
     }
-    page::get_byte(work, slot_of(r, nearest), o)
+    page::get_byte(work, slot_of(r, level), o)
 }
 
 // The slot at t's depth takes the page that t sees, unless it has t's version already.

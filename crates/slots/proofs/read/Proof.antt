@@ -21,16 +21,16 @@ use Rattle.slots.proofs.read.Reads as reads
 use Rattle.slots.proofs.read.Lts as lts
 use Rattle.page.proofs.get_byte.Reads as get-byte-reads
 use Rattle.slots.proofs.slot_of.Reads as slot-of-reads
-use Rattle.slots.proofs.source.Reads as source-reads
+use Rattle.slots.proofs.nearest.Reads as nearest-reads
 
-mul-source : tie.Need-mul-source
-mul-source c = search needs
+mul-nearest : tie.Need-mul-nearest
+mul-nearest c = search needs
 
-element-copy-out-source : tie.Need-element-copy-out-source
-element-copy-out-source c = search needs
+element-copy-out-nearest : tie.Need-element-copy-out-nearest
+element-copy-out-nearest c = search needs
 
-source-requires : tie.Need-source-requires
-source-requires c κs = search needs
+nearest-requires : tie.Need-nearest-requires
+nearest-requires c κs = search needs
 
 add-get-byte : tie.Need-add-get-byte
 add-get-byte c = search needs
@@ -39,24 +39,24 @@ get-byte-requires : tie.Need-get-byte-requires
 get-byte-requires c κs = search needs
 
 returns : tie.Need-returns
-returns c = let a = c .before .before .before .before .before .before .args in c .get-byte .ensures ∙ ap (λ (p : List ℕ). getD p (a .o) 0) (sym (seen-home (a .parent .now) (a .depth .now) (a .writers .now) (a .work .now) (a .store .now) (a .t) (a .r) (c .before .before .source .result) (c .before .before .source .ensures) (c .before .if1 .taken)))
+returns c = let a = c .before .before .before .before .before .before .args in c .get-byte .ensures ∙ ap (λ (p : List ℕ). getD p (a .o) 0) (sym (seen-home (a .parent .now) (a .depth .now) (a .writers .now) (a .work .now) (a .store .now) (a .t) (a .r) (c .before .before .nearest .result) (c .before .before .nearest .ensures) (c .before .if1 .taken)))
 
 slot-of-requires : tie.Need-slot-of-requires
-slot-of-requires c κs = let k = c .before .source .ensures .level in let m = c .before .before .before .before .before .pre .5 .shallow (c .before .source .result .at) in (omega arith, omega arith, omega arith)
+slot-of-requires c κs = let k = c .before .nearest .ensures .level in let m = c .before .before .before .before .before .pre .5 .shallow (c .before .nearest .result .at) in (omega arith, omega arith, omega arith)
 
 get-byte-requires-2 : tie.Need-get-byte-requires-2
 get-byte-requires-2 c κs = search needs
 
 returns-2 : tie.Need-returns-2
-returns-2 c = let a = c .before .before .before .before .before .before .before .args in c .get-byte2 .ensures ∙ ap (λ (n : ℕ). getD (pagesOf (a .work .now) n) (a .o) 0) (c .before .slot-of .ensures .0) ∙ ap (λ (p : List ℕ). getD p (a .o) 0) (sym (seen-slot (a .parent .now) (a .depth .now) (a .writers .now) (a .work .now) (a .store .now) (a .t) (a .r) (c .before .before .before .source .result) (c .before .before .before .source .ensures) (omega arith)))
+returns-2 c = let a = c .before .before .before .before .before .before .before .args in c .get-byte2 .ensures ∙ ap (λ (n : ℕ). getD (pagesOf (a .work .now) n) (a .o) 0) (c .before .slot-of .ensures .0) ∙ ap (λ (p : List ℕ). getD p (a .o) 0) (sym (seen-slot (a .parent .now) (a .depth .now) (a .writers .now) (a .work .now) (a .store .now) (a .t) (a .r) (c .before .before .before .nearest .result) (c .before .before .before .nearest .ensures) (omega arith)))
 
 pub read-spec : {M : Type 1} → statement M
 read-spec =
     tie.close
     (tie.spec
-    mul-source
-    element-copy-out-source
-    source-requires
+    mul-nearest
+    element-copy-out-nearest
+    nearest-requires
     add-get-byte
     get-byte-requires
     returns
