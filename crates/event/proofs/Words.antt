@@ -23,14 +23,9 @@ use Rattle.rules.specs.Geometry.{wordSize}
 use Rattle.rules.specs.Event.{Event, Fields, field, fields, Uses, uses, usesOf, noKind, row, limits, limitOf, wellFormed, eventOf, decode}
 use Rattle.rules.specs.Run.{words}
 use Rattle.rules.specs.Editions.{geometry1}
+use Rattle.event.specs.Flags.{flags}
 use Rattle.event.specs.Meaning.{fieldsOf}
 use Rattle.event.proofs.Values.{value-within}
-
--- the code's table
-abbrev pub flags : List ℕ
-flags =
-    0 ∷ 0xFF800000 ∷ 0xFFF80001 ∷ 0xFFFFC0FF ∷ 0xFFFFC000 ∷ 0xFF803F00 ∷ 0xFF800001 ∷ 0xF0000000 ∷ 0xF0003F00 ∷
-    0 ∷ 0 ∷ 0 ∷ 0 ∷ 0 ∷ 0 ∷ 0 ∷ []
 
 abbrev agrees : Bool → Bool → Bool
 agrees true b = b

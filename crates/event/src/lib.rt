@@ -5,6 +5,7 @@ ghost use lib.ListN.{length, take, drop};
 ghost use Rattle.laws.specs.Bytes.{number};
 ghost use Rattle.rules.specs.Event.{decode, word};
 ghost use Rattle.rules.specs.Editions.{geometry1};
+ghost use Rattle.event.specs.Flags.{flags};
 ghost use Rattle.event.specs.Meaning.{meaning, InRange, Fits};
 
 // An event by its fields. Kind 0 is a bad event.
@@ -94,8 +95,16 @@ impl Event {
 
     pub const KIND: u32 = (Self::KIND_SPAN - 1) * Self::KIND_PLACE;
 
-    // The event that a word stands for.
-    pub fn of_word(w: u32) -> Self
+    // The table of used fields. Who takes many words apart keeps it and lends it: an indexed constant is laid out anew for each word.
+    pub fn table() -> [u32; 16]
+        ensures { λ r. ⌜ r ≡ flags ⌝ }
+    {
+        USES
+    }
+
+    // The event that a word stands for, by the table.
+    pub fn of_word(table: &[u32; 16], w: u32) -> Self
+        requires { ⌜ now table ≡ flags ⌝ }
         ensures { λ r. ⌜ (decode geometry1 w ≡ meaning r) × InRange r ⌝ }
     {
         let kind = (w / Self::KIND_PLACE % Self::KIND_SPAN) as u8;
@@ -104,7 +113,7 @@ impl Event {
         let offset = (w / Self::OFFSET_PLACE % Self::OFFSET_SPAN) as u8;
         let count = (w / Self::COUNT_PLACE % Self::COUNT_SPAN) as u8;
         let value = (w / Self::VALUE_PLACE % Self::VALUE_SPAN) as u8;
-        let uses = USES[narrow(kind)];
+        let uses = table[narrow(kind)];
         if w & (w ^ uses) == 0 {
             Event {
                 kind,

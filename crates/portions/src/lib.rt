@@ -55,6 +55,7 @@ pub fn portion(
     let mut held = e.held;
     let mut retained = e.retained;
     let mut writers = e.writers;
+    let table = Event::table();
     let n = events.len() / 4;
     for k in 0..n {
         let w = Event::word_at(events, k);
@@ -68,7 +69,7 @@ pub fn portion(
             &mut writers,
             work,
             store,
-            Event::of_word(w),
+            Event::of_word(&table, w),
         );
         put_answer(answers, k, a);
     }

@@ -15,40 +15,44 @@ use Rattle.portions.proofs.portion.Lts as lts
 use Rattle.portions.proofs.put_answer.Reads as put-answer-reads
 use Rattle.engine.proofs.step.Reads as step-reads
 use Rattle.event.proofs.Event.of_word.Reads as of-word-reads
+use Rattle.event.proofs.Event.table.Reads as table-reads
 use Rattle.event.proofs.Event.word_at.Reads as word-at-reads
 
 abbrev Inv-loop : tie.InvT-loop
-Inv-loop e store₀ events work₀ answers₀ up₀ parent₀ depth₀ line₀ held₀ retained₀ writers₀ n k₀ store work answers up parent depth line held retained writers k =
+Inv-loop e store₀ events work₀ answers₀ up₀ parent₀ depth₀ line₀ held₀ retained₀ writers₀ table n k₀ store work answers up parent depth line held retained writers k =
     (k ≤ n) × (n ≡ length events / 4) × (n ≤ 4096) × (4 * n ≤ length events) × (2 * n ≤ length answers₀)
     × Playing (arrays up₀ parent₀ depth₀ line₀ held₀ retained₀ writers₀ work₀ store₀) events answers₀ n k (arrays up parent depth line held retained writers work store) answers
 
 abbrev μ-loop : tie.MeasureT-loop
-μ-loop e store₀ events work₀ answers₀ up₀ parent₀ depth₀ line₀ held₀ retained₀ writers₀ n k₀ store work answers up parent depth line held retained writers k =
+μ-loop e store₀ events work₀ answers₀ up₀ parent₀ depth₀ line₀ held₀ retained₀ writers₀ table n k₀ store work answers up parent depth line held retained writers k =
     n - k
 
+table-requires : tie.Need-table-requires Inv-loop μ-loop
+table-requires c κs = search needs
+
 loop-holds : tie.Need-loop-holds Inv-loop μ-loop
-loop-holds c = (search needs, refl, omega arith, omega arith, omega arith, playing-none _ _ _ _ (c .before .before .before .before .before .before .before .before .before .before .pre .0))
+loop-holds c = (search needs, refl, omega arith, omega arith, omega arith, playing-none _ _ _ _ (c .before .before .before .before .before .before .before .before .before .before .before .pre .0))
 
 word-at-requires : tie.Need-word-at-requires Inv-loop μ-loop
 word-at-requires c κs = search needs
 
 of-word-requires : tie.Need-of-word-requires Inv-loop μ-loop
-of-word-requires c κs = search needs
+of-word-requires c κs = c .before .before .before .before .before .before .before .before .before .before .before .before .before .table .ensures
 
 step-requires : tie.Need-step-requires Inv-loop μ-loop
-step-requires c κs = (c .of-word .ensures .1, c .before .before .before .before .before .before .before .before .before .before .before .before .loop .inv .5 .intact)
+step-requires c κs = (c .of-word .ensures .1, c .before .before .before .before .before .before .before .before .before .before .before .before .before .loop .inv .5 .intact)
 
 put-answer-requires : tie.Need-put-answer-requires Inv-loop μ-loop
-put-answer-requires c κs = let k = c .before .before .before .before .before .before .before .before .before .before .before .before .before .before .before .before .before .before .loop .inv .5 .long in (omega arith, omega arith)
+put-answer-requires c κs = let l = c .before .before .before .before .before .before .before .before .before .before .before .before .before .before .before .before .before .before .before .loop in let e = l .inv .5 .long in let q : l .k < _ = c .before .before .before .before .before .before .before .before .before .before .before .before .before .before .before .before .before .before .loop-test .taken in let b = l .inv .2 in let d = l .inv .4 in (omega arith, omega arith)
 
 add-k : tie.Need-add-k Inv-loop μ-loop
-add-k c = let q = c .before .before .before .before .before .before .before .before .before .before .before .before .before .before .before .before .before .before .before .before .loop-test .taken in let b = c .before .before .before .before .before .before .before .before .before .before .before .before .before .before .before .before .before .before .before .before .before .loop .inv .2 in search needs
+add-k c = let q = c .before .before .before .before .before .before .before .before .before .before .before .before .before .before .before .before .before .before .before .before .before .loop-test .taken in let b = c .before .before .before .before .before .before .before .before .before .before .before .before .before .before .before .before .before .before .before .before .before .before .loop .inv .2 in search needs
 
 loop-less : tie.Need-loop-less Inv-loop μ-loop
-loop-less c = let q = c .before .before .before .before .before .before .before .before .before .before .before .before .before .before .before .before .before .before .before .before .loop-test .taken in search needs
+loop-less c = let q = c .before .before .before .before .before .before .before .before .before .before .before .before .before .before .before .before .before .before .before .before .before .loop-test .taken in search needs
 
 loop-again : tie.Need-loop-again Inv-loop μ-loop
-loop-again c = let l = c .before .before .before .before .before .before .before .before .before .before .before .before .before .before .before .before .before .before .before .before .before .loop in let q : l .k < _ = c .before .before .before .before .before .before .before .before .before .before .before .before .before .before .before .before .before .before .before .before .loop-test .taken in let b = l .inv .0 in (omega arith, l .inv .1, l .inv .2, l .inv .3, l .inv .4, playing-next _ _ _ (c .before .before .before .before .before .before .before .before .before .before .before .before .before .before .before .before .before .before .before .before .before .before .before .before .before .before .before .before .before .before .before .before .args .events .now) (c .before .before .before .before .before .before .before .before .before .before .before .before .before .before .before .before .before .before .before .before .before .before .before .before .before .before .before .before .before .before .before .before .args .answers .now) (l .answers) _ _ (l .k) _ _ _ (l .inv .5) q (l .inv .4) (c .before .before .before .before .before .before .before .before .before .before .before .before .before .before .before .before .before .before .before .word-at .ensures) (c .before .before .before .before .before .before .before .before .before .of-word .ensures .0) (c .before .before .before .before .before .before .before .before .step .ensures) (c .before .before .put-answer .ensures))
+loop-again c = let l = c .before .before .before .before .before .before .before .before .before .before .before .before .before .before .before .before .before .before .before .before .before .before .loop in let q : l .k < _ = c .before .before .before .before .before .before .before .before .before .before .before .before .before .before .before .before .before .before .before .before .before .loop-test .taken in let b = l .inv .0 in (omega arith, l .inv .1, l .inv .2, l .inv .3, l .inv .4, playing-next _ _ _ (c .before .before .before .before .before .before .before .before .before .before .before .before .before .before .before .before .before .before .before .before .before .before .before .before .before .before .before .before .before .before .before .before .before .before .args .events .now) (c .before .before .before .before .before .before .before .before .before .before .before .before .before .before .before .before .before .before .before .before .before .before .before .before .before .before .before .before .before .before .before .before .before .before .args .answers .now) (l .answers) _ _ (l .k) _ _ _ (l .inv .5) q (l .inv .4) (c .before .before .before .before .before .before .before .before .before .before .before .before .before .before .before .before .before .before .before .before .word-at .ensures) (c .before .before .before .before .before .before .before .before .before .of-word .ensures .0) (c .before .before .before .before .before .before .before .before .step .ensures) (c .before .before .put-answer .ensures))
 
 same-length : tie.Need-same-length Inv-loop μ-loop
 same-length c = search needs
@@ -68,6 +72,7 @@ portion-spec =
     (tie.spec
     Inv-loop
     μ-loop
+    table-requires
     loop-holds
     word-at-requires
     of-word-requires

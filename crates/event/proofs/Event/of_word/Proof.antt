@@ -1,6 +1,7 @@
 -- A word with no bit outside its kind's flags is the event of its fields; any other gives kind 0.
-use mathlib.Core.Path.{_≡_, sym, ap, _∙_}
+use mathlib.Core.Path.{_≡_, sym, ap, ap₂, _∙_}
 use mathlib.Core.Bool.{Bool, true, false, cond}
+use mathlib.Core.List.{List}
 use mathlib.Core.Option.{none}
 use Prim.Native.Nat.{ℕ}
 use native.Mathlib.Omega.{arith}
@@ -10,7 +11,7 @@ use borrow.Author.Tests.{eq-eqb, ne-eqb}
 use Rattle.laws.specs.Tests.{same}
 use Rattle.rules.specs.Event.{eventOf}
 use Rattle.event.specs.Meaning.{meaning, fieldsOf}
-use Rattle.event.proofs.Words.{flags, flagsOf, partsOf, decode-by-test, kind-lt}
+use Rattle.event.proofs.Words.{flagsOf, partsOf, decode-by-test, kind-lt}
 use borrow.Author.Needs.{needs}
 use Rattle.event.proofs.Event.of_word.Statement.{statement}
 use Rattle.event.proofs.Event.of_word.Tie as tie
@@ -18,49 +19,41 @@ use Rattle.event.proofs.Event.of_word.Reads as reads
 use Rattle.event.proofs.Event.of_word.Lts as lts
 use Rattle.event.proofs.narrow.Reads as narrow-reads
 
--- src/lib.rt:92:20
 cast-kind : tie.Need-cast-kind
 cast-kind c = search needs
 
--- src/lib.rt:93:27
 cast-transaction : tie.Need-cast-transaction
 cast-transaction c = search needs
 
--- src/lib.rt:94:19
 cast-rec : tie.Need-cast-rec
 cast-rec c = search needs
 
--- src/lib.rt:95:22
 cast-offset : tie.Need-cast-offset
 cast-offset c = search needs
 
--- src/lib.rt:96:21
 cast-count : tie.Need-cast-count
 cast-count c = search needs
 
--- src/lib.rt:97:21
 cast-value : tie.Need-cast-value
 cast-value c = search needs
 
--- src/lib.rt:98:25
 narrow-requires : tie.Need-narrow-requires
 narrow-requires c κs = search needs
 
--- src/lib.rt:98:20
 mul-uses : tie.Need-mul-uses
 mul-uses c = search needs
 
--- src/lib.rt:98:20
-array-read-uses : tie.Need-array-read-uses
-array-read-uses c = search needs
+element-copy-out-uses : tie.Need-element-copy-out-uses
+element-copy-out-uses c = search needs
 
--- src/lib.rt:89:5
+-- the word's flags are those of the table that is lent
 returns : tie.Need-returns
 unfolding meaning same
 returns c =
-    let w = c .before .before .args .w in
-    let n = c .before .narrow .ensures in
-    let z : bitAnd w (bitXor w (flagsOf w)) ≡ 0 = ap (λ (k : ℕ). bitAnd w (bitXor w (getD flags k 0))) (sym n) ∙ c .if1 .taken in
+    let a = c .before .before .before .args in
+    let w = a .w in
+    let n = c .before .before .narrow .ensures in
+    let z : bitAnd w (bitXor w (flagsOf w)) ≡ 0 = ap₂ (λ (l : List ℕ) (k : ℕ). bitAnd w (bitXor w (getD l k 0))) (sym (c .before .before .before .pre)) (sym n) ∙ c .if1 .taken in
     let e : same (bitAnd w (bitXor w (flagsOf w))) 0 ≡ true = eq-eqb _ _ z in (
       decode-by-test w (omega arith) ∙ ap (λ (b : Bool). cond b (eventOf (partsOf w)) none) e,
       record {
@@ -73,14 +66,14 @@ returns c =
       },
     )
 
--- src/lib.rt:89:5
 returns-2 : tie.Need-returns-2
 unfolding meaning fieldsOf eventOf same
 returns-2 c =
-    let w = c .before .before .args .w in
-    let n = c .before .narrow .ensures in
+    let a = c .before .before .before .args in
+    let w = a .w in
+    let n = c .before .before .narrow .ensures in
     let e : same (bitAnd w (bitXor w (flagsOf w))) 0 ≡ false =
-    ne-eqb _ _ (λ z. c .if1 .left (ap (λ (k : ℕ). bitAnd w (bitXor w (getD flags k 0))) n ∙ z)) in (
+    ne-eqb _ _ (λ z. c .if1 .left (ap₂ (λ (l : List ℕ) (k : ℕ). bitAnd w (bitXor w (getD l k 0))) (c .before .before .before .pre) n ∙ z)) in (
       decode-by-test w (omega arith) ∙ ap (λ (b : Bool). cond b (eventOf (partsOf w)) none) e,
       record {
         kind = omega arith;
@@ -104,6 +97,6 @@ of-word-spec =
     cast-value
     narrow-requires
     mul-uses
-    array-read-uses
+    element-copy-out-uses
     returns
     returns-2)

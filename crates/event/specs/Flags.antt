@@ -1,0 +1,8 @@
+-- The code's table of used fields, as numbers: of each kind the bits of a word that it may have set. The proofs show that it is the rules' table.
+use mathlib.Core.List.{List, [], _∷_}
+use Prim.Native.Nat.{ℕ}
+
+abbrev pub flags : List ℕ
+flags =
+    0 ∷ 0xFF800000 ∷ 0xFFF80001 ∷ 0xFFFFC0FF ∷ 0xFFFFC000 ∷ 0xFF803F00 ∷ 0xFF800001 ∷ 0xF0000000 ∷ 0xF0003F00 ∷
+    0 ∷ 0 ∷ 0 ∷ 0 ∷ 0 ∷ 0 ∷ 0 ∷ []
