@@ -121,12 +121,15 @@ none-at n k =
     dite (decLt k n) (λ lt. getD-replicate n k 0 0 lt)
     (λ ge. let e : length {A = ℕ} (replicate n 0) ≡ n = length-replicate n 0 in List·getD-eq-default {A = ℕ} (replicate n 0) 0 (omega arith))
 
+pub none-sets : (n q k : ℕ) → sets (replicate n 0) q k ≡ false
+unfolding sets
+none-sets n q k = rw (none-at n q) (bits-zero k)
+
 -- no transaction is live
 pub kin-none : Kin (replicate 24 0) (replicate 24 0) 0 (replicate 32 0)
-unfolding sets
 kin-none = record {
   lives = fun-ext (λ k. rw (none-at 24 k, same-refl 0) (bits-zero k));
-  under = λ q h. fun-ext (λ k. rw (none-at 24 k, none-at 32 q, same-refl 0) (bits-zero k));
+  under = λ q h. fun-ext (λ k. rw (none-at 24 k, same-refl 0) (none-sets 32 q k));
   long = length-replicate {A = ℕ} 32 0;
 }
 
