@@ -4,3 +4,4 @@ pub mod Joined
 pub mod Nested
 pub mod Modes
 pub mod View
+pub mod Kin

@@ -1,3 +1,4 @@
 -- What the arrays stand for, and their changes.
 pub mod View
 pub mod Changes
+pub mod Kin

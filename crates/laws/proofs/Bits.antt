@@ -74,7 +74,7 @@ pub bits-zero : (j : ℕ) → bits 0 j ≡ false
 unfolding bits same
 bits-zero j = ap (λ (x : ℕ). same (x % 2) 1) (zero-div (2 ^ j))
 
-bits-suc : (s j : ℕ) → bits s (suc j) ≡ bits (s / 2) j
+pub bits-suc : (s j : ℕ) → bits s (suc j) ≡ bits (s / 2) j
 unfolding bits
 bits-suc s j =
     ap (λ (x : ℕ). same (x % 2) 1)

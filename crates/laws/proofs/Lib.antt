@@ -4,6 +4,7 @@ pub mod Bits
 pub mod Filled
 pub mod Booleans
 pub mod Counting
+pub mod Lowest
 pub mod Those
 pub mod Bytes
 pub mod Updated

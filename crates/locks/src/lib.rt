@@ -77,7 +77,7 @@ pub fn lock(
 }
 
 // The transactions in gone leave every place.
-fn leave(s: &mut [u32; 32], gone: u32)
+pub fn leave(s: &mut [u32; 32], gone: u32)
     requires { ⌜ length (now s) ≡ 32 ⌝ }
     ensures { λ _. ⌜ Rows 32 (leaving (bits gone) (sets (now (s .entry)))) (now (s .exit)) ⌝ }
 {

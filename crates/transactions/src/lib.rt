@@ -9,7 +9,7 @@ ghost use Rattle.laws.specs.Bits.{bits};
 ghost use Rattle.rules.specs.Geometry.{transactions};
 ghost use Rattle.rules.specs.Editions.{depths};
 ghost use Rattle.sets.specs.Sets.{sets};
-ghost use Rattle.arrays.specs.Changes.{Row, Cleared};
+ghost use Rattle.arrays.specs.Changes.{Row, Rows, Cleared};
 
 // j where the place is free, else what was found above.
 fn lower(d: u8, j: u8, f: u8) -> u8
@@ -46,6 +46,42 @@ pub fn has_child(parent: &[u8; 24], depth: &[u8; 24], t: u8) -> bool
     found
 }
 
+// The lowest number that isn't live, or 24: that bit is set in any case, so the bits above it don't matter.
+pub fn lowest_free(live: u32) -> u8
+    ensures { λ r. ⌜ r ≡ lowest transactions (λ u. not (bits live u)) ⌝ }
+{
+    let free = sets::with(sets::minus(4294967295, live), 24);
+    u32::trailing_zeros(free) as u8
+}
+
+// t has a live child.
+pub fn has_children(children: &[u32; 32], t: u8) -> bool
+    requires { ⌜ t < 32 ⌝ }
+    ensures { λ r. ⌜ r ≡ any transactions (sets (now (children .entry)) t) ⌝ }
+{
+    children[t as usize] % 16777216 != 0
+}
+
+// f is live, under p.
+pub fn enrol(live: &mut u32, children: &mut [u32; 32], p: u8, f: u8)
+    requires { ⌜ (p < 32) × (f < 24) × (length (now children) ≡ 32) ⌝ }
+    ensures { λ _. ⌜ (bits (now (live .exit)) ≡ (λ k. bits (now (live .entry)) k || same k f)) × Row p (λ k. sets (now (children .entry)) p k || same k f) (now (children .entry)) (now (children .exit)) ⌝ }
+{
+    let i = p as usize;
+    *live = sets::with(*live, f);
+    children[i] = sets::with(children[i], f);
+}
+
+// t, under p, is live no more.
+pub fn strike(live: &mut u32, children: &mut [u32; 32], p: u8, t: u8)
+    requires { ⌜ (p < 32) × (t < 24) × (length (now children) ≡ 32) ⌝ }
+    ensures { λ _. ⌜ (bits (now (live .exit)) ≡ (λ k. not (same k t) && bits (now (live .entry)) k)) × Row p (λ k. not (same k t) && sets (now (children .entry)) p k) (now (children .entry)) (now (children .exit)) ⌝ }
+{
+    let i = p as usize;
+    *live = sets::without(*live, t);
+    children[i] = sets::without(children[i], t);
+}
+
 // The members of s, and j if b.
 fn with_if(s: u32, b: bool, j: u8) -> u32
     requires { ⌜ j < 24 ⌝ }
@@ -68,6 +104,30 @@ pub fn live_set(depth: &[u8; 24]) -> u32
         m = with_if(m, live, (j % 256) as u8);
     }
     m
+}
+
+// j is among the children of p, if it is live.
+fn enrol_if(children: &mut [u32; 32], p: u8, live: bool, j: u8)
+    requires { ⌜ (p < 32) × (j < 24) × (length (now children) ≡ 32) ⌝ }
+    ensures { λ _. ⌜ Rows 32 (λ q k. sets (now (children .entry)) q k || (same k j && (live && same p q))) (now (children .exit)) ⌝ }
+{
+    if live {
+        let i = p as usize;
+        children[i] = sets::with(children[i], j);
+    }
+}
+
+// Of each parent the set of its live children, 31 being the parent of those at the top.
+pub fn children_of(parent: &[u8; 24], depth: &[u8; 24]) -> [u32; 32]
+    requires { ⌜ (length (now parent) ≡ 24) × (length (now depth) ≡ 24) × ((u : ℕ) → getD (now parent) u 0 < 32) ⌝ }
+    ensures { λ r. ⌜ (length r ≡ 32) × ((p : ℕ) → p < 32 → sets r p ≡ (λ u. not (same (getD (now (depth .entry)) u 0) 0) && same (getD (now (parent .entry)) u 0) p)) ⌝ }
+{
+    let mut children = [0u32; 32];
+    for j in 0..24 {
+        let alive = depth[j] != 0;
+        enrol_if(&mut children, parent[j], alive, (j % 256) as u8);
+    }
+    children
 }
 
 // t and its live descendants.

@@ -1,0 +1,15 @@
+-- Who is live, and who stands under whom, as sets beside the arrays of parents and depths.
+use mathlib.Core.Path.{_≡_}
+use mathlib.Core.Bool.{not, _&&_}
+use mathlib.Core.List.{List}
+use Prim.Native.Nat.{ℕ, _<_}
+use lib.ListN.{getD, length}
+use Rattle.laws.specs.Tests.{same}
+use Rattle.laws.specs.Bits.{bits}
+use Rattle.sets.specs.Sets.{sets}
+
+-- The live transactions, and for each parent its live children. Place 31 has the top transactions, whose parent is 31.
+pub record Kin (parent depth : List ℕ) (live : ℕ) (children : List ℕ) : Type 0 where
+  pub lives : bits live ≡ (λ u. not (same (getD depth u 0) 0))
+  pub under : (p : ℕ) → p < 32 → sets children p ≡ (λ u. not (same (getD depth u 0) 0) && same (getD parent u 0) p)
+  pub long : length children ≡ 32
