@@ -53,9 +53,14 @@ unfolding joined
 kin-begun parent depth children children′ live live′ f p d K np nd hf free hp hd le R = record {
   lives = le ∙ fun-ext (λ k. rw (live-at K k, at-set depth f d k (omega arith)) (lives k (same? k f)));
   under = λ q hq. ap (λ (o : Owners). o q) now ∙ fun-ext (λ k. rw (child-at K q k hq, at-set depth f d k (omega arith), at-set parent f p k (omega arith)) (under q k (same? k f) (same? q p)));
+  named = λ k. rw (at-set parent f p k (omega arith)) (named (same k f) (getD parent k 0) (K .named k));
   long = row-long _ _ _ _ R ∙ K .long;
 }
   where
+    named : (b : Bool) (m : ℕ) → m < 32 → cond b p m < 32
+    named true m h = hp
+    named false m h = h
+
     now : sets children′ ≡ joined f p (sets children)
     now = ap sets (R .is) ∙ sets-joined children f p (R .word) (let n = K .long in omega arith) (R .holds)
 
@@ -80,9 +85,14 @@ unfolding less leaving places cleared
 kin-cleared gone parent parent′ depth depth′ children children′ live live′ K P D le C = record {
   lives = le ∙ fun-ext (λ k. rw (live-at K k, at D k) (lives (gone k) (getD depth k 0)));
   under = λ q hq. ap (λ (o : Owners). o q) (C .are) ∙ fun-ext (λ k. rw (child-at K q k hq, at D k, at P k) (under (gone k) (getD depth k 0) (getD parent k 0) q));
+  named = λ k. rw (at P k) (named (gone k) (getD parent k 0) (K .named k));
   long = C .long;
 }
   where
+    named : (b : Bool) (m : ℕ) → m < 32 → cond b 0 m < 32
+    named true m h = omega arith
+    named false m h = h
+
     at : {l l′ : List ℕ} → Cleared gone l l′ → (k : ℕ) → getD l′ k 0 ≡ cond (gone k) 0 (getD l k 0)
     at C k = ap (λ (f : ℕ → ℕ). f k) (C .are)
 
@@ -130,6 +140,7 @@ pub kin-none : Kin (replicate 24 0) (replicate 24 0) 0 (replicate 32 0)
 kin-none = record {
   lives = fun-ext (λ k. rw (none-at 24 k, same-refl 0) (bits-zero k));
   under = λ q h. fun-ext (λ k. rw (none-at 24 k, same-refl 0) (none-sets 32 q k));
+  named = λ k. let e = none-at 24 k in omega arith;
   long = length-replicate {A = ℕ} 32 0;
 }
 

@@ -12,4 +12,5 @@ use Rattle.sets.specs.Sets.{sets}
 pub record Kin (parent depth : List ℕ) (live : ℕ) (children : List ℕ) : Type 0 where
   pub lives : bits live ≡ (λ u. not (same (getD depth u 0) 0))
   pub under : (p : ℕ) → p < 32 → sets children p ≡ (λ u. not (same (getD depth u 0) 0) && same (getD parent u 0) p)
+  pub named : (u : ℕ) → getD parent u 0 < 32
   pub long : length children ≡ 32

@@ -13,7 +13,7 @@ use Rattle.laws.specs.Tests.{same}
 use Rattle.laws.specs.Counting.{lowest}
 use Rattle.laws.specs.Functions.{updated}
 use Rattle.laws.specs.Bits.{bits}
-use Rattle.laws.proofs.Tests.{same?, Same, is, isnt, same-refl, ne-false}
+use Rattle.laws.proofs.Tests.{same?, Same, is, isnt, same-refl, same-eq, ne-false}
 use Rattle.laws.proofs.Booleans.{refute, clash}
 use Rattle.laws.proofs.Counting.{Lowest, found, missing, lowest-is}
 use Rattle.rules.specs.Geometry.{nobody}
@@ -28,6 +28,8 @@ use Rattle.sets.specs.Sets.{sets}
 use Rattle.sets.proofs.Sets.{sets-set}
 use Rattle.arrays.specs.View.{bearerAt, bearersOf, slot, versionsOf}
 use Rattle.arrays.specs.Changes.{Row}
+use Rattle.arrays.specs.Kin.{Kin}
+use Rattle.arrays.proofs.Kin.{kin-begun}
 use Rattle.arrays.proofs.View.{depth-is, free-is}
 use Rattle.events.specs.Whole.{Arrays, arrays, view, lineIn, Formed, Intact, Stepped}
 use Rattle.events.proofs.Rules.{full, not-full, begin-unknown, begin-deep, begin-full, begin-done}
@@ -158,6 +160,21 @@ free-place f depth e n = let k = lowest-small (lowest-is 24 (λ u. same (getD de
     lowest-small : Lowest 24 (λ u. same (getD depth u 0) 0) 0 (lowest 24 (λ u. same (getD depth u 0) 0)) → lowest 24 (λ u. same (getD depth u 0) 0) ≤ 24
     lowest-small (found q h k) = omega arith
     lowest-small (missing q k) = omega arith
+
+-- and its depth is 0
+free-depth : (f : ℕ) (depth : List ℕ) → f ≡ lowest 24 (λ u. same (getD depth u 0) 0) → f ≢ 24 → getD depth f 0 ≡ 0
+free-depth f depth e n = same-eq (getD depth f 0) 0 (ap (λ (i : ℕ). same (getD depth i 0) 0) e ∙ go (lowest-is 24 (λ u. same (getD depth u 0) 0)))
+  where
+    go : Lowest 24 (λ u. same (getD depth u 0) 0) 0 (lowest 24 (λ u. same (getD depth u 0) 0)) → same (getD depth (lowest 24 (λ u. same (getD depth u 0) 0)) 0) 0 ≡ true
+    go (found q h k) = q
+    go (missing q k) = absurd (n (e ∙ q))
+
+-- who has its place is among the live ones, and among the children of its parent
+pub begin-kin : (parent depth children parent′ depth′ children′ : List ℕ) (live live′ f p d : ℕ) → Kin parent depth live children → length parent ≡ 24 → length depth ≡ 24
+    → f ≡ lowest 24 (λ u. same (getD depth u 0) 0) → f ≢ 24 → p < 32 → parent′ ≡ set parent f p → depth′ ≡ set depth f (d + 1)
+    → bits live′ ≡ (λ k. bits live k || same k f) → Row p (λ k. sets children p k || same k f) children children′ → Kin parent′ depth′ live′ children′
+begin-kin parent depth children parent′ depth′ children′ live live′ f p d K np nd first n hp P D L C =
+    rw (P, D) (kin-begun parent depth children children′ live live′ f p (d + 1) K np nd (free-place f depth first n) (free-depth f depth first n) hp (omega arith) L C)
 
 -- a transaction has its place
 pub begin-placed : (x : Arrays) → Intact x → x .up ≡ 1 → (p d f above : ℕ) → d < depths → d ≡ getD (x .depth) p 0 → (d ≡ 0 → p ≡ 31)

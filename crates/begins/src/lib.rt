@@ -8,6 +8,7 @@ ghost use Rattle.laws.specs.Bits.{bits};
 ghost use Rattle.rules.specs.Event.{begin};
 ghost use Rattle.rules.specs.Editions.{depths};
 ghost use Rattle.sets.specs.Sets.{sets};
+ghost use Rattle.arrays.specs.Kin.{Kin};
 ghost use Rattle.events.specs.Whole.{Arrays, arrays, Intact, Stepped};
 use events::Answer;
 
@@ -18,14 +19,17 @@ fn begin_under(
     parent: &mut [u8; 24],
     depth: &mut [u8; 24],
     line: &mut [u32; 24],
+    live: &mut u32,
+    children: &mut [u32; 32],
     p: u8,
     d: u8,
     above: u32,
 ) -> Answer
-    requires { ⌜ (d < depths) × (d ≡ getD (now depth) p 0) × (bits above ≡ sets (now line) p) × ((d ≡ 0) → p ≡ 31) ⌝ }
+    requires { ⌜ (d < depths) × (d ≡ getD (now depth) p 0) × (bits above ≡ sets (now line) p) × ((d ≡ 0) → p ≡ 31) × (p < 32) × (length (now parent) ≡ 24) × (length (now depth) ≡ 24) × Kin (now parent) (now depth) (now live) (now children) ⌝ }
     ensures { λ a. ⌜ ((up : ℕ) (held retained writers work store : List ℕ) → Intact (arrays up (now (parent .entry)) (now (depth .entry)) (now (line .entry)) held retained writers work store) → up ≡ 1 → Stepped (arrays up (now (parent .entry)) (now (depth .entry)) (now (line .entry)) held retained writers work store) (some (begin p)) a (arrays up (now (parent .exit)) (now (depth .exit)) (now (line .exit)) held retained writers work store)) ⌝ }
+    ensures { λ _. ⌜ Kin (now (parent .exit)) (now (depth .exit)) (now (live .exit)) (now (children .exit)) ⌝ }
 {
-    let f = transactions::first_free(depth);
+    let f = transactions::lowest_free(*live);
     if f == 24 {
         return Answer {
             number: 7,
@@ -33,6 +37,7 @@ fn begin_under(
         };
     }
     transactions::place(parent, depth, line, f, p, d + 1, above);
+    transactions::enrol(live, children, p, f);
     Answer {
         number: 0,
         value: f,
@@ -44,13 +49,16 @@ pub fn begin_event(
     parent: &mut [u8; 24],
     depth: &mut [u8; 24],
     line: &mut [u32; 24],
+    live: &mut u32,
+    children: &mut [u32; 32],
     p: u8,
 ) -> Answer
-    requires { ⌜ (p < 32) × (length (now depth) ≡ 24) × (length (now line) ≡ 24) × ((k : ℕ) → getD (now depth) k 0 ≤ depths) ⌝ }
+    requires { ⌜ (p < 32) × (length (now depth) ≡ 24) × (length (now line) ≡ 24) × ((k : ℕ) → getD (now depth) k 0 ≤ depths) × (length (now parent) ≡ 24) × Kin (now parent) (now depth) (now live) (now children) ⌝ }
     ensures { λ a. ⌜ ((up : ℕ) (held retained writers work store : List ℕ) → Intact (arrays up (now (parent .entry)) (now (depth .entry)) (now (line .entry)) held retained writers work store) → up ≡ 1 → Stepped (arrays up (now (parent .entry)) (now (depth .entry)) (now (line .entry)) held retained writers work store) (some (begin p)) a (arrays up (now (parent .exit)) (now (depth .exit)) (now (line .exit)) held retained writers work store)) ⌝ }
+    ensures { λ _. ⌜ Kin (now (parent .exit)) (now (depth .exit)) (now (live .exit)) (now (children .exit)) ⌝ }
 {
     if p == 31 {
-        return begin_under(parent, depth, line, 31, 0, 0);
+        return begin_under(parent, depth, line, live, children, 31, 0, 0);
     }
     if 24 <= p {
         return Answer {
@@ -73,5 +81,5 @@ pub fn begin_event(
         };
     }
     let above = line[i];
-    begin_under(parent, depth, line, p, d, above)
+    begin_under(parent, depth, line, live, children, p, d, above)
 }

@@ -5,6 +5,7 @@ ghost use mathlib.Core.Option.{Option, none, some};
 ghost use Prim.Native.Nat.{ℕ};
 ghost use lib.ListN.{length, replicate};
 ghost use Rattle.rules.specs.Event.{crash, recover};
+ghost use Rattle.arrays.specs.Kin.{Kin};
 ghost use Rattle.events.specs.Whole.{Arrays, arrays, Intact, Stepped};
 use events::Answer;
 
@@ -14,16 +15,21 @@ pub fn fall(
     parent: &mut [u8; 24],
     depth: &mut [u8; 24],
     line: &mut [u32; 24],
+    live: &mut u32,
+    children: &mut [u32; 32],
     held: &mut [u32; 32],
     retained: &mut [u32; 32],
     writers: &mut [u32; 16],
 )
     ensures { λ _. ⌜ (now (up .exit) ≡ 0) × (now (parent .exit) ≡ replicate 24 0) × (now (depth .exit) ≡ replicate 24 0) × (now (line .exit) ≡ replicate 24 0) × (now (held .exit) ≡ replicate 32 0) × (now (retained .exit) ≡ replicate 32 0) × (now (writers .exit) ≡ replicate 16 0) ⌝ }
+    ensures { λ _. ⌜ Kin (now (parent .exit)) (now (depth .exit)) (now (live .exit)) (now (children .exit)) ⌝ }
 {
     *up = 0;
     *parent = [0; 24];
     *depth = [0; 24];
     *line = [0; 24];
+    *live = 0;
+    *children = [0; 32];
     *held = [0; 32];
     *retained = [0; 32];
     *writers = [0; 16];
@@ -35,13 +41,26 @@ pub fn crash_event(
     parent: &mut [u8; 24],
     depth: &mut [u8; 24],
     line: &mut [u32; 24],
+    live: &mut u32,
+    children: &mut [u32; 32],
     held: &mut [u32; 32],
     retained: &mut [u32; 32],
     writers: &mut [u32; 16],
 ) -> Answer
     ensures { λ a. ⌜ ((work store : List ℕ) → Intact (arrays (now (up .entry)) (now (parent .entry)) (now (depth .entry)) (now (line .entry)) (now (held .entry)) (now (retained .entry)) (now (writers .entry)) work store) → Stepped (arrays (now (up .entry)) (now (parent .entry)) (now (depth .entry)) (now (line .entry)) (now (held .entry)) (now (retained .entry)) (now (writers .entry)) work store) (some (crash)) a (arrays (now (up .exit)) (now (parent .exit)) (now (depth .exit)) (now (line .exit)) (now (held .exit)) (now (retained .exit)) (now (writers .exit)) work store)) ⌝ }
+    ensures { λ _. ⌜ Kin (now (parent .exit)) (now (depth .exit)) (now (live .exit)) (now (children .exit)) ⌝ }
 {
-    fall(up, parent, depth, line, held, retained, writers);
+    fall(
+        up,
+        parent,
+        depth,
+        line,
+        live,
+        children,
+        held,
+        retained,
+        writers,
+    );
     Answer {
         number: 0,
         value: 0,

@@ -8,6 +8,7 @@ ghost use Rattle.rules.specs.State.{down};
 ghost use Rattle.rules.specs.Editions.{workBytes};
 ghost use Rattle.numbers.specs.Named.{transactionOf, recordOf};
 ghost use Rattle.event.specs.Meaning.{meaning, InRange};
+ghost use Rattle.arrays.specs.Kin.{Kin};
 ghost use Rattle.events.specs.Whole.{Arrays, arrays, view, Intact, Stepped, ReadyLeaf};
 use event::Event;
 use events::Answer;
@@ -16,23 +17,23 @@ use numbers::RecordNumber;
 use numbers::TransactionNamed;
 use numbers::TransactionNumber;
 
-// An event at a record, of a live transaction without a live child.
+// An event at a record, of a live transaction without a live child: the tree of transactions stays as it is.
 fn record_event(
-    up: &mut u8,
-    parent: &mut [u8; 24],
-    depth: &mut [u8; 24],
-    line: &mut [u32; 24],
+    up: &u8,
+    parent: &[u8; 24],
+    depth: &[u8; 24],
+    line: &[u32; 24],
     held: &mut [u32; 32],
-    retained: &mut [u32; 32],
+    retained: &[u32; 32],
     writers: &mut [u32; 16],
     work: &mut [u8],
-    store: &mut [u8],
+    store: &[u8],
     e: Event,
     t: TransactionNumber,
     r: RecordNumber,
 ) -> Answer
     requires { ⌜ (transactionOf t ≡ e .transaction) × (recordOf r ≡ e .rec) × (1 < e .kind) × (e .kind < 5) × InRange e × Intact (arrays (now up) (now parent) (now depth) (now line) (now held) (now retained) (now writers) (now work) (now store)) × ReadyLeaf (arrays (now up) (now parent) (now depth) (now line) (now held) (now retained) (now writers) (now work) (now store)) (transactionOf t) ⌝ }
-    ensures { λ a. ⌜ Stepped (arrays (now (up .entry)) (now (parent .entry)) (now (depth .entry)) (now (line .entry)) (now (held .entry)) (now (retained .entry)) (now (writers .entry)) (now (work .entry)) (now (store .entry))) (meaning e) a (arrays (now (up .exit)) (now (parent .exit)) (now (depth .exit)) (now (line .exit)) (now (held .exit)) (now (retained .exit)) (now (writers .exit)) (now (work .exit)) (now (store .exit))) ⌝ }
+    ensures { λ a. ⌜ Stepped (arrays (now (up .entry)) (now (parent .entry)) (now (depth .entry)) (now (line .entry)) (now (held .entry)) (now (retained .entry)) (now (writers .entry)) (now (work .entry)) (now (store .entry))) (meaning e) a (arrays (now (up .entry)) (now (parent .entry)) (now (depth .entry)) (now (line .entry)) (now (held .exit)) (now (retained .entry)) (now (writers .exit)) (now (work .exit)) (now (store .entry))) ⌝ }
 {
     let o = e.offset as usize;
     let kind = e.kind;
@@ -49,6 +50,8 @@ fn named_event(
     parent: &mut [u8; 24],
     depth: &mut [u8; 24],
     line: &mut [u32; 24],
+    live: &mut u32,
+    children: &mut [u32; 32],
     held: &mut [u32; 32],
     retained: &mut [u32; 32],
     writers: &mut [u32; 16],
@@ -57,8 +60,9 @@ fn named_event(
     e: Event,
     t: TransactionNumber,
 ) -> Answer
-    requires { ⌜ (transactionOf t ≡ e .transaction) × (1 < e .kind) × (e .kind < 7) × InRange e × Intact (arrays (now up) (now parent) (now depth) (now line) (now held) (now retained) (now writers) (now work) (now store)) × (now up ≡ 1) ⌝ }
+    requires { ⌜ (transactionOf t ≡ e .transaction) × (1 < e .kind) × (e .kind < 7) × InRange e × Intact (arrays (now up) (now parent) (now depth) (now line) (now held) (now retained) (now writers) (now work) (now store)) × (now up ≡ 1) × Kin (now parent) (now depth) (now live) (now children) ⌝ }
     ensures { λ a. ⌜ Stepped (arrays (now (up .entry)) (now (parent .entry)) (now (depth .entry)) (now (line .entry)) (now (held .entry)) (now (retained .entry)) (now (writers .entry)) (now (work .entry)) (now (store .entry))) (meaning e) a (arrays (now (up .exit)) (now (parent .exit)) (now (depth .exit)) (now (line .exit)) (now (held .exit)) (now (retained .exit)) (now (writers .exit)) (now (work .exit)) (now (store .exit))) ⌝ }
+    ensures { λ _. ⌜ Kin (now (parent .exit)) (now (depth .exit)) (now (live .exit)) (now (children .exit)) ⌝ }
 {
     let kind = e.kind;
     if depth[e.transaction as usize] == 0 {
@@ -73,6 +77,8 @@ fn named_event(
             parent,
             depth,
             line,
+            live,
+            children,
             held,
             retained,
             writers,
@@ -87,6 +93,8 @@ fn named_event(
             parent,
             depth,
             line,
+            live,
+            children,
             held,
             retained,
             writers,
@@ -94,7 +102,7 @@ fn named_event(
             e.value != 0,
         );
     }
-    if transactions::has_child(parent, depth, e.transaction) {
+    if transactions::has_children(children, e.transaction) {
         return Answer {
             number: 14,
             value: 0,
@@ -128,6 +136,8 @@ pub fn step(
     parent: &mut [u8; 24],
     depth: &mut [u8; 24],
     line: &mut [u32; 24],
+    live: &mut u32,
+    children: &mut [u32; 32],
     held: &mut [u32; 32],
     retained: &mut [u32; 32],
     writers: &mut [u32; 16],
@@ -135,8 +145,9 @@ pub fn step(
     store: &mut [u8],
     e: Event,
 ) -> Answer
-    requires { ⌜ InRange e × Intact (arrays (now up) (now parent) (now depth) (now line) (now held) (now retained) (now writers) (now work) (now store)) ⌝ }
+    requires { ⌜ InRange e × Intact (arrays (now up) (now parent) (now depth) (now line) (now held) (now retained) (now writers) (now work) (now store)) × Kin (now parent) (now depth) (now live) (now children) ⌝ }
     ensures { λ a. ⌜ Stepped (arrays (now (up .entry)) (now (parent .entry)) (now (depth .entry)) (now (line .entry)) (now (held .entry)) (now (retained .entry)) (now (writers .entry)) (now (work .entry)) (now (store .entry))) (meaning e) a (arrays (now (up .exit)) (now (parent .exit)) (now (depth .exit)) (now (line .exit)) (now (held .exit)) (now (retained .exit)) (now (writers .exit)) (now (work .exit)) (now (store .exit))) × Intact (arrays (now (up .exit)) (now (parent .exit)) (now (depth .exit)) (now (line .exit)) (now (held .exit)) (now (retained .exit)) (now (writers .exit)) (now (work .exit)) (now (store .exit))) ⌝ }
+    ensures { λ _. ⌜ Kin (now (parent .exit)) (now (depth .exit)) (now (live .exit)) (now (children .exit)) ⌝ }
 {
     let kind = e.kind;
     let t = e.transaction;
@@ -147,7 +158,17 @@ pub fn step(
         };
     }
     if kind == 7 {
-        return crashes::crash_event(up, parent, depth, line, held, retained, writers);
+        return crashes::crash_event(
+            up,
+            parent,
+            depth,
+            line,
+            live,
+            children,
+            held,
+            retained,
+            writers,
+        );
     }
     if kind == 8 {
         return crashes::recover_event(up, store, e.count);
@@ -159,7 +180,7 @@ pub fn step(
         };
     }
     if kind == 1 {
-        return begins::begin_event(parent, depth, line, t);
+        return begins::begin_event(parent, depth, line, live, children, t);
     }
     match TransactionNumber::checked(t) {
         TransactionNamed::Number(n) => named_event(
@@ -167,6 +188,8 @@ pub fn step(
             parent,
             depth,
             line,
+            live,
+            children,
             held,
             retained,
             writers,

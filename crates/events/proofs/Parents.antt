@@ -1,14 +1,17 @@
--- The line of a transaction by its depth: alone at the top, else above it stands its parent, which is another and one less deep.
-use mathlib.Core.Path.{_≡_, sym, ap, _∙_}
+-- The line of a transaction by its depth: alone at the top, else above it stands its parent, which is another and one less deep. Every parent is a
+-- name.
+use mathlib.Core.Path.{_≡_, refl, sym, ap, _∙_}
+use mathlib.Core.Bool.{true}
 use mathlib.Core.List.{[], _∷_}
-use mathlib.Core.Logic.{_≢_}
-use Prim.Native.Nat.{ℕ, suc}
+use mathlib.Core.Logic.{_≢_, _⊎_, inl, inr}
+use Prim.Native.Nat.{ℕ, zero, suc, _<_}
 use native.Mathlib.Omega.{arith}
 use lib.ListN.{getD}
-use Rattle.rules.specs.State.{Bearers, parentIn, depthIn, chain, lineOf}
+use Rattle.rules.specs.Geometry.{nobody}
+use Rattle.rules.specs.State.{Bearers, parentIn, depthIn, chain, lineOf, live}
 use Rattle.rules.proofs.Bearers.{up-one}
 use Rattle.rules.proofs.Locks.{rooted-of}
-use Rattle.arrays.specs.View.{bearersOf}
+use Rattle.arrays.specs.View.{bearerAt, bearersOf}
 use Rattle.arrays.proofs.View.{depth-is, parent-is}
 use Rattle.events.specs.Whole.{Arrays, view, Intact}
 
@@ -50,3 +53,16 @@ module _ (x : Arrays) (I : Intact x) (t : ℕ) where
     pub parent-line : lineOf b p ≡ p ∷ chain b n (parentIn (b p))
     unfolding lineOf chain
     parent-line = ap (λ (m : ℕ). chain b m p) (depth-is (x .parent) (x .depth) p ∙ parent-deep)
+
+-- every parent is a name: of a free number 0, of others nobody's or a live number
+pub parent-named : (x : Arrays) → Intact x → (t : ℕ) → getD (x .parent) t 0 < 32
+unfolding view bearersOf bearerAt
+parent-named x I t = go (getD (x .depth) t 0) refl
+  where
+    go : (n : ℕ) → getD (x .depth) t 0 ≡ n → getD (x .parent) t 0 < 32
+    go zero e = let z = I .form .tidy t e in omega arith
+    go (suc n) e = named (I .sound .parented t (getD (x .parent) t 0) (suc n) (ap (bearerAt (getD (x .parent) t 0)) e))
+      where
+        named : (getD (x .parent) t 0 ≡ nobody) ⊎ (live (view x) (getD (x .parent) t 0) ≡ true) → getD (x .parent) t 0 < 32
+        named (inl q) = omega arith
+        named (inr q) = let h = I .sound .numbered (getD (x .parent) t 0) q in omega arith

@@ -2,6 +2,8 @@
 //   up              1 while up, 0 while down
 //   parent, depth   of each transaction; 0 where the number is free; a top transaction has the parent 31
 //   line            of each transaction: the set of itself and its ancestors; empty where the number is free
+//   live            the set of live transactions
+//   children        of each parent: the set of its live children; at 31 the top transactions
 //   held, retained  of each record: at 2 * r the set of transactions that hold or retain its lock, at 2 * r + 1 of those that do so in write mode
 //   writers         of each record: the set of transactions that have a version of it
 //   work            slot r * DEPTHS + depth - 1 holds the version of record r of the writer at that depth
@@ -17,6 +19,7 @@ ghost use Rattle.rules.specs.Step.{hasChild};
 ghost use Rattle.rules.specs.Editions.{depths, workBytes};
 ghost use Rattle.sets.specs.Sets.{sets};
 ghost use Rattle.arrays.specs.Changes.{accessWhen};
+ghost use Rattle.arrays.specs.Kin.{Kin};
 ghost use Rattle.slots.specs.Parts.{Sources};
 ghost use Rattle.numbers.specs.Named.{transactionOf, recordOf};
 ghost use Rattle.events.specs.Whole.{Arrays, arrays, view, Intact, Stepped, Ready, ReadyLeaf};
@@ -124,14 +127,17 @@ pub fn abort_event(
     parent: &mut [u8; 24],
     depth: &mut [u8; 24],
     line: &mut [u32; 24],
+    live: &mut u32,
+    children: &mut [u32; 32],
     held: &mut [u32; 32],
     retained: &mut [u32; 32],
     writers: &mut [u32; 16],
     t: TransactionNumber,
     report: bool,
 ) -> Answer
-    requires { ⌜ (length (now parent) ≡ 24) × (length (now depth) ≡ 24) × (length (now line) ≡ 24) × (length (now held) ≡ 32) × (length (now retained) ≡ 32) × (length (now writers) ≡ 16) × Sources (now parent) (now depth) ⌝ }
+    requires { ⌜ (length (now parent) ≡ 24) × (length (now depth) ≡ 24) × (length (now line) ≡ 24) × (length (now held) ≡ 32) × (length (now retained) ≡ 32) × (length (now writers) ≡ 16) × Sources (now parent) (now depth) × Kin (now parent) (now depth) (now live) (now children) ⌝ }
     ensures { λ a. ⌜ ((up : ℕ) (work store : List ℕ) → Intact (arrays up (now (parent .entry)) (now (depth .entry)) (now (line .entry)) (now (held .entry)) (now (retained .entry)) (now (writers .entry)) work store) → Ready (arrays up (now (parent .entry)) (now (depth .entry)) (now (line .entry)) (now (held .entry)) (now (retained .entry)) (now (writers .entry)) work store) (transactionOf t) → Stepped (arrays up (now (parent .entry)) (now (depth .entry)) (now (line .entry)) (now (held .entry)) (now (retained .entry)) (now (writers .entry)) work store) (some (abort (transactionOf t) report)) a (arrays up (now (parent .exit)) (now (depth .exit)) (now (line .exit)) (now (held .exit)) (now (retained .exit)) (now (writers .exit)) work store)) ⌝ }
+    ensures { λ _. ⌜ Kin (now (parent .exit)) (now (depth .exit)) (now (live .exit)) (now (children .exit)) ⌝ }
 {
     let n = t.number();
     let i = n as usize;
@@ -140,6 +146,8 @@ pub fn abort_event(
     let gone = transactions::descendants(line, n);
     locks::discard(held, retained, writers, gone);
     transactions::end(parent, depth, line, gone);
+    *live = sets::minus(*live, gone);
+    locks::leave(children, gone);
     Answer {
         number: 0,
         value: 0,

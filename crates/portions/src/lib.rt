@@ -55,6 +55,8 @@ pub fn portion(
     let mut held = e.held;
     let mut retained = e.retained;
     let mut writers = e.writers;
+    let mut live = transactions::live_set(&depth);
+    let mut children = transactions::children_of(&parent, &depth);
     let table = Event::table();
     let n = events.len() / 4;
     for k in 0..n {
@@ -64,6 +66,8 @@ pub fn portion(
             &mut parent,
             &mut depth,
             &mut line,
+            &mut live,
+            &mut children,
             &mut held,
             &mut retained,
             &mut writers,

@@ -21,22 +21,22 @@ use Rattle.begins.proofs.begin_event.Lts as lts
 use Rattle.begins.proofs.begin_under.Reads as begin-under-reads
 
 begin-under-requires : tie.Need-begin-under-requires
-begin-under-requires c κs = (search needs, sym (List·getD-eq-default (c .before .before .before .before .args .depth .now) 0 {n = 31} (let k = c .before .before .before .before .pre .1 in omega arith)), fun-ext (λ k. bits-zero k ∙ sym (sets-past (c .before .before .before .before .args .line .now) 31 k (let m = c .before .before .before .before .pre .2 in omega arith))), λ z. refl)
+begin-under-requires c κs = (search needs, sym (List·getD-eq-default (c .before .before .before .before .before .before .args .depth .now) 0 {n = 31} (let k = c .before .before .before .before .before .before .pre .1 in omega arith)), fun-ext (λ k. bits-zero k ∙ sym (sets-past (c .before .before .before .before .before .before .args .line .now) 31 k (let m = c .before .before .before .before .before .before .pre .2 in omega arith))), λ z. refl, omega arith, c .before .before .before .before .before .before .pre .4, c .before .before .before .before .before .before .pre .1, c .before .before .before .before .before .before .pre .5)
 
 returns : tie.Need-returns
-returns c = λ up held retained writers work store I u. retold _ _ _ _ _ (ap (λ (p : ℕ). some (begin p)) (c .before .before .before .before .if1 .taken)) (c .begin-under .ensures up held retained writers work store I u)
+returns c = (λ up held retained writers work store I u. retold _ _ _ _ _ (ap (λ (p : ℕ). some (begin p)) (c .before .before .before .before .before .before .if1 .taken)) (c .begin-under .ensures .0 up held retained writers work store I u), c .begin-under .ensures .1)
 
 returns-2 : tie.Need-returns-2
-returns-2 c = λ up held retained writers work store I u. begin-refuses-5 _ I u (c .before .before .args .p) (c .before .if1 .left) (List·getD-eq-default (c .before .before .args .depth .now) 0 {n = c .before .before .args .p} (let k = c .before .before .pre .1 in omega arith))
+returns-2 c = (λ up held retained writers work store I u. begin-refuses-5 _ I u (c .before .before .args .p) (c .before .if1 .left) (List·getD-eq-default (c .before .before .args .depth .now) 0 {n = c .before .before .args .p} (let k = c .before .before .pre .1 in omega arith)), c .before .before .pre .5)
 
 element-copy-out-d : tie.Need-element-copy-out-d
 element-copy-out-d c = search needs
 
 returns-3 : tie.Need-returns-3
-returns-3 c = λ up held retained writers work store I u. begin-refuses-5 _ I u (c .before .before .before .before .args .p) (c .before .before .before .if1 .left) (c .if3 .taken)
+returns-3 c = (λ up held retained writers work store I u. begin-refuses-5 _ I u (c .before .before .before .before .args .p) (c .before .before .before .if1 .left) (c .if3 .taken), c .before .before .before .before .pre .5)
 
 returns-4 : tie.Need-returns-4
-returns-4 c = λ up held retained writers work store I u. begin-refuses-6 _ I u (c .before .before .before .before .before .args .p) (c .if4 .taken)
+returns-4 c = (λ up held retained writers work store I u. begin-refuses-6 _ I u (c .before .before .before .before .before .args .p) (c .if4 .taken), c .before .before .before .before .before .pre .5)
 
 mul-above : tie.Need-mul-above
 mul-above c = search needs
@@ -46,7 +46,7 @@ element-copy-out-above c = search needs
 
 begin-under-requires-2 : tie.Need-begin-under-requires-2
 unfolding sets
-begin-under-requires-2 c κs = (let k = c .before .before .before .before .before .before .before .before .before .pre .3 (c .before .before .before .before .before .before .before .before .before .args .p) in omega arith, refl, refl, λ z. absurd (omega arith))
+begin-under-requires-2 c κs = (let k = c .before .before .before .before .before .before .before .before .before .before .before .pre .3 (c .before .before .before .before .before .before .before .before .before .before .before .args .p) in omega arith, refl, refl, λ z. absurd (omega arith), c .before .before .before .before .before .before .before .before .before .before .before .pre .0, c .before .before .before .before .before .before .before .before .before .before .before .pre .4, c .before .before .before .before .before .before .before .before .before .before .before .pre .1, c .before .before .before .before .before .before .before .before .before .before .before .pre .5)
 
 returns-5 : tie.Need-returns-5
 returns-5 c = search needs

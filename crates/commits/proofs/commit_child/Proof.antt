@@ -10,6 +10,7 @@ use Rattle.sets.specs.Sets.{sets}
 use Rattle.rules.specs.Store.{pagesOf}
 use Rattle.slots.specs.Parts.{lifted}
 use Rattle.slots.proofs.Walk.{parent-below}
+use Rattle.arrays.proofs.Kin.{kin-retired}
 use borrow.Author.Needs.{needs}
 use Rattle.commits.proofs.commit_child.Statement.{statement}
 use Rattle.commits.proofs.commit_child.Tie as tie
@@ -18,6 +19,7 @@ use Rattle.commits.proofs.commit_child.Lts as lts
 use Rattle.locks.proofs.pass.Reads as pass-reads
 use Rattle.slots.proofs.lift.Reads as lift-reads
 use Rattle.transactions.proofs.retire.Reads as retire-reads
+use Rattle.transactions.proofs.strike.Reads as strike-reads
 
 element-copy-out-p : tie.Need-element-copy-out-p
 element-copy-out-p c = search needs
@@ -29,6 +31,9 @@ lift-requires c κs = let a = c .before .before .before .before .args in let k =
 pass-requires : tie.Need-pass-requires
 pass-requires c κs = let e = c .before .before .before .before .before .before .before .before .before .pre .9 in (omega arith, parent-below _ _ (c .before .before .before .before .before .before .before .before .before .pre .10) (c .before .before .before .before .before .before .before .before .before .args .t) (omega arith), search needs, search needs)
 
+strike-requires : tie.Need-strike-requires
+strike-requires c κs = (c .before .before .before .before .before .before .before .before .before .before .before .before .pre .11 .named (c .before .before .before .before .before .before .before .before .before .before .before .before .args .t), c .before .before .before .before .before .before .before .before .before .before .before .before .pre .0, c .before .before .before .before .before .before .before .before .before .before .before .before .pre .11 .long)
+
 retire-requires : tie.Need-retire-requires
 retire-requires c κs = search needs
 
@@ -36,13 +41,14 @@ same-length : tie.Need-same-length
 same-length c = search needs
 
 returns : tie.Need-returns
-returns c = λ up k store I R childless. let a = c .before .before .before .before .before .before .before .before .before .before .before .before .before .before .args in let e = c .retire .ensures in let f = c .before .before .before .before .pass .ensures in let g = c .before .before .before .before .before .before .before .before .before .lift .ensures in let q = c .before .before .before .before .before .before .before .before .before .before .before .before .before .before .pre .9 in
+returns c = let a = c .before .before .before .before .before .before .before .before .before .before .before .before .before .before .before .before .before .args in let e = c .retire .ensures in let f = c .before .before .before .before .before .before .before .pass .ensures in let g = c .before .before .before .before .before .before .before .before .before .before .before .before .lift .ensures in let q = c .before .before .before .before .before .before .before .before .before .before .before .before .before .before .before .before .before .pre .9 in let s = c .before .before .before .before .strike .ensures in
     let n = getD (a .depth .now) (a .t) 0 - 2 in
     let deep : getD (a .depth .now) (a .t) 0 ≡ suc (suc n) = omega arith in
-    child-steps _ I (a .t) k R childless n deep _ _ _ _ _ _ _ (e .0) (e .1) (e .2) (f .0) (f .1) (g .1)
-    (g .0 ∙ ap (λ (m : ℕ). lifted (sets (a .writers .now)) (a .t) m (pagesOf (a .work .now))) (q ∙ deep)) (search needs)
+    (λ up k store I R childless. child-steps _ I (a .t) k R childless n deep _ _ _ _ _ _ _ (e .0) (e .1) (e .2) (f .0) (f .1) (g .1)
+    (g .0 ∙ ap (λ (m : ℕ). lifted (sets (a .writers .now)) (a .t) m (pagesOf (a .work .now))) (q ∙ deep)) (search needs),
+    kin-retired _ _ _ _ _ _ _ _ (a .t) _ (c .before .before .before .before .before .before .before .before .before .before .before .before .before .before .before .before .before .pre .11) refl (c .before .before .before .before .before .before .before .before .before .before .before .before .before .before .before .before .before .pre .11 .named (a .t)) (e .0) (e .1) (s .0) (s .1))
 
 pub commit-child-spec : {M : Type 1} → statement M
 commit-child-spec =
     tie.close
-    (tie.spec element-copy-out-p lift-requires pass-requires retire-requires same-length returns)
+    (tie.spec element-copy-out-p lift-requires pass-requires strike-requires retire-requires same-length returns)

@@ -17,7 +17,7 @@ fall-requires : tie.Need-fall-requires
 fall-requires c κs = search needs
 
 returns : tie.Need-returns
-returns c = λ work store I. crash-steps _ (I .form) _ _ _ _ _ _ _ (c .fall .ensures)
+returns c = (λ work store I. crash-steps _ (I .form) _ _ _ _ _ _ _ (c .fall .ensures .0), c .fall .ensures .1)
 
 pub crash-event-spec : {M : Type 1} → statement M
 crash-event-spec = tie.close (tie.spec fall-requires returns)

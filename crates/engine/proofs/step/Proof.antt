@@ -26,13 +26,13 @@ use Rattle.crashes.proofs.recover_event.Reads as recover-event-reads
 use Rattle.numbers.proofs.TransactionNumber.checked.Reads as checked-reads
 
 returns : tie.Need-returns
-returns c = keeps _ _ (c .before .before .before .args .e) _ (c .before .before .before .pre .0) (c .before .before .before .pre .1) (unmoved _ _ 1 (c .before .before .before .pre .1 .form) (ap (step edition1 _) (means-bad (c .before .before .before .args .e) (c .if1 .taken)) ∙ bad-refused edition1 _))
+returns c = (keeps _ _ (c .before .before .before .args .e) _ (c .before .before .before .pre .0) (c .before .before .before .pre .1) (unmoved _ _ 1 (c .before .before .before .pre .1 .form) (ap (step edition1 _) (means-bad (c .before .before .before .args .e) (c .if1 .taken)) ∙ bad-refused edition1 _)), c .before .before .before .pre .2)
 
 crash-event-requires : tie.Need-crash-event-requires
 crash-event-requires c κs = search needs
 
 returns-2 : tie.Need-returns-2
-returns-2 c = keeps _ _ (c .before .before .before .before .before .before .before .before .before .before .before .before .args .e) _ (c .before .before .before .before .before .before .before .before .before .before .before .before .pre .0) (c .before .before .before .before .before .before .before .before .before .before .before .before .pre .1) (retold _ _ _ _ _ (means-crash (c .before .before .before .before .before .before .before .before .before .before .before .before .args .e) (c .before .before .before .before .before .before .before .before .if2 .taken)) (c .crash-event .ensures _ _ (c .before .before .before .before .before .before .before .before .before .before .before .before .pre .1)))
+returns-2 c = (keeps _ _ (c .before .before .before .before .before .before .before .before .before .before .before .before .before .before .args .e) _ (c .before .before .before .before .before .before .before .before .before .before .before .before .before .before .pre .0) (c .before .before .before .before .before .before .before .before .before .before .before .before .before .before .pre .1) (retold _ _ _ _ _ (means-crash (c .before .before .before .before .before .before .before .before .before .before .before .before .before .before .args .e) (c .before .before .before .before .before .before .before .before .before .before .if2 .taken)) (c .crash-event .ensures .0 _ _ (c .before .before .before .before .before .before .before .before .before .before .before .before .before .before .pre .1))), c .crash-event .ensures .1)
 
 recover-event-requires : tie.Need-recover-event-requires
 recover-event-requires c κs = search needs
@@ -41,16 +41,16 @@ same-length : tie.Need-same-length
 same-length c = search needs
 
 returns-3 : tie.Need-returns-3
-returns-3 c = keeps _ _ (c .before .before .before .before .before .before .before .before .before .before .args .e) _ (c .before .before .before .before .before .before .before .before .before .before .pre .0) (c .before .before .before .before .before .before .before .before .before .before .pre .1) (retold _ _ _ _ _ (means-recover (c .before .before .before .before .before .before .before .before .before .before .args .e) (c .before .before .before .before .before .if3 .taken)) (c .before .before .recover-event .ensures _ _ _ _ _ _ _ (c .before .before .before .before .before .before .before .before .before .before .pre .1)))
+returns-3 c = (keeps _ _ (c .before .before .before .before .before .before .before .before .before .before .args .e) _ (c .before .before .before .before .before .before .before .before .before .before .pre .0) (c .before .before .before .before .before .before .before .before .before .before .pre .1) (retold _ _ _ _ _ (means-recover (c .before .before .before .before .before .before .before .before .before .before .args .e) (c .before .before .before .before .before .if3 .taken)) (c .before .before .recover-event .ensures _ _ _ _ _ _ _ (c .before .before .before .before .before .before .before .before .before .before .pre .1))), c .before .before .before .before .before .before .before .before .before .before .pre .2)
 
 returns-4 : tie.Need-returns-4
-returns-4 c = let R = c .before .before .before .before .before .before .before .pre .0 .kind in keeps _ _ (c .before .before .before .before .before .before .before .args .e) _ (c .before .before .before .before .before .before .before .pre .0) (c .before .before .before .before .before .before .before .pre .1) (down-steps _ (c .before .before .before .before .before .before .before .args .e) (c .before .before .before .before .before .before .before .pre .1) (omega arith) (omega arith) (c .if4 .taken))
+returns-4 c = let R = c .before .before .before .before .before .before .before .pre .0 .kind in (keeps _ _ (c .before .before .before .before .before .before .before .args .e) _ (c .before .before .before .before .before .before .before .pre .0) (c .before .before .before .before .before .before .before .pre .1) (down-steps _ (c .before .before .before .before .before .before .before .args .e) (c .before .before .before .before .before .before .before .pre .1) (omega arith) (omega arith) (c .if4 .taken)), c .before .before .before .before .before .before .before .pre .2)
 
 begin-event-requires : tie.Need-begin-event-requires
-begin-event-requires c κs = (c .before .before .before .before .before .before .before .before .before .before .before .pre .0 .transaction, c .before .before .before .before .before .before .before .before .before .before .before .pre .1 .form .depths, c .before .before .before .before .before .before .before .before .before .before .before .pre .1 .form .long, sources _ (c .before .before .before .before .before .before .before .before .before .before .before .pre .1) .shallow)
+begin-event-requires c κs = (c .before .before .before .before .before .before .before .before .before .before .before .before .before .pre .0 .transaction, c .before .before .before .before .before .before .before .before .before .before .before .before .before .pre .1 .form .depths, c .before .before .before .before .before .before .before .before .before .before .before .before .before .pre .1 .form .long, sources _ (c .before .before .before .before .before .before .before .before .before .before .before .before .before .pre .1) .shallow, c .before .before .before .before .before .before .before .before .before .before .before .before .before .pre .1 .form .parents, c .before .before .before .before .before .before .before .before .before .before .before .before .before .pre .2)
 
 returns-5 : tie.Need-returns-5
-returns-5 c = keeps _ _ (c .before .before .before .before .before .before .before .before .before .before .before .before .args .e) _ (c .before .before .before .before .before .before .before .before .before .before .before .before .pre .0) (c .before .before .before .before .before .before .before .before .before .before .before .before .pre .1) (retold _ _ _ _ _ (means-begin (c .before .before .before .before .before .before .before .before .before .before .before .before .args .e) (c .before .before .before .before .if5 .taken)) (c .begin-event .ensures _ _ _ _ _ _ (c .before .before .before .before .before .before .before .before .before .before .before .before .pre .1) (c .before .before .before .before .before .if4 .left)))
+returns-5 c = (keeps _ _ (c .before .before .before .before .before .before .before .before .before .before .before .before .before .before .args .e) _ (c .before .before .before .before .before .before .before .before .before .before .before .before .before .before .pre .0) (c .before .before .before .before .before .before .before .before .before .before .before .before .before .before .pre .1) (retold _ _ _ _ _ (means-begin (c .before .before .before .before .before .before .before .before .before .before .before .before .before .before .args .e) (c .before .before .before .before .before .before .if5 .taken)) (c .begin-event .ensures .0 _ _ _ _ _ _ (c .before .before .before .before .before .before .before .before .before .before .before .before .before .before .pre .1) (c .before .before .before .before .before .before .before .if4 .left))), c .begin-event .ensures .1)
 
 checked-requires : tie.Need-checked-requires
 checked-requires c κs = search needs
@@ -59,7 +59,7 @@ enum-known-n : tie.Need-enum-known-n
 enum-known-n c = search needs
 
 named-event-requires : tie.Need-named-event-requires
-named-event-requires c κs = let R = c .before .before .before .before .before .before .before .before .before .before .before .before .before .before .before .before .before .before .before .before .before .pre .0 .kind in (transaction-is (c .before .before .before .before .before .before .before .before .before .before .before .before .before .before .before .before .before .before .before .before .before .args .e .transaction) _ (sym (c .before .before .before .before .before .before .before .before .before .before .n .given .1) ∙ c .before .before .before .before .before .before .before .before .before .before .before .before .checked .ensures), omega arith, omega arith, c .before .before .before .before .before .before .before .before .before .before .before .before .before .before .before .before .before .before .before .before .before .pre .0, c .before .before .before .before .before .before .before .before .before .before .before .before .before .before .before .before .before .before .before .before .before .pre .1, c .before .before .before .before .before .before .before .before .before .before .before .before .before .before .if4 .left)
+named-event-requires c κs = let R = c .before .before .before .before .before .before .before .before .before .before .before .before .before .before .before .before .before .before .before .before .before .before .before .pre .0 .kind in (transaction-is (c .before .before .before .before .before .before .before .before .before .before .before .before .before .before .before .before .before .before .before .before .before .before .before .args .e .transaction) _ (sym (c .before .before .before .before .before .before .before .before .before .before .before .before .n .given .1) ∙ c .before .before .before .before .before .before .before .before .before .before .before .before .before .before .checked .ensures), omega arith, omega arith, c .before .before .before .before .before .before .before .before .before .before .before .before .before .before .before .before .before .before .before .before .before .before .before .pre .0, c .before .before .before .before .before .before .before .before .before .before .before .before .before .before .before .before .before .before .before .before .before .before .before .pre .1, c .before .before .before .before .before .before .before .before .before .before .before .before .before .before .before .before .if4 .left, c .before .before .before .before .before .before .before .before .before .before .before .before .before .before .before .before .before .before .before .before .before .before .before .pre .2)
 
 enum-told : tie.Need-enum-told
 enum-told c = search needs
@@ -71,10 +71,10 @@ same-length-3 : tie.Need-same-length-3
 same-length-3 c = search needs
 
 returns-6 : tie.Need-returns-6
-returns-6 c = keeps _ _ (c .before .before .before .before .before .before .before .before .before .before .before .before .before .before .before .before .before .before .before .before .before .before .before .before .before .before .args .e) _ (c .before .before .before .before .before .before .before .before .before .before .before .before .before .before .before .before .before .before .before .before .before .before .before .before .before .before .pre .0) (c .before .before .before .before .before .before .before .before .before .before .before .before .before .before .before .before .before .before .before .before .before .before .before .before .before .before .pre .1) (c .before .before .before .before .named-event .ensures)
+returns-6 c = (keeps _ _ (c .before .before .before .before .before .before .before .before .before .before .before .before .before .before .before .before .before .before .before .before .before .before .before .before .before .before .before .before .args .e) _ (c .before .before .before .before .before .before .before .before .before .before .before .before .before .before .before .before .before .before .before .before .before .before .before .before .before .before .before .before .pre .0) (c .before .before .before .before .before .before .before .before .before .before .before .before .before .before .before .before .before .before .before .before .before .before .before .before .before .before .before .before .pre .1) (c .before .before .before .before .named-event .ensures .0), c .before .before .before .before .named-event .ensures .1)
 
 returns-7 : tie.Need-returns-7
-returns-7 c = let R = c .before .before .before .before .before .before .before .before .before .before .before .pre .0 .kind in let h = no-transaction (c .before .before .before .before .before .before .before .before .before .before .before .args .e .transaction) (sym (c .enum-told .given .1) ∙ c .before .before .checked .ensures) in keeps _ _ (c .before .before .before .before .before .before .before .before .before .before .before .args .e) _ (c .before .before .before .before .before .before .before .before .before .before .before .pre .0) (c .before .before .before .before .before .before .before .before .before .before .before .pre .1) (unknown-steps _ (c .before .before .before .before .before .before .before .before .before .before .before .args .e) (c .before .before .before .before .before .before .before .before .before .before .before .pre .1) (omega arith) (omega arith) (c .before .before .before .before .if4 .left) (not-live-past _ (c .before .before .before .before .before .before .before .before .before .before .before .args .e .transaction) (c .before .before .before .before .before .before .before .before .before .before .before .pre .1 .form) h))
+returns-7 c = let R = c .before .before .before .before .before .before .before .before .before .before .before .pre .0 .kind in let h = no-transaction (c .before .before .before .before .before .before .before .before .before .before .before .args .e .transaction) (sym (c .enum-told .given .1) ∙ c .before .before .checked .ensures) in (keeps _ _ (c .before .before .before .before .before .before .before .before .before .before .before .args .e) _ (c .before .before .before .before .before .before .before .before .before .before .before .pre .0) (c .before .before .before .before .before .before .before .before .before .before .before .pre .1) (unknown-steps _ (c .before .before .before .before .before .before .before .before .before .before .before .args .e) (c .before .before .before .before .before .before .before .before .before .before .before .pre .1) (omega arith) (omega arith) (c .before .before .before .before .if4 .left) (not-live-past _ (c .before .before .before .before .before .before .before .before .before .before .before .args .e .transaction) (c .before .before .before .before .before .before .before .before .before .before .before .pre .1 .form) h)), c .before .before .before .before .before .before .before .before .before .before .before .pre .2)
 
 pub step-spec : {M : Type 1} → statement M
 step-spec =

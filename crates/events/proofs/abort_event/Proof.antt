@@ -1,4 +1,4 @@
--- The report, if there is one to give, then the end of the transaction and its descendants.
+-- The report, if there is one to give, then the end of the transaction and its descendants, who leave the sets of kin too.
 use mathlib.Core.Path.{refl}
 use Prim.Native.Nat.{ℕ}
 use lib.ListN.{getD}
@@ -6,6 +6,8 @@ use Rattle.laws.specs.Tests.{under}
 use Rattle.laws.proofs.Tests.{under-lt}
 use Rattle.laws.proofs.Booleans.{and-right}
 use Rattle.rules.specs.Event.{abort}
+use Rattle.arrays.specs.Changes.{less}
+use Rattle.arrays.proofs.Kin.{kin-cleared}
 use Rattle.slots.proofs.Walk.{parent-below}
 use Rattle.events.specs.Whole.{Ready}
 use Rattle.events.proofs.Steps.{numbered}
@@ -16,8 +18,10 @@ use Rattle.events.proofs.abort_event.Tie as tie
 use Rattle.events.proofs.abort_event.Reads as reads
 use Rattle.events.proofs.abort_event.Lts as lts
 use Rattle.locks.proofs.discard.Reads as discard-reads
+use Rattle.locks.proofs.leave.Reads as leave-reads
 use Rattle.locks.proofs.report.Reads as report-reads
 use Rattle.numbers.proofs.TransactionNumber.number.Reads as number-reads
+use Rattle.sets.proofs.minus.Reads as minus-reads
 use Rattle.transactions.proofs.descendants.Reads as descendants-reads
 use Rattle.transactions.proofs.end.Reads as end-reads
 
@@ -47,10 +51,16 @@ discard-requires c κs = search needs
 end-requires : tie.Need-end-requires
 end-requires c κs = search needs
 
+minus-requires : tie.Need-minus-requires
+minus-requires c κs = search needs
+
+leave-requires : tie.Need-leave-requires
+leave-requires c κs = c .before .before .before .before .before .before .before .before .before .before .before .before .before .before .before .before .before .before .before .pre .7 .long
+
 returns : tie.Need-returns
-unfolding under
-returns c = λ up work store I R. let w = c .before .before .before .before .before .before .before .before .before .before .before .before .before .before .before .before .args .report in let e = c .end .ensures in let f = c .before .before .before .before .discard .ensures in
-    numbered _ _ _ (λ t r. abort t w) Ready _ _ 0 0 (c .before .before .before .before .before .before .before .before .before .before .before .before .before .before .before .number .ensures .0) refl (λ R. abort-steps _ I _ _ w R (c .before .before .before .before .before .before .before .before .descendants .ensures) _ _ _ _ _ _ _ (c .before .before .before .before .before .before .before .before .before .before .report .ensures) (e .0) (e .1) (e .2) (f .0) (f .1) (f .2)) R
+unfolding under less
+returns c = let w = c .before .before .before .before .before .before .before .before .before .before .before .before .before .before .before .before .before .before .before .before .args .report in let e = c .before .before .before .before .end .ensures in let f = c .before .before .before .before .before .before .before .before .discard .ensures in
+    (λ up work store I R. numbered _ _ _ (λ t r. abort t w) Ready _ _ 0 0 (c .before .before .before .before .before .before .before .before .before .before .before .before .before .before .before .before .before .before .before .number .ensures .0) refl (λ R. abort-steps _ I _ _ w R (c .before .before .before .before .before .before .before .before .before .before .before .before .descendants .ensures) _ _ _ _ _ _ _ (c .before .before .before .before .before .before .before .before .before .before .before .before .before .before .report .ensures) (e .0) (e .1) (e .2) (f .0) (f .1) (f .2)) R, kin-cleared _ _ _ _ _ _ _ _ _ (c .before .before .before .before .before .before .before .before .before .before .before .before .before .before .before .before .before .before .before .before .pre .7) (e .0) (e .1) (c .before .before .minus .ensures) (c .leave .ensures))
 
 pub abort-event-spec : {M : Type 1} → statement M
 abort-event-spec =
@@ -64,4 +74,6 @@ abort-event-spec =
     descendants-requires
     discard-requires
     end-requires
+    minus-requires
+    leave-requires
     returns)

@@ -1,4 +1,4 @@
--- The loop's invariant: the first k events have been played, and their answers stand.
+-- The loop's invariant: the first k events have been played, their answers stand, and the sets of kin are those of the arrays.
 use mathlib.Core.Path.{_≡_, refl, sym, ap, ap₂, subst, subst⁻¹, _∙_, fun-ext}
 use mathlib.Core.Bool.{Bool, true, false, not, cond, _&&_, _||_}
 use mathlib.Core.List.{List}
@@ -6,7 +6,9 @@ use Prim.Native.Nat.{ℕ, suc, _+_, _*_, _-_, _/_, _%_, _<_, _≤_}
 use native.Mathlib.Omega.{arith}
 use lib.ListN.{length, getD, set}
 use borrow.Author.Needs.{needs}
+use Rattle.arrays.specs.Kin.{Kin}
 use Rattle.events.specs.Whole.{arrays}
+use Rattle.events.proofs.Parents.{parent-named}
 use Rattle.portions.proofs.Playing.{Playing, playing-none, playing-next, playing-all}
 use Rattle.portions.proofs.portion.Statement.{statement}
 use Rattle.portions.proofs.portion.Tie as tie
@@ -17,42 +19,51 @@ use Rattle.engine.proofs.step.Reads as step-reads
 use Rattle.event.proofs.Event.of_word.Reads as of-word-reads
 use Rattle.event.proofs.Event.table.Reads as table-reads
 use Rattle.event.proofs.Event.word_at.Reads as word-at-reads
+use Rattle.transactions.proofs.children_of.Reads as children-of-reads
+use Rattle.transactions.proofs.live_set.Reads as live-set-reads
 
 abbrev Inv-loop : tie.InvT-loop
-Inv-loop e store₀ events work₀ answers₀ up₀ parent₀ depth₀ line₀ held₀ retained₀ writers₀ table n k₀ store work answers up parent depth line held retained writers k =
+Inv-loop e store₀ events work₀ answers₀ up₀ parent₀ depth₀ line₀ held₀ retained₀ writers₀ live₀ children₀ table n k₀ store work answers up parent depth line held retained writers live children k =
     (k ≤ n) × (n ≡ length events / 4) × (n ≤ 4096) × (4 * n ≤ length events) × (2 * n ≤ length answers₀)
     × Playing (arrays up₀ parent₀ depth₀ line₀ held₀ retained₀ writers₀ work₀ store₀) events answers₀ n k (arrays up parent depth line held retained writers work store) answers
+    × Kin parent depth live children
 
 abbrev μ-loop : tie.MeasureT-loop
-μ-loop e store₀ events work₀ answers₀ up₀ parent₀ depth₀ line₀ held₀ retained₀ writers₀ table n k₀ store work answers up parent depth line held retained writers k =
+μ-loop e store₀ events work₀ answers₀ up₀ parent₀ depth₀ line₀ held₀ retained₀ writers₀ live₀ children₀ table n k₀ store work answers up parent depth line held retained writers live children k =
     n - k
+
+live-set-requires : tie.Need-live-set-requires Inv-loop μ-loop
+live-set-requires c κs = c .before .before .before .before .before .before .before .before .before .before .before .pre .0 .form .depths
+
+children-of-requires : tie.Need-children-of-requires Inv-loop μ-loop
+children-of-requires c κs = (c .before .before .before .before .before .before .before .before .before .before .before .before .before .before .pre .0 .form .parents, c .before .before .before .before .before .before .before .before .before .before .before .before .before .before .pre .0 .form .depths, parent-named _ (c .before .before .before .before .before .before .before .before .before .before .before .before .before .before .pre .0))
 
 table-requires : tie.Need-table-requires Inv-loop μ-loop
 table-requires c κs = search needs
 
 loop-holds : tie.Need-loop-holds Inv-loop μ-loop
-loop-holds c = (search needs, refl, omega arith, omega arith, omega arith, playing-none _ _ _ _ (c .before .before .before .before .before .before .before .before .before .before .before .pre .0))
+loop-holds c = (search needs, refl, omega arith, omega arith, omega arith, playing-none _ _ _ _ (c .before .before .before .before .before .before .before .before .before .before .before .before .before .before .before .before .pre .0), let h = c .before .children-of .ensures in record { lives = c .before .before .before .before .live-set .ensures; under = h .1; named = parent-named _ (c .before .before .before .before .before .before .before .before .before .before .before .before .before .before .before .before .pre .0); long = h .0 })
 
 word-at-requires : tie.Need-word-at-requires Inv-loop μ-loop
 word-at-requires c κs = search needs
 
 of-word-requires : tie.Need-of-word-requires Inv-loop μ-loop
-of-word-requires c κs = c .before .before .before .before .before .before .before .before .before .before .before .before .before .table .ensures
+of-word-requires c κs = c .before .before .before .before .before .before .before .before .before .before .before .before .before .before .before .table .ensures
 
 step-requires : tie.Need-step-requires Inv-loop μ-loop
-step-requires c κs = (c .of-word .ensures .1, c .before .before .before .before .before .before .before .before .before .before .before .before .before .loop .inv .5 .intact)
+step-requires c κs = (c .of-word .ensures .1, c .before .before .before .before .before .before .before .before .before .before .before .before .before .before .before .loop .inv .5 .intact, c .before .before .before .before .before .before .before .before .before .before .before .before .before .before .before .loop .inv .6)
 
 put-answer-requires : tie.Need-put-answer-requires Inv-loop μ-loop
-put-answer-requires c κs = let l = c .before .before .before .before .before .before .before .before .before .before .before .before .before .before .before .before .before .before .before .loop in let e = l .inv .5 .long in let q : l .k < _ = c .before .before .before .before .before .before .before .before .before .before .before .before .before .before .before .before .before .before .loop-test .taken in let b = l .inv .2 in let d = l .inv .4 in (omega arith, omega arith)
+put-answer-requires c κs = let l = c .before .before .before .before .before .before .before .before .before .before .before .before .before .before .before .before .before .before .before .before .before .loop in let e = l .inv .5 .long in let q : l .k < _ = c .before .before .before .before .before .before .before .before .before .before .before .before .before .before .before .before .before .before .before .before .loop-test .taken in let b = l .inv .2 in let d = l .inv .4 in (omega arith, omega arith)
 
 add-k : tie.Need-add-k Inv-loop μ-loop
-add-k c = let q = c .before .before .before .before .before .before .before .before .before .before .before .before .before .before .before .before .before .before .before .before .before .loop-test .taken in let b = c .before .before .before .before .before .before .before .before .before .before .before .before .before .before .before .before .before .before .before .before .before .before .loop .inv .2 in search needs
+add-k c = let q = c .before .before .before .before .before .before .before .before .before .before .before .before .before .before .before .before .before .before .before .before .before .before .before .loop-test .taken in let b = c .before .before .before .before .before .before .before .before .before .before .before .before .before .before .before .before .before .before .before .before .before .before .before .before .loop .inv .2 in search needs
 
 loop-less : tie.Need-loop-less Inv-loop μ-loop
-loop-less c = let q = c .before .before .before .before .before .before .before .before .before .before .before .before .before .before .before .before .before .before .before .before .before .loop-test .taken in search needs
+loop-less c = let q = c .before .before .before .before .before .before .before .before .before .before .before .before .before .before .before .before .before .before .before .before .before .before .before .loop-test .taken in search needs
 
 loop-again : tie.Need-loop-again Inv-loop μ-loop
-loop-again c = let l = c .before .before .before .before .before .before .before .before .before .before .before .before .before .before .before .before .before .before .before .before .before .before .loop in let q : l .k < _ = c .before .before .before .before .before .before .before .before .before .before .before .before .before .before .before .before .before .before .before .before .before .loop-test .taken in let b = l .inv .0 in (omega arith, l .inv .1, l .inv .2, l .inv .3, l .inv .4, playing-next _ _ _ (c .before .before .before .before .before .before .before .before .before .before .before .before .before .before .before .before .before .before .before .before .before .before .before .before .before .before .before .before .before .before .before .before .before .before .args .events .now) (c .before .before .before .before .before .before .before .before .before .before .before .before .before .before .before .before .before .before .before .before .before .before .before .before .before .before .before .before .before .before .before .before .before .before .args .answers .now) (l .answers) _ _ (l .k) _ _ _ (l .inv .5) q (l .inv .4) (c .before .before .before .before .before .before .before .before .before .before .before .before .before .before .before .before .before .before .before .before .word-at .ensures) (c .before .before .before .before .before .before .before .before .before .of-word .ensures .0) (c .before .before .before .before .before .before .before .before .step .ensures) (c .before .before .put-answer .ensures))
+loop-again c = let l = c .before .before .before .before .before .before .before .before .before .before .before .before .before .before .before .before .before .before .before .before .before .before .before .before .loop in let q : l .k < _ = c .before .before .before .before .before .before .before .before .before .before .before .before .before .before .before .before .before .before .before .before .before .before .before .loop-test .taken in let b = l .inv .0 in (omega arith, l .inv .1, l .inv .2, l .inv .3, l .inv .4, playing-next _ _ _ (c .before .before .before .before .before .before .before .before .before .before .before .before .before .before .before .before .before .before .before .before .before .before .before .before .before .before .before .before .before .before .before .before .before .before .before .before .before .before .before .before .before .args .events .now) (c .before .before .before .before .before .before .before .before .before .before .before .before .before .before .before .before .before .before .before .before .before .before .before .before .before .before .before .before .before .before .before .before .before .before .before .before .before .before .before .before .before .args .answers .now) (l .answers) _ _ (l .k) _ _ _ (l .inv .5) q (l .inv .4) (c .before .before .before .before .before .before .before .before .before .before .before .before .before .before .before .before .before .before .before .before .before .before .word-at .ensures) (c .before .before .before .before .before .before .before .before .before .of-word .ensures .0) (c .before .before .before .before .before .before .before .before .step .ensures .0) (c .before .before .put-answer .ensures), c .before .before .before .before .before .before .before .before .step .ensures .1)
 
 same-length : tie.Need-same-length Inv-loop μ-loop
 same-length c = search needs
@@ -72,6 +83,8 @@ portion-spec =
     (tie.spec
     Inv-loop
     μ-loop
+    live-set-requires
+    children-of-requires
     table-requires
     loop-holds
     word-at-requires
