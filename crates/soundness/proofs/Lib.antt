@@ -1,5 +1,6 @@
 -- What the proofs of this crate share.
 pub mod Tree
 pub mod Locks
+pub mod Beneath
 pub mod Whole
 pub mod Unique

@@ -8,9 +8,11 @@ ghost use lib.ListN.{length, getD};
 ghost use Rattle.laws.specs.Bits.{bits};
 ghost use Rattle.rules.specs.Editions.{workBytes};
 ghost use Rattle.rules.specs.Geometry.{transactions};
+ghost use Rattle.sets.specs.Sets.{sets};
 ghost use Rattle.clauses.specs.Decides.{Decides};
 ghost use Rattle.clauses.specs.Clauses.{Entries, Locks, SharesOf, Shares};
 ghost use Rattle.soundness.specs.Encoded.{Encoded, Sized};
+ghost use Rattle.soundness.specs.Retaining.{retainersOf};
 
 // The parents, depths and lines are those of a tree of transactions.
 fn is_tree(parent: &[u8; 24], depth: &[u8; 24], line: &[u32; 24]) -> bool
@@ -46,13 +48,42 @@ fn are_locks(live: u32, held: &[u32; 32], retained: &[u32; 32], writers: &[u32; 
     ok
 }
 
+// The transactions that retain some lock.
+fn retainers(retained: &[u32; 32]) -> u32
+    ensures { λ m. ⌜ bits m ≡ retainersOf (now (retained .entry)) ⌝ }
+{
+    let mut m = 0u32;
+    for r in 0..16usize {
+        let any = 2 * r;
+        m = m | retained[any];
+    }
+    m
+}
+
+// The transactions at or beneath t, if it is among those retaining. What is beneath another matters to no clause, so it isn't sought.
+fn beneath_of(line: &[u32; 24], retaining: u32, t: u8) -> u32
+    requires { ⌜ (t < 24) × (length (now line) ≡ 24) ⌝ }
+    ensures { λ m. ⌜ (bits retaining t ≡ true → bits m ≡ (λ u. sets (now (line .entry)) u t)) ⌝ }
+{
+    if sets::contains(retaining, t) {
+        return transactions::descendants(line, t);
+    }
+    0
+}
+
 // What t has of each lock goes with what others have.
-fn are_shares_of(line: &[u32; 24], held: &[u32; 32], retained: &[u32; 32], t: u8) -> bool
-    requires { ⌜ (t < 24) × (length (now line) ≡ 24) × (length (now held) ≡ 32) × (length (now retained) ≡ 32) ⌝ }
+fn are_shares_of(
+    line: &[u32; 24],
+    held: &[u32; 32],
+    retained: &[u32; 32],
+    retaining: u32,
+    t: u8,
+) -> bool
+    requires { ⌜ (t < 24) × (length (now line) ≡ 24) × (length (now held) ≡ 32) × (length (now retained) ≡ 32) × (bits retaining ≡ retainersOf (now retained)) ⌝ }
     ensures { λ b. ⌜ Decides b (SharesOf (now (line .entry)) (now (held .entry)) (now (retained .entry)) t) ⌝ }
 {
     let above = line[t as usize];
-    let beneath = transactions::descendants(line, t);
+    let beneath = beneath_of(line, retaining, t);
     let mut ok = true;
     for r in 0..16usize {
         let any = 2 * r;
@@ -77,15 +108,16 @@ fn are_shares_at(
     line: &[u32; 24],
     held: &[u32; 32],
     retained: &[u32; 32],
+    retaining: u32,
     t: u8,
 ) -> bool
-    requires { ⌜ (t < 24) × (length (now depth) ≡ 24) × (length (now line) ≡ 24) × (length (now held) ≡ 32) × (length (now retained) ≡ 32) ⌝ }
+    requires { ⌜ (t < 24) × (length (now depth) ≡ 24) × (length (now line) ≡ 24) × (length (now held) ≡ 32) × (length (now retained) ≡ 32) × (bits retaining ≡ retainersOf (now retained)) ⌝ }
     ensures { λ b. ⌜ Decides b (0 < getD (now (depth .entry)) t 0 → SharesOf (now (line .entry)) (now (held .entry)) (now (retained .entry)) t) ⌝ }
 {
     if depth[t as usize] == 0 {
         return true;
     }
-    are_shares_of(line, held, retained, t)
+    are_shares_of(line, held, retained, retaining, t)
 }
 
 // What each live transaction has of each lock goes with what others have.
@@ -93,9 +125,10 @@ fn are_shares(depth: &[u8; 24], line: &[u32; 24], held: &[u32; 32], retained: &[
     requires { ⌜ (length (now depth) ≡ 24) × (length (now line) ≡ 24) × (length (now held) ≡ 32) × (length (now retained) ≡ 32) ⌝ }
     ensures { λ b. ⌜ Decides b (Shares (now (depth .entry)) (now (line .entry)) (now (held .entry)) (now (retained .entry))) ⌝ }
 {
+    let retaining = retainers(retained);
     let mut ok = true;
     for t in 0..24u8 {
-        ok = ok & are_shares_at(depth, line, held, retained, t);
+        ok = ok & are_shares_at(depth, line, held, retained, retaining, t);
     }
     ok
 }

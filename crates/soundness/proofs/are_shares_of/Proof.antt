@@ -1,29 +1,26 @@
 -- So far what t has of each lock is right.
-use mathlib.Core.Path.{subst}
-use mathlib.Core.Bool.{Bool}
-use Prim.Native.Nat.{ℕ, _+_, _*_, _-_, _<_, _≤_}
+use Prim.Native.Nat.{ℕ, _-_, _<_, _≤_}
 use native.Mathlib.Omega.{arith}
-use lib.ListN.{getD}
 use borrow.Author.Needs.{needs}
-use Rattle.laws.specs.Bits.{bits}
 use Rattle.sets.specs.Sets.{sets}
 use Rattle.arrays.specs.View.{anyMode, writeMode}
 use Rattle.clauses.specs.Decides.{Decides}
-use Rattle.clauses.specs.Clauses.{Share, ShareOf}
+use Rattle.clauses.specs.Clauses.{ShareOf}
 use Rattle.clauses.proofs.Decides.{decides-none, decides-more, decides-bound}
+use Rattle.soundness.proofs.Beneath.{share-beneath}
 use Rattle.soundness.proofs.are_shares_of.Statement.{statement}
 use Rattle.soundness.proofs.are_shares_of.Tie as tie
 use Rattle.soundness.proofs.are_shares_of.Reads as reads
 use Rattle.soundness.proofs.are_shares_of.Lts as lts
 use Rattle.shares.proofs.is_share.Reads as is-share-reads
-use Rattle.transactions.proofs.descendants.Reads as descendants-reads
+use Rattle.soundness.proofs.beneath_of.Reads as beneath-of-reads
 
 abbrev Inv-loop : tie.InvT-loop
-Inv-loop line held retained t above beneath ok₀ r₀ ok r =
+Inv-loop line held retained retaining t above beneath ok₀ r₀ ok r =
     (r ≤ 16) × Decides ok ((k : ℕ) → k < r → ShareOf line held retained t k)
 
 abbrev μ-loop : tie.MeasureT-loop
-μ-loop line held retained t above beneath ok₀ r₀ ok r = 16 - r
+μ-loop line held retained retaining t above beneath ok₀ r₀ ok r = 16 - r
 
 mul-above : tie.Need-mul-above Inv-loop μ-loop
 mul-above c = search needs
@@ -31,8 +28,8 @@ mul-above c = search needs
 element-copy-out-above : tie.Need-element-copy-out-above Inv-loop μ-loop
 element-copy-out-above c = search needs
 
-descendants-requires : tie.Need-descendants-requires Inv-loop μ-loop
-descendants-requires c κs = search needs
+beneath-of-requires : tie.Need-beneath-of-requires Inv-loop μ-loop
+beneath-of-requires c κs = search needs
 
 loop-holds : tie.Need-loop-holds Inv-loop μ-loop
 loop-holds c = (search needs, decides-none _)
@@ -78,11 +75,12 @@ loop-less c = search needs
 
 loop-again : tie.Need-loop-again Inv-loop μ-loop
 unfolding sets anyMode writeMode
-loop-again c = let a = c .before .before .before .before .before .before .before .before .before .args in let l = c .before .before .before .before .before .before .loop in (
-  search needs,
-  decides-more (ShareOf (a .line .now) (a .held .now) (a .retained .now) (a .t)) (l .r) (l .inv .1)
-      (subst (λ (f : ℕ → Bool). Decides (c .is-share .result) (Share (bits (getD (a .line .now) (a .t) 0)) f (bits (getD (a .held .now) (2 * l .r) 0)) (bits (getD (a .held .now) (2 * l .r + 1) 0)) (bits (getD (a .retained .now) (2 * l .r) 0)) (bits (getD (a .retained .now) (2 * l .r + 1) 0)) (a .t))) (c .before .before .before .before .before .before .before .descendants .ensures) (c .is-share .ensures)),
-)
+loop-again c = let a = c .before .before .before .before .before .before .before .before .before .args in let p = c .before .before .before .before .before .before .before .before .before .pre in
+    let l = c .before .before .before .before .before .before .loop in let b = c .before .before .before .before .before .before .before .beneath-of in (
+      search needs,
+      decides-more (ShareOf (a .line .now) (a .held .now) (a .retained .now) (a .t)) (l .r) (l .inv .1)
+          (share-beneath (a .line .now) (a .held .now) (a .retained .now) (a .t) (l .r) (a .retaining) (b .result) (omega arith) (p .4) (b .ensures) (c .is-share .ensures)),
+    )
 
 returns : tie.Need-returns Inv-loop μ-loop
 returns c = let a = c .before .before .before .before .args in let l = c .before .loop in decides-bound (ShareOf (a .line .now) (a .held .now) (a .retained .now) (a .t)) (l .r) 16 (omega arith) (l .inv .1)
@@ -95,7 +93,7 @@ are-shares-of-spec =
     μ-loop
     mul-above
     element-copy-out-above
-    descendants-requires
+    beneath-of-requires
     loop-holds
     mul-any
     add-writing

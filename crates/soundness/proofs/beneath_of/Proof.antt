@@ -1,0 +1,25 @@
+-- Who retains is looked beneath; of another nothing is promised.
+use mathlib.Core.Path.{sym, _∙_}
+use borrow.Author.Needs.{needs}
+use Rattle.laws.proofs.Booleans.{clash}
+use Rattle.soundness.proofs.beneath_of.Statement.{statement}
+use Rattle.soundness.proofs.beneath_of.Tie as tie
+use Rattle.soundness.proofs.beneath_of.Reads as reads
+use Rattle.soundness.proofs.beneath_of.Lts as lts
+use Rattle.sets.proofs.contains.Reads as contains-reads
+use Rattle.transactions.proofs.descendants.Reads as descendants-reads
+
+contains-requires : tie.Need-contains-requires
+contains-requires c κs = search needs
+
+descendants-requires : tie.Need-descendants-requires
+descendants-requires c κs = search needs
+
+returns : tie.Need-returns
+returns c = λ e. c .descendants .ensures
+
+returns-2 : tie.Need-returns-2
+returns-2 c = λ e. clash e (sym (c .before .contains .ensures) ∙ c .if1 .left)
+
+pub beneath-of-spec : {M : Type 1} → statement M
+beneath-of-spec = tie.close (tie.spec contains-requires descendants-requires returns returns-2)
