@@ -4,13 +4,13 @@ use mathlib.Core.Bool.{Bool, true, false, not, cond, _&&_, _||_, or-false, and-f
 use mathlib.Core.List.{List}
 use mathlib.Core.Logic.{dite}
 use native.Mathlib.Decide.{decLt}
-use Prim.Native.Nat.{ℕ, zero, suc, _+_, _-_, _*_, _≤_, _<_}
+use Prim.Native.Nat.{ℕ, _+_, _*_, _≤_, _<_}
 use native.Mathlib.Omega.{arith}
 use native.Mathlib.Numerals.{add-one}
 use lib.ListN.{length, getD, set, length-set, List·getD-eq-default}
 use lib.Seq.{getD-set-same, getD-set-other}
 use Rattle.laws.specs.Tests.{same}
-use Rattle.laws.specs.Counting.{any, lowestFrom}
+use Rattle.laws.specs.Counting.{any}
 use Rattle.laws.specs.Functions.{updated}
 use Rattle.laws.specs.Bits.{bits}
 use Rattle.laws.proofs.Tests.{same?, Same, is, isnt}
@@ -129,14 +129,7 @@ pub cleared-one : (l : List ℕ) (t : ℕ) → length l ≡ 24 → t < 24 → Cl
 unfolding cleared updated
 cleared-one l t e h = let a = clear-is true l (set l t 0) t (omega arith) refl in record { are = a .0; long = a .1 ∙ e }
 
--- The lowest number, sought from above; some number.
-pub lowest-more : (p : ℕ → Bool) (n j f : ℕ) → j + (n + 1) ≡ 24 → f ≡ lowestFrom n p (24 - n) → cond (p j) j f ≡ lowestFrom (n + 1) p (24 - (n + 1))
-unfolding lowestFrom
-lowest-more p n j f e h =
-    let i : 24 - (n + 1) ≡ j = omega arith in
-    let k : 24 - n ≡ suc j = omega arith in
-    ap (λ (x : ℕ). cond (p j) j x) (h ∙ ap (lowestFrom n p) k) ∙ sym (ap₂ (λ (m x : ℕ). lowestFrom m p x) (add-one n) i)
-
+-- Some number passes.
 pub any-more : (p : ℕ → Bool) (n : ℕ) (b : Bool) → b ≡ any n p → (b || p n) ≡ any (n + 1) p
 unfolding any
 any-more p n b e = ap (λ (x : Bool). x || p n) e ∙ sym (ap (λ (m : ℕ). any m p) (add-one n))

@@ -29,7 +29,7 @@ fn begin_under(
     ensures { λ a. ⌜ ((up : ℕ) (held retained writers work store : List ℕ) → Intact (arrays up (now (parent .entry)) (now (depth .entry)) (now (line .entry)) held retained writers work store) → up ≡ 1 → Stepped (arrays up (now (parent .entry)) (now (depth .entry)) (now (line .entry)) held retained writers work store) (some (begin p)) a (arrays up (now (parent .exit)) (now (depth .exit)) (now (line .exit)) held retained writers work store)) ⌝ }
     ensures { λ _. ⌜ Kin (now (parent .exit)) (now (depth .exit)) (now (live .exit)) (now (children .exit)) ⌝ }
 {
-    let f = transactions::lowest_free(*live);
+    let f = transactions::first_free(*live);
     if f == 24 {
         return Answer {
             number: 7,

@@ -116,7 +116,7 @@ pub fn commit_event(
     ensures { λ _. ⌜ Kin (now (parent .exit)) (now (depth .exit)) (now (live .exit)) (now (children .exit)) ⌝ }
 {
     let n = t.number();
-    if transactions::has_children(children, n) {
+    if transactions::has_child(children, n) {
         return Answer {
             number: 10,
             value: 0,

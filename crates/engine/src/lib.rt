@@ -102,7 +102,7 @@ fn named_event(
             e.value != 0,
         );
     }
-    if transactions::has_children(children, e.transaction) {
+    if transactions::has_child(children, e.transaction) {
         return Answer {
             number: 14,
             value: 0,

@@ -1,4 +1,6 @@
-// Transaction numbers: which are free, who stands under whom, and the arrays of parents, depths and lines at a begin and an end.
+// Transaction numbers: which are free, who stands under whom, and the arrays of parents, depths and lines at a begin and an end. Beside the arrays go
+// two things that follow from them, so that nothing is searched at an event: the set of the live transactions, and for each parent that of its live
+// children, 31 being the parent of those at the top.
 ghost use mathlib.Core.Path.{_≡_};
 ghost use mathlib.Core.Bool.{Bool, true, false, not, cond, _&&_, _||_};
 ghost use Prim.Native.Nat.{ℕ, _+_, _<_, _≤_};
@@ -11,43 +13,8 @@ ghost use Rattle.rules.specs.Editions.{depths};
 ghost use Rattle.sets.specs.Sets.{sets};
 ghost use Rattle.arrays.specs.Changes.{Row, Rows, Cleared};
 
-// j where the place is free, else what was found above.
-fn lower(d: u8, j: u8, f: u8) -> u8
-    ensures { λ r. ⌜ r ≡ cond (same d 0) j f ⌝ }
-{
-    if d == 0 {
-        return j;
-    }
-    f
-}
-
-// The lowest free number, or 24.
-pub fn first_free(depth: &[u8; 24]) -> u8
-    ensures { λ r. ⌜ r ≡ lowest transactions (λ u. same (getD (now (depth .entry)) u 0) 0) ⌝ }
-{
-    let mut f = 24u8;
-    for n in 0..24usize {
-        let j = 23 - n;
-        f = lower(depth[j], (j % 256) as u8, f);
-    }
-    f
-}
-
-// t has a live child.
-pub fn has_child(parent: &[u8; 24], depth: &[u8; 24], t: u8) -> bool
-    ensures { λ r. ⌜ r ≡ any transactions (λ u. not (same (getD (now (depth .entry)) u 0) 0) && same (getD (now (parent .entry)) u 0) t) ⌝ }
-{
-    let mut found = false;
-    for j in 0..24 {
-        let a = depth[j] != 0;
-        let b = parent[j] == t;
-        found = found | (a & b);
-    }
-    found
-}
-
-// The lowest number that isn't live, or 24: that bit is set in any case, so the bits above it don't matter.
-pub fn lowest_free(live: u32) -> u8
+// The lowest free number, or 24: that bit is set in any case, so the bits above it don't matter.
+pub fn first_free(live: u32) -> u8
     ensures { λ r. ⌜ r ≡ lowest transactions (λ u. not (bits live u)) ⌝ }
 {
     let free = sets::with(sets::minus(4294967295, live), 24);
@@ -55,7 +22,7 @@ pub fn lowest_free(live: u32) -> u8
 }
 
 // t has a live child.
-pub fn has_children(children: &[u32; 32], t: u8) -> bool
+pub fn has_child(children: &[u32; 32], t: u8) -> bool
     requires { ⌜ t < 32 ⌝ }
     ensures { λ r. ⌜ r ≡ any transactions (sets (now (children .entry)) t) ⌝ }
 {

@@ -13,30 +13,31 @@ use Rattle.begins.proofs.begin_under.Tie as tie
 use Rattle.begins.proofs.begin_under.Reads as reads
 use Rattle.begins.proofs.begin_under.Lts as lts
 use Rattle.transactions.proofs.enrol.Reads as enrol-reads
-use Rattle.transactions.proofs.lowest_free.Reads as lowest-free-reads
+use Rattle.transactions.proofs.first_free.Reads as first-free-reads
 use Rattle.transactions.proofs.place.Reads as place-reads
 
-lowest-free-requires : tie.Need-lowest-free-requires
-lowest-free-requires c κs = search needs
+first-free-requires : tie.Need-first-free-requires
+first-free-requires c κs = search needs
 
 returns : tie.Need-returns
-returns c = (λ up held retained writers work store I u. let a = c .before .before .before .args in let k = c .before .before .before .pre .1 in full-steps _ I u (a .p) _ (a .above) (omega arith) (named-of _ (a .p) (a .d) (c .before .before .before .pre .1) (c .before .before .before .pre .3)) (kin-lowest _ _ _ _ _ (c .before .before .before .pre .7) (c .before .lowest-free .ensures)) (c .before .before .before .pre .2) (c .if1 .taken), c .before .before .before .pre .7)
+returns c = (λ up held retained writers work store I u. let a = c .before .before .before .args in let k = c .before .before .before .pre .1 in full-steps _ I u (a .p) _ (a .above) (omega arith) (named-of _ (a .p) (a .d) (c .before .before .before .pre .1) (c .before .before .before .pre .3)) (kin-lowest _ _ _ _ _ (c .before .before .before .pre .7) (c .before .first-free .ensures)) (c .before .before .before .pre .2) (c .if1 .taken), c .before .before .before .pre .7)
 
 add-place : tie.Need-add-place
 add-place c = search needs
 
 place-requires : tie.Need-place-requires
-place-requires c κs = (free-place _ (c .before .before .before .before .before .before .args .depth .now) (kin-lowest _ _ _ _ _ (c .before .before .before .before .before .before .pre .7) (c .before .before .before .before .lowest-free .ensures)) (c .before .before .before .if1 .left), omega arith)
+place-requires c κs = (free-place _ (c .before .before .before .before .before .before .args .depth .now) (kin-lowest _ _ _ _ _ (c .before .before .before .before .before .before .pre .7) (c .before .before .before .before .first-free .ensures)) (c .before .before .before .if1 .left), omega arith)
 
 enrol-requires : tie.Need-enrol-requires
-enrol-requires c κs = (c .before .before .before .before .before .before .before .before .before .pre .4, free-place _ (c .before .before .before .before .before .before .before .before .before .args .depth .now) (kin-lowest _ _ _ _ _ (c .before .before .before .before .before .before .before .before .before .pre .7) (c .before .before .before .before .before .before .before .lowest-free .ensures)) (c .before .before .before .before .before .before .if1 .left), c .before .before .before .before .before .before .before .before .before .pre .7 .long)
+enrol-requires c κs = (c .before .before .before .before .before .before .before .before .before .pre .4, free-place _ (c .before .before .before .before .before .before .before .before .before .args .depth .now) (kin-lowest _ _ _ _ _ (c .before .before .before .before .before .before .before .before .before .pre .7) (c .before .before .before .before .before .before .before .first-free .ensures)) (c .before .before .before .before .before .before .if1 .left), c .before .before .before .before .before .before .before .before .before .pre .7 .long)
 
 returns-2 : tie.Need-returns-2
-returns-2 c = let a = c .before .before .before .before .before .before .before .before .before .before .args in let e = c .before .before .before .place .ensures in let f = c .enrol .ensures in let q = kin-lowest _ _ _ _ _ (c .before .before .before .before .before .before .before .before .before .before .pre .7) (c .before .before .before .before .before .before .before .before .lowest-free .ensures) in
-    (λ up held retained writers work store I u. begin-placed _ I u (a .p) (a .d) _ (a .above) (omega arith) (c .before .before .before .before .before .before .before .before .before .before .pre .1) (c .before .before .before .before .before .before .before .before .before .before .pre .3) q (c .before .before .before .before .before .before .before .before .before .before .pre .2) (c .before .before .before .before .before .before .before .if1 .left) _ _ _ (e .0) (e .1) (e .2),
-    begin-kin _ _ _ _ _ _ _ _ _ _ (a .d) (c .before .before .before .before .before .before .before .before .before .before .pre .7) (c .before .before .before .before .before .before .before .before .before .before .pre .5) (c .before .before .before .before .before .before .before .before .before .before .pre .6) q (c .before .before .before .before .before .before .before .if1 .left) (c .before .before .before .before .before .before .before .before .before .before .pre .4) (e .0) (e .1) (f .0) (f .1))
+returns-2 c = let a = c .before .before .before .before .before .before .before .before .before .before .args in let e = c .before .before .before .place .ensures in let f = c .enrol .ensures in let q = kin-lowest _ _ _ _ _ (c .before .before .before .before .before .before .before .before .before .before .pre .7) (c .before .before .before .before .before .before .before .before .first-free .ensures) in (
+  λ up held retained writers work store I u. begin-placed _ I u (a .p) (a .d) _ (a .above) (omega arith) (c .before .before .before .before .before .before .before .before .before .before .pre .1) (c .before .before .before .before .before .before .before .before .before .before .pre .3) q (c .before .before .before .before .before .before .before .before .before .before .pre .2) (c .before .before .before .before .before .before .before .if1 .left) _ _ _ (e .0) (e .1) (e .2),
+  begin-kin _ _ _ _ _ _ _ _ _ _ (a .d) (c .before .before .before .before .before .before .before .before .before .before .pre .7) (c .before .before .before .before .before .before .before .before .before .before .pre .5) (c .before .before .before .before .before .before .before .before .before .before .pre .6) q (c .before .before .before .before .before .before .before .if1 .left) (c .before .before .before .before .before .before .before .before .before .before .pre .4) (e .0) (e .1) (f .0) (f .1),
+)
 
 pub begin-under-spec : {M : Type 1} → statement M
 begin-under-spec =
     tie.close
-    (tie.spec lowest-free-requires returns add-place place-requires enrol-requires returns-2)
+    (tie.spec first-free-requires returns add-place place-requires enrol-requires returns-2)

@@ -54,8 +54,10 @@ same-length-2 : tie.Need-same-length-2
 same-length-2 c = search needs
 
 returns-2 : tie.Need-returns-2
-returns-2 c = let e = c .retire .ensures in let f = c .before .before .before .before .before .before .before .before .discard .ensures in let s = c .before .before .before .before .strike .ensures in (λ I R n d. top-steps _ I (c .before .before .before .before .before .before .before .before .before .before .before .before .before .before .before .before .before .before .before .before .before .before .args .t) (c .before .before .before .before .before .before .before .before .before .before .before .before .before .before .before .before .before .before .before .before .before .before .args .k) R n d _ (c .before .before .before .before .before .before .before .before .before .before .before .before .before .before .before .before .before .before .map-of .ensures) _ _ _ (search needs) (c .before .before .before .before .before .before .before .before .before .before .before .before .before .before .before .before .commit-pages .ensures) (c .before .before .before .before .before .before .before .before .before .before .before .before .before .if1 .left) _ _ _ _ _ _ _ (c .before .before .before .before .before .before .before .before .before .single .ensures) (e .0) (e .1) (e .2) (f .0) (f .1) (f .2),
-    kin-retired _ _ _ _ _ _ _ _ (c .before .before .before .before .before .before .before .before .before .before .before .before .before .before .before .before .before .before .before .before .before .before .args .t) _ (c .before .before .before .before .before .before .before .before .before .before .before .before .before .before .before .before .before .before .before .before .before .before .pre .9) refl (c .before .before .before .before .before .before .before .before .before .before .before .before .before .before .before .before .before .before .before .before .before .before .pre .9 .named (c .before .before .before .before .before .before .before .before .before .before .before .before .before .before .before .before .before .before .before .before .before .before .args .t)) (e .0) (e .1) (s .0) (s .1))
+returns-2 c = let e = c .retire .ensures in let f = c .before .before .before .before .before .before .before .before .discard .ensures in let s = c .before .before .before .before .strike .ensures in (
+  λ I R n d. top-steps _ I (c .before .before .before .before .before .before .before .before .before .before .before .before .before .before .before .before .before .before .before .before .before .before .args .t) (c .before .before .before .before .before .before .before .before .before .before .before .before .before .before .before .before .before .before .before .before .before .before .args .k) R n d _ (c .before .before .before .before .before .before .before .before .before .before .before .before .before .before .before .before .before .before .map-of .ensures) _ _ _ (search needs) (c .before .before .before .before .before .before .before .before .before .before .before .before .before .before .before .before .commit-pages .ensures) (c .before .before .before .before .before .before .before .before .before .before .before .before .before .if1 .left) _ _ _ _ _ _ _ (c .before .before .before .before .before .before .before .before .before .single .ensures) (e .0) (e .1) (e .2) (f .0) (f .1) (f .2),
+  kin-retired _ _ _ _ _ _ _ _ (c .before .before .before .before .before .before .before .before .before .before .before .before .before .before .before .before .before .before .before .before .before .before .args .t) _ (c .before .before .before .before .before .before .before .before .before .before .before .before .before .before .before .before .before .before .before .before .before .before .pre .9) refl (c .before .before .before .before .before .before .before .before .before .before .before .before .before .before .before .before .before .before .before .before .before .before .pre .9 .named (c .before .before .before .before .before .before .before .before .before .before .before .before .before .before .before .before .before .before .before .before .before .before .args .t)) (e .0) (e .1) (s .0) (s .1),
+)
 
 pub commit-top-spec : {M : Type 1} → statement M
 commit-top-spec =

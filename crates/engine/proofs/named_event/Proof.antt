@@ -21,7 +21,7 @@ use Rattle.engine.proofs.record_event.Reads as record-event-reads
 use Rattle.events.proofs.abort_event.Reads as abort-event-reads
 use Rattle.commits.proofs.commit_event.Reads as commit-event-reads
 use Rattle.numbers.proofs.RecordNumber.checked.Reads as checked-reads
-use Rattle.transactions.proofs.has_children.Reads as has-children-reads
+use Rattle.transactions.proofs.has_child.Reads as has-child-reads
 
 cast-if1 : tie.Need-cast-if1
 cast-if1 c = search needs
@@ -49,16 +49,18 @@ abort-event-requires c κs = let F = c .before .before .before .before .before .
 
 returns-3 : tie.Need-returns-3
 unfolding same
-returns-3 c = let a = c .before .before .before .before .before .before .before .before .before .before .before .before .before .before .before .before .before .args in let pre = c .before .before .before .before .before .before .before .before .before .before .before .before .before .before .before .before .before .pre in
-    (retold _ _ _ _ _ (means-abort (a .e) (c .before .before .before .before .before .before .before .before .before .before .if3 .taken) ∙ ap₂ (λ (t : ℕ) (w : Bool). some (abort t w)) (sym (pre .0)) (report-is (a .e .value)))
-    (c .abort-event .ensures .0 _ _ _ (pre .4) (record { up = pre .5; live = subst⁻¹ (λ (n : ℕ). 0 < getD (a .depth .now) n 0) (pre .0) (omega arith) })), c .abort-event .ensures .1)
+returns-3 c = let a = c .before .before .before .before .before .before .before .before .before .before .before .before .before .before .before .before .before .args in let pre = c .before .before .before .before .before .before .before .before .before .before .before .before .before .before .before .before .before .pre in (
+  retold _ _ _ _ _ (means-abort (a .e) (c .before .before .before .before .before .before .before .before .before .before .if3 .taken) ∙ ap₂ (λ (t : ℕ) (w : Bool). some (abort t w)) (sym (pre .0)) (report-is (a .e .value)))
+      (c .abort-event .ensures .0 _ _ _ (pre .4) (record { up = pre .5; live = subst⁻¹ (λ (n : ℕ). 0 < getD (a .depth .now) n 0) (pre .0) (omega arith) })),
+  c .abort-event .ensures .1,
+)
 
-has-children-requires : tie.Need-has-children-requires
-has-children-requires c κs = c .before .before .before .before .before .before .before .before .pre .3 .transaction
+has-child-requires : tie.Need-has-child-requires
+has-child-requires c κs = c .before .before .before .before .before .before .before .before .pre .3 .transaction
 
 returns-4 : tie.Need-returns-4
 returns-4 c = let a = c .before .before .before .before .before .before .before .before .before .before .args in let pre = c .before .before .before .before .before .before .before .before .before .before .pre in
-    (waits-steps _ (a .e .transaction) _ (kin-child _ _ _ _ _ _ (pre .6) (pre .3 .transaction) (c .before .has-children .ensures)) (c .if4 .taken) (a .e) refl (pre .4) (pre .1) (omega arith) (record { up = pre .5; live = omega arith }), pre .6)
+    (waits-steps _ (a .e .transaction) _ (kin-child _ _ _ _ _ _ (pre .6) (pre .3 .transaction) (c .before .has-child .ensures)) (c .if4 .taken) (a .e) refl (pre .4) (pre .1) (omega arith) (record { up = pre .5; live = omega arith }), pre .6)
 
 checked-requires : tie.Need-checked-requires
 checked-requires c κs = search needs
@@ -74,7 +76,7 @@ record-event-requires c κs = let a = c .before .before .before .before .before 
   omega arith,
   pre .3,
   pre .4,
-  leaf-of _ (a .e .transaction) _ (kin-child _ _ _ _ _ _ (pre .6) (pre .3 .transaction) (c .before .before .before .before .before .before .before .before .before .before .before .before .before .before .has-children .ensures)) (c .before .before .before .before .before .before .before .before .before .before .before .before .before .if4 .left) (record { up = pre .5; live = omega arith }) _ (pre .0),
+  leaf-of _ (a .e .transaction) _ (kin-child _ _ _ _ _ _ (pre .6) (pre .3 .transaction) (c .before .before .before .before .before .before .before .before .before .before .before .before .before .before .has-child .ensures)) (c .before .before .before .before .before .before .before .before .before .before .before .before .before .if4 .left) (record { up = pre .5; live = omega arith }) _ (pre .0),
 )
 
 enum-told : tie.Need-enum-told
@@ -105,7 +107,7 @@ named-event-spec =
     returns-2
     abort-event-requires
     returns-3
-    has-children-requires
+    has-child-requires
     returns-4
     checked-requires
     enum-known-r
