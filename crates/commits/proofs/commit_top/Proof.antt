@@ -45,7 +45,7 @@ element-copy-out-strike : tie.Need-element-copy-out-strike
 element-copy-out-strike c = search needs
 
 strike-requires : tie.Need-strike-requires
-strike-requires c κs = (c .before .before .before .before .before .before .before .before .before .before .before .before .before .before .before .before .before .pre .9 .named (c .before .before .before .before .before .before .before .before .before .before .before .before .before .before .before .before .before .args .t), c .before .before .before .before .before .before .before .before .before .before .before .before .before .before .before .before .before .pre .0, c .before .before .before .before .before .before .before .before .before .before .before .before .before .before .before .before .before .pre .9 .long)
+strike-requires c κs = (c .before .before .before .before .before .before .before .before .before .before .before .before .before .before .before .before .before .pre .9 .named _, c .before .before .before .before .before .before .before .before .before .before .before .before .before .before .before .before .before .pre .0, c .before .before .before .before .before .before .before .before .before .before .before .before .before .before .before .before .before .pre .9 .long)
 
 retire-requires : tie.Need-retire-requires
 retire-requires c κs = search needs

@@ -33,10 +33,10 @@ abbrev μ-loop : tie.MeasureT-loop
     n - k
 
 live-set-requires : tie.Need-live-set-requires Inv-loop μ-loop
-live-set-requires c κs = c .before .before .before .before .before .before .before .before .before .before .before .pre .0 .form .depths
+live-set-requires c κs = search needs
 
 children-of-requires : tie.Need-children-of-requires Inv-loop μ-loop
-children-of-requires c κs = (c .before .before .before .before .before .before .before .before .before .before .before .before .before .before .pre .0 .form .parents, c .before .before .before .before .before .before .before .before .before .before .before .before .before .before .pre .0 .form .depths, parent-named _ (c .before .before .before .before .before .before .before .before .before .before .before .before .before .before .pre .0))
+children-of-requires c κs = (search needs, search needs, parent-named _ (c .before .before .before .before .before .before .before .before .before .before .before .before .before .before .pre .0))
 
 table-requires : tie.Need-table-requires Inv-loop μ-loop
 table-requires c κs = search needs
