@@ -60,7 +60,6 @@ pub fn portion(
     let table = Event::table();
     let n = events.len() / 4;
     for k in 0..n {
-        let w = Event::word_at(events, k);
         let a = engine::step(
             &mut up,
             &mut parent,
@@ -73,7 +72,7 @@ pub fn portion(
             &mut writers,
             work,
             store,
-            Event::of_word(&table, w),
+            Event::of_word(&table, Event::word_at(events, k)),
         );
         put_answer(answers, k, a);
     }
