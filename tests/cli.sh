@@ -282,6 +282,19 @@ second=$!; sleep 1
 "$run" play busy words.txt >/dev/null; printf x | dd of=busy bs=1 seek=1000 conv=notrunc 2>/dev/null
 cat pipe >/dev/null; wait $second; [ $? = 1 ] && grep -q "busy was changed by somebody else" err
 report "a store that is changed meanwhile" $?
+# Eight writers at the same moment, each on a record of its own: who is told that all is well finds its byte in the store.
+writer() { # RECORD
+    local round
+    for round in 11 22 33 44 55 66 77 88 99 AA BB CC DD EE FF; do
+        text "recover 63\nbegin none\nlock 0 $1\nwrite 0 $1 0 $round\ncommit 0 63\n" "list.$1"
+        until "$binary" play shared "list.$1" >/dev/null 2>"err.$1"; do grep -q "somebody else" "err.$1" || return; done
+        "$binary" show shared | grep -qE "^ +$1 +home page [0-9]+ +$round" || echo "record $1 lost $round" >>err
+    done
+    echo "$1" >>out
+}
+"$run" fresh shared >/dev/null; : >out; : >err
+for record in 0 1 2 3 4 5 6 7; do writer $record & done; wait
+[ ! -s err ] && [ "$(wc -l <out)" = 8 ]; report "eight writers at the same moment" $?
 # A file may have 1,024 bytes and a store has more: the write stops halfway.
 fails "no room for the store" 1 "can't write store: File too large" \
     bash -c "trap '' XFSZ; ulimit -f 1; '$binary' play store change.txt"

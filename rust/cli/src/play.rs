@@ -4,7 +4,7 @@ use crate::arguments::Form;
 use crate::failure::{Failure, Outcome};
 use crate::files::{need_plain, place_of, read_store};
 use crate::follow::Follower;
-use crate::staged::Staged;
+use crate::staged::{alone_in_folder_of, Staged};
 use crate::state_file::{self, Kept};
 use crate::{list, number_of, picture, say, trace};
 use nekahuiro::limits::{EVENTS, EVENT_BYTES};
@@ -80,6 +80,7 @@ pub fn command(words: &[String]) -> Outcome {
         staged.push(Staged::new(options.store, played.store.bytes())?);
     }
     say(&report(&options, &played))?;
+    let _alone = (!options.dry).then(|| alone_in_folder_of(options.store));
     if !options.dry && read_store(options.store)? != played.before {
         let reason = format!("{} was changed by somebody else while the list was played", options.store);
         return Err(Failure::new(&reason, "play the list again; no file was changed"));

@@ -1,7 +1,7 @@
 //! Replacing files in one step.
 
 use crate::failure::{Failure, Outcome};
-use crate::files::{folder_of, said};
+use crate::files::{folder_of, place_of, said};
 use std::fs::{self, File, Metadata, OpenOptions};
 use std::io::{self, ErrorKind, Write};
 use std::os::unix::fs::{fchown, MetadataExt, OpenOptionsExt};
@@ -88,6 +88,14 @@ impl Drop for Staged {
             let _ = fs::remove_file(beside);
         }
     }
+}
+
+/// While it is kept, no other command is between its last look at a file of that folder and replacing it: a second one
+/// waits, and then sees what the first has left. On a disk that has no locks it guards nothing.
+pub fn alone_in_folder_of(name: &str) -> Option<File> {
+    let folder = File::open(folder_of(&place_of(name))).ok()?;
+    folder.lock().ok()?;
+    Some(folder)
 }
 
 /// A new file in the same folder, so that moving it is one step. One that replaces another is nobody
