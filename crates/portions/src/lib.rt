@@ -36,7 +36,8 @@ pub struct Engine {
     pub spare: [u8; 3],
 }
 
-// A portion of events: the engine comes in and goes out by value, and is changed in place between.
+// A portion of events: the engine comes in and goes out by value, and is changed in place between. What follows from its parents and depths alone
+// is found at the start and not kept.
 pub fn portion(
     e: Engine,
     store: &mut [u8],
