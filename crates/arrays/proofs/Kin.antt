@@ -152,8 +152,3 @@ not-not false = refl
 pub kin-lowest : (parent depth children : List ℕ) (live f : ℕ) → Kin parent depth live children → f ≡ lowest 24 (λ u. not (bits live u)) → f ≡ lowest 24 (λ u. same (getD depth u 0) 0)
 kin-lowest parent depth children live f K e =
     e ∙ ap (lowest 24) (fun-ext (λ u. ap (λ (s : ℕ → Bool). not (s u)) (K .lives) ∙ not-not (same (getD depth u 0) 0)))
-
--- t has a child in its set exactly if a live number has the parent t
-pub kin-child : (parent depth children : List ℕ) (live t : ℕ) (b : Bool) → Kin parent depth live children → t < 32 → b ≡ any 24 (sets children t)
-    → b ≡ any 24 (λ u. not (same (getD depth u 0) 0) && same (getD parent u 0) t)
-kin-child parent depth children live t b K h e = e ∙ ap (any 24) (K .under t h)

@@ -8,7 +8,6 @@ use Prim.Native.Nat.{ℕ, suc, _+_, _-_, _*_, _≤_}
 use native.Mathlib.Omega.{arith}
 use lib.ListN.{length, getD}
 use Rattle.laws.specs.Tests.{same, under}
-use Rattle.laws.specs.Counting.{any}
 use Rattle.laws.specs.Bits.{bits}
 use Rattle.laws.proofs.Tests.{same?, Same, is, isnt, ne-false, Is, is?, yes′, no′, under-lt, not-under}
 use Rattle.laws.proofs.Booleans.{clash, or-cases}
@@ -28,7 +27,7 @@ use Rattle.sets.specs.Sets.{sets}
 use Rattle.sets.proofs.Sets.{sets-past}
 use Rattle.arrays.specs.View.{Owners, bearersOf, modesOf, Nested, slot, versionsOf}
 use Rattle.arrays.specs.Changes.{leaving, heirsOf, inheriting, handed, Rows, places, cleared, Cleared}
-use Rattle.arrays.proofs.View.{depth-is, child-is}
+use Rattle.arrays.proofs.View.{depth-is}
 use Rattle.arrays.proofs.Nested.{inheriting-nested}
 use Rattle.arrays.proofs.Modes.{leaving-discarded, inheriting-inherited}
 use Rattle.slots.specs.Parts.{lifted}
@@ -40,11 +39,6 @@ use Rattle.events.proofs.Steps.{answer, stepped, finishes, unmoved, state-eq, u
 use Rattle.events.proofs.Ends.{bearers-cleared, lines-cleared, tidy-cleared, nested-cleared, rest-is, rest-form}
 use Rattle.events.proofs.Parents.{parent-there, parent-deep, parent-other, line-up}
 use Rattle.crashes.proofs.Falls.{zeros, zeros-down, zeros-formed, Fallen, fallen}
-
--- the test for a child
-pub child-test : (x : Arrays) (t : ℕ) (b : Bool) → b ≡ any 24 (λ u. not (same (getD (x .depth) u 0) 0) && same (getD (x .parent) u 0) t) → b ≡ hasChild (view x) t
-unfolding view hasChild live
-child-test x t b e = e ∙ ap (any 24) (fun-ext (λ u. child-is (x .parent) (x .depth) t u))
 
 pub commit-refuses : (x : Arrays) → Intact x → (t k : ℕ) → Ready x t → hasChild (view x) t ≡ true → Stepped x (some (commit t k)) (answer 10 0) x
 commit-refuses x I t k R h = unmoved x (some (commit t k)) 10 (I .form) (commit-refused edition1 (view x) t (up-is x (R .up)) (live-is x t (R .live)) k h)

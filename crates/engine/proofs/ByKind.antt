@@ -7,9 +7,8 @@ use mathlib.Core.Option.{Option, none, some}
 use Prim.Native.Nat.{ℕ, zero, suc, _<_}
 use native.Mathlib.Omega.{arith}
 use lib.Dec.{eqb·suc-zero}
-use lib.ListN.{length, getD}
+use lib.ListN.{length}
 use Rattle.laws.specs.Tests.{same}
-use Rattle.laws.specs.Counting.{any}
 use Rattle.laws.proofs.Tests.{lt-under}
 use Rattle.rules.specs.Geometry.{records, pageCount}
 use Rattle.rules.specs.Store.{pagesOf}
@@ -31,7 +30,6 @@ use Rattle.event.proofs.Meaning.{means-begin, means-lock, means-write, means-re
 use Rattle.events.specs.Whole.{Arrays, view, Intact, Stepped, Ready, ReadyLeaf}
 use Rattle.events.specs.declared.Answer.{Answer}
 use Rattle.events.proofs.Rules.{begin-down, lock-down, write-down, read-down, commit-down, abort-down, lock-unknown, write-unknown, read-unknown, commit-unknown, abort-unknown}
-use Rattle.commits.proofs.Commits.{child-test}
 use Rattle.events.proofs.Steps.{answer, unmoved, up-is, down-is, live-is}
 
 abbrev pub laws1 : MediumLaws geometry1 (atomicPages geometry1)
@@ -92,14 +90,14 @@ waits-kinds s e (suc (suc (suc zero))) q h g u l c = ap (step edition1 s) (means
 waits-kinds s e (suc (suc (suc (suc zero)))) q h g u l c = ap (step edition1 s) (means-read e q) ∙ read-waits edition1 s (e .transaction) u l (e .rec) (e .offset) c
 waits-kinds s e (suc (suc (suc (suc (suc k))))) q h g u l c = absurd (omega arith)
 
--- the code's test for a child
-module _ (x : Arrays) (t : ℕ) (b : Bool) (test : b ≡ any 24 (λ u. not (same (getD (x .depth) u 0) 0) && same (getD (x .parent) u 0) t)) where
+-- by the code's test for a child
+module _ (x : Arrays) (t : ℕ) (b : Bool) (test : b ≡ hasChild (view x) t) where
   pub leaf-of : b ≡ false → Ready x t → (n : ℕ) → n ≡ t → ReadyLeaf x n
-  leaf-of e R n q = subst⁻¹ (ReadyLeaf x) q (record { ready = R; childless = sym (child-test x t b test) ∙ e })
+  leaf-of e R n q = subst⁻¹ (ReadyLeaf x) q (record { ready = R; childless = sym test ∙ e })
 
   pub waits-steps : b ≡ true → (e : Fields) → e .transaction ≡ t → Intact x → 1 < e .kind → e .kind < 5 → Ready x t → Stepped x (meaning e) (answer 14 0) x
   waits-steps c e q I h g R =
-      unmoved x (meaning e) 14 (I .form) (waits-kinds (view x) e (e .kind) refl h g (up-is x (R .up)) (rw q (live-is x t (R .live))) (rw q (sym (child-test x t b test) ∙ c)))
+      unmoved x (meaning e) 14 (I .form) (waits-kinds (view x) e (e .kind) refl h g (up-is x (R .up)) (rw q (live-is x t (R .live))) (rw q (sym test ∙ c)))
 
 -- an event whose fields are in range fits a word
 fits-of : (k t r o c v : ℕ) → t < 32 → r < 16 → o < 32 → c < 64 → v < 256 → (e : Event) → eventOf (fieldsOf k t r o c v) ≡ some e → fits geometry1 e ≡ true

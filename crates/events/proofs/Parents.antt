@@ -1,18 +1,22 @@
 -- The line of a transaction by its depth: alone at the top, else above it stands its parent, which is another and one less deep. Every parent is a
--- name.
-use mathlib.Core.Path.{_≡_, refl, sym, ap, _∙_}
-use mathlib.Core.Bool.{true}
-use mathlib.Core.List.{[], _∷_}
+-- name, and the sets of children say who has a child.
+use mathlib.Core.Path.{_≡_, refl, sym, ap, _∙_, fun-ext}
+use mathlib.Core.Bool.{Bool, true}
+use mathlib.Core.List.{List, [], _∷_}
 use mathlib.Core.Logic.{_≢_, _⊎_, inl, inr}
 use Prim.Native.Nat.{ℕ, zero, suc, _<_}
 use native.Mathlib.Omega.{arith}
 use lib.ListN.{getD}
+use Rattle.laws.specs.Counting.{any}
 use Rattle.rules.specs.Geometry.{nobody}
 use Rattle.rules.specs.State.{Bearers, parentIn, depthIn, chain, lineOf, live}
+use Rattle.rules.specs.Step.{hasChild}
 use Rattle.rules.proofs.Bearers.{up-one}
 use Rattle.rules.proofs.Locks.{rooted-of}
+use Rattle.sets.specs.Sets.{sets}
 use Rattle.arrays.specs.View.{bearerAt, bearersOf}
-use Rattle.arrays.proofs.View.{depth-is, parent-is}
+use Rattle.arrays.specs.Kin.{Kin}
+use Rattle.arrays.proofs.View.{depth-is, parent-is, child-is}
 use Rattle.events.specs.Whole.{Arrays, view, Intact}
 
 module _ (x : Arrays) (I : Intact x) (t : ℕ) where
@@ -66,3 +70,8 @@ parent-named x I t = go (getD (x .depth) t 0) refl
         named : (getD (x .parent) t 0 ≡ nobody) ⊎ (live (view x) (getD (x .parent) t 0) ≡ true) → getD (x .parent) t 0 < 32
         named (inl q) = omega arith
         named (inr q) = let h = I .sound .numbered (getD (x .parent) t 0) q in omega arith
+
+-- the set of t's children is empty exactly if the rules find no child of t
+pub child-test : (x : Arrays) (live : ℕ) (children : List ℕ) (t : ℕ) (b : Bool) → Kin (x .parent) (x .depth) live children → t < 32 → b ≡ any 24 (sets children t) → b ≡ hasChild (view x) t
+unfolding view hasChild live
+child-test x live children t b K h e = e ∙ ap (any 24) (K .under t h ∙ fun-ext (λ u. child-is (x .parent) (x .depth) t u))

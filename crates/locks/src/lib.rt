@@ -76,7 +76,7 @@ pub fn lock(
     ok
 }
 
-// The transactions in gone leave every place.
+// The transactions in gone leave every place: those of the locks, or others that go by 32 places, as the children of each parent.
 pub fn leave(s: &mut [u32; 32], gone: u32)
     requires { ⌜ length (now s) ≡ 32 ⌝ }
     ensures { λ _. ⌜ Rows 32 (leaving (bits gone) (sets (now (s .entry)))) (now (s .exit)) ⌝ }

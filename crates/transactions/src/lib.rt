@@ -12,6 +12,7 @@ ghost use Rattle.rules.specs.Geometry.{transactions};
 ghost use Rattle.rules.specs.Editions.{depths};
 ghost use Rattle.sets.specs.Sets.{sets};
 ghost use Rattle.arrays.specs.Changes.{Row, Rows, Cleared};
+ghost use Rattle.arrays.specs.Kin.{livesIn, childIn};
 
 // The lowest free number, or 24: that bit is set in any case, so the bits above it don't matter.
 pub fn first_free(live: u32) -> u8
@@ -31,7 +32,7 @@ pub fn has_child(children: &[u32; 32], t: u8) -> bool
 
 // f is live, under p.
 pub fn enrol(live: &mut u32, children: &mut [u32; 32], p: u8, f: u8)
-    requires { ⌜ (p < 32) × (f < 24) × (length (now children) ≡ 32) ⌝ }
+    requires { ⌜ (p < 32) × (f < 24) ⌝ }
     ensures { λ _. ⌜ (bits (now (live .exit)) ≡ (λ k. bits (now (live .entry)) k || same k f)) × Row p (λ k. sets (now (children .entry)) p k || same k f) (now (children .entry)) (now (children .exit)) ⌝ }
 {
     let i = p as usize;
@@ -41,7 +42,7 @@ pub fn enrol(live: &mut u32, children: &mut [u32; 32], p: u8, f: u8)
 
 // t, under p, is live no more.
 pub fn strike(live: &mut u32, children: &mut [u32; 32], p: u8, t: u8)
-    requires { ⌜ (p < 32) × (t < 24) × (length (now children) ≡ 32) ⌝ }
+    requires { ⌜ (p < 32) × (t < 24) ⌝ }
     ensures { λ _. ⌜ (bits (now (live .exit)) ≡ (λ k. not (same k t) && bits (now (live .entry)) k)) × Row p (λ k. not (same k t) && sets (now (children .entry)) p k) (now (children .entry)) (now (children .exit)) ⌝ }
 {
     let i = p as usize;
@@ -63,7 +64,7 @@ fn with_if(s: u32, b: bool, j: u8) -> u32
 // The live transactions.
 pub fn live_set(depth: &[u8; 24]) -> u32
     requires { ⌜ length (now depth) ≡ 24 ⌝ }
-    ensures { λ r. ⌜ bits r ≡ (λ u. not (same (getD (now (depth .entry)) u 0) 0)) ⌝ }
+    ensures { λ r. ⌜ bits r ≡ livesIn (now (depth .entry)) ⌝ }
 {
     let mut m = 0u32;
     for j in 0..24 {
@@ -87,7 +88,7 @@ fn enrol_if(children: &mut [u32; 32], p: u8, live: bool, j: u8)
 // Of each parent the set of its live children, 31 being the parent of those at the top.
 pub fn children_of(parent: &[u8; 24], depth: &[u8; 24]) -> [u32; 32]
     requires { ⌜ (length (now parent) ≡ 24) × (length (now depth) ≡ 24) × ((u : ℕ) → getD (now parent) u 0 < 32) ⌝ }
-    ensures { λ r. ⌜ (length r ≡ 32) × ((p : ℕ) → p < 32 → sets r p ≡ (λ u. not (same (getD (now (depth .entry)) u 0) 0) && same (getD (now (parent .entry)) u 0) p)) ⌝ }
+    ensures { λ r. ⌜ (length r ≡ 32) × ((p : ℕ) → p < 32 → sets r p ≡ childIn (now (parent .entry)) (now (depth .entry)) p) ⌝ }
 {
     let mut children = [0u32; 32];
     for j in 0..24 {

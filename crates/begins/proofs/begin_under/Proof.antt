@@ -29,7 +29,7 @@ place-requires : tie.Need-place-requires
 place-requires c κs = (free-place _ (c .before .before .before .before .before .before .args .depth .now) (kin-lowest _ _ _ _ _ (c .before .before .before .before .before .before .pre .7) (c .before .before .before .before .first-free .ensures)) (c .before .before .before .if1 .left), omega arith)
 
 enrol-requires : tie.Need-enrol-requires
-enrol-requires c κs = let p = c .before .before .before .before .before .before .before .before .before .pre .4 in let h = free-place _ (c .before .before .before .before .before .before .before .before .before .args .depth .now) (kin-lowest _ _ _ _ _ (c .before .before .before .before .before .before .before .before .before .pre .7) (c .before .before .before .before .before .before .before .first-free .ensures)) (c .before .before .before .before .before .before .if1 .left) in (omega arith, omega arith, c .before .before .before .before .before .before .before .before .before .pre .7 .long)
+enrol-requires c κs = let p = c .before .before .before .before .before .before .before .before .before .pre .4 in let h = free-place _ (c .before .before .before .before .before .before .before .before .before .args .depth .now) (kin-lowest _ _ _ _ _ (c .before .before .before .before .before .before .before .before .before .pre .7) (c .before .before .before .before .before .before .before .first-free .ensures)) (c .before .before .before .before .before .before .if1 .left) in (omega arith, omega arith)
 
 returns-2 : tie.Need-returns-2
 returns-2 c = let a = c .before .before .before .before .before .before .before .before .before .before .args in let e = c .before .before .before .place .ensures in let f = c .enrol .ensures in let q = kin-lowest _ _ _ _ _ (c .before .before .before .before .before .before .before .before .before .before .pre .7) (c .before .before .before .before .before .before .before .before .first-free .ensures) in (

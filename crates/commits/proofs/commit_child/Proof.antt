@@ -5,7 +5,7 @@ use mathlib.Core.List.{List}
 use Prim.Native.Nat.{ℕ, suc, _+_, _*_, _-_, _/_, _%_, _<_, _≤_}
 use native.Mathlib.Omega.{arith}
 use lib.ListN.{length, getD, set}
-use Rattle.commits.proofs.Commits.{child-test, commit-refuses, top-steps, top-cut, child-steps}
+use Rattle.commits.proofs.Commits.{child-steps}
 use Rattle.sets.specs.Sets.{sets}
 use Rattle.rules.specs.Store.{pagesOf}
 use Rattle.slots.specs.Parts.{lifted}
@@ -32,7 +32,7 @@ pass-requires : tie.Need-pass-requires
 pass-requires c κs = let e = c .before .before .before .before .before .before .before .before .before .pre .9 in (omega arith, parent-below _ _ (c .before .before .before .before .before .before .before .before .before .pre .10) (c .before .before .before .before .before .before .before .before .before .args .t) (omega arith), search needs, search needs)
 
 strike-requires : tie.Need-strike-requires
-strike-requires c κs = let p = c .before .before .before .before .before .before .before .before .before .before .before .before .pre .11 .named (c .before .before .before .before .before .before .before .before .before .before .before .before .args .t) in let h = c .before .before .before .before .before .before .before .before .before .before .before .before .pre .0 in (omega arith, omega arith, c .before .before .before .before .before .before .before .before .before .before .before .before .pre .11 .long)
+strike-requires c κs = let p = c .before .before .before .before .before .before .before .before .before .before .before .before .pre .11 .named (c .before .before .before .before .before .before .before .before .before .before .before .before .args .t) in let h = c .before .before .before .before .before .before .before .before .before .before .before .before .pre .0 in (omega arith, omega arith)
 
 retire-requires : tie.Need-retire-requires
 retire-requires c κs = search needs

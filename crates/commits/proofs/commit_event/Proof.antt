@@ -4,9 +4,9 @@ use Prim.Native.Nat.{ℕ, _-_, _<_}
 use native.Mathlib.Omega.{arith}
 use lib.ListN.{getD}
 use Rattle.rules.specs.Event.{commit}
-use Rattle.arrays.proofs.Kin.{kin-child}
-use Rattle.commits.proofs.Commits.{child-test, commit-refuses}
+use Rattle.commits.proofs.Commits.{commit-refuses}
 use Rattle.events.specs.Whole.{Ready}
+use Rattle.events.proofs.Parents.{child-test}
 use Rattle.events.proofs.Steps.{numbered}
 use borrow.Author.Needs.{needs}
 use Rattle.commits.proofs.commit_event.Statement.{statement}
@@ -25,7 +25,7 @@ has-child-requires : tie.Need-has-child-requires
 has-child-requires c κs = search needs
 
 returns : tie.Need-returns
-returns c = (λ I R. numbered _ _ _ (λ t r. commit t (c .before .before .before .before .before .before .args .k)) Ready _ _ 0 0 (c .before .before .before .number .ensures .0) (refl) (λ R. commit-refuses _ I _ (c .before .before .before .before .before .before .args .k) R (sym (child-test _ _ _ (kin-child _ _ _ _ _ _ (c .before .before .before .before .before .before .pre .10) (let h = c .before .before .before .number .ensures .1 in omega arith) (c .before .has-child .ensures))) ∙ c .if1 .taken)) R, c .before .before .before .before .before .before .pre .10)
+returns c = (λ I R. numbered _ _ _ (λ t r. commit t (c .before .before .before .before .before .before .args .k)) Ready _ _ 0 0 (c .before .before .before .number .ensures .0) (refl) (λ R. commit-refuses _ I _ (c .before .before .before .before .before .before .args .k) R (sym (child-test _ _ _ _ _ (c .before .before .before .before .before .before .pre .10) (let h = c .before .before .before .number .ensures .1 in omega arith) (c .before .has-child .ensures)) ∙ c .if1 .taken)) R, c .before .before .before .before .before .before .pre .10)
 
 cast-d : tie.Need-cast-d
 cast-d c = search needs
@@ -43,7 +43,7 @@ same-length-2 : tie.Need-same-length-2
 same-length-2 c = search needs
 
 returns-2 : tie.Need-returns-2
-returns-2 c = (λ I R. numbered _ _ _ (λ t r. commit t (c .before .before .before .before .before .before .before .before .before .before .before .before .before .before .before .before .before .before .before .before .before .before .args .k)) Ready _ _ 0 0 (c .before .before .before .before .before .before .before .before .before .before .before .before .before .before .before .before .before .before .before .number .ensures .0) (refl) (λ R. c .before .before .commit-top .ensures .0 I R (sym (child-test _ _ _ (kin-child _ _ _ _ _ _ (c .before .before .before .before .before .before .before .before .before .before .before .before .before .before .before .before .before .before .before .before .before .before .pre .10) (let h = c .before .before .before .before .before .before .before .before .before .before .before .before .before .before .before .before .before .before .before .number .ensures .1 in omega arith) (c .before .before .before .before .before .before .before .before .before .before .before .before .before .before .before .before .before .has-child .ensures))) ∙ c .before .before .before .before .before .before .before .before .before .before .before .before .before .before .before .before .if1 .left) (c .before .before .before .before .before .before .before .before .before .before .before .before .before .before .if2 .taken)) R, c .before .before .commit-top .ensures .1)
+returns-2 c = (λ I R. numbered _ _ _ (λ t r. commit t (c .before .before .before .before .before .before .before .before .before .before .before .before .before .before .before .before .before .before .before .before .before .before .args .k)) Ready _ _ 0 0 (c .before .before .before .before .before .before .before .before .before .before .before .before .before .before .before .before .before .before .before .number .ensures .0) (refl) (λ R. c .before .before .commit-top .ensures .0 I R (sym (child-test _ _ _ _ _ (c .before .before .before .before .before .before .before .before .before .before .before .before .before .before .before .before .before .before .before .before .before .before .pre .10) (let h = c .before .before .before .before .before .before .before .before .before .before .before .before .before .before .before .before .before .before .before .number .ensures .1 in omega arith) (c .before .before .before .before .before .before .before .before .before .before .before .before .before .before .before .before .before .has-child .ensures)) ∙ c .before .before .before .before .before .before .before .before .before .before .before .before .before .before .before .before .if1 .left) (c .before .before .before .before .before .before .before .before .before .before .before .before .before .before .if2 .taken)) R, c .before .before .commit-top .ensures .1)
 
 commit-child-requires : tie.Need-commit-child-requires
 commit-child-requires c κs = let e = c .before .before .before .before .before .before .before .before .before .before .before .before .before .before .number .ensures .0 in let h : 0 < getD (c .before .before .before .before .before .before .before .before .before .before .before .before .before .before .before .before .before .args .depth .now) (c .before .before .before .before .before .before .before .before .before .before .before .before .before .before .number .result) 0 = subst⁻¹ (λ (n : ℕ). 0 < getD (c .before .before .before .before .before .before .before .before .before .before .before .before .before .before .before .before .before .args .depth .now) n 0) e (c .before .before .before .before .before .before .before .before .before .before .before .before .before .before .before .before .before .pre .8) in (c .before .before .before .before .before .before .before .before .before .before .before .before .before .before .number .ensures .1, search needs, search needs, search needs, search needs, search needs, search needs, search needs, omega arith, refl, c .before .before .before .before .before .before .before .before .before .before .before .before .before .before .before .before .before .pre .9, c .before .before .before .before .before .before .before .before .before .before .before .before .before .before .before .before .before .pre .10)
@@ -52,7 +52,7 @@ same-length-3 : tie.Need-same-length-3
 same-length-3 c = search needs
 
 returns-3 : tie.Need-returns-3
-returns-3 c = (λ I R. numbered _ _ _ (λ t r. commit t (c .before .before .before .before .before .before .before .before .before .before .before .before .before .before .before .before .before .before .before .before .args .k)) Ready _ _ 0 0 (c .before .before .before .before .before .before .before .before .before .before .before .before .before .before .before .before .before .number .ensures .0) (refl) (λ R. c .before .before .commit-child .ensures .0 _ _ _ I R (sym (child-test _ _ _ (kin-child _ _ _ _ _ _ (c .before .before .before .before .before .before .before .before .before .before .before .before .before .before .before .before .before .before .before .before .pre .10) (let h = c .before .before .before .before .before .before .before .before .before .before .before .before .before .before .before .before .before .number .ensures .1 in omega arith) (c .before .before .before .before .before .before .before .before .before .before .before .before .before .before .before .has-child .ensures))) ∙ c .before .before .before .before .before .before .before .before .before .before .before .before .before .before .if1 .left)) R, c .before .before .commit-child .ensures .1)
+returns-3 c = (λ I R. numbered _ _ _ (λ t r. commit t (c .before .before .before .before .before .before .before .before .before .before .before .before .before .before .before .before .before .before .before .before .args .k)) Ready _ _ 0 0 (c .before .before .before .before .before .before .before .before .before .before .before .before .before .before .before .before .before .number .ensures .0) (refl) (λ R. c .before .before .commit-child .ensures .0 _ _ _ I R (sym (child-test _ _ _ _ _ (c .before .before .before .before .before .before .before .before .before .before .before .before .before .before .before .before .before .before .before .before .pre .10) (let h = c .before .before .before .before .before .before .before .before .before .before .before .before .before .before .before .before .before .number .ensures .1 in omega arith) (c .before .before .before .before .before .before .before .before .before .before .before .before .before .before .before .has-child .ensures)) ∙ c .before .before .before .before .before .before .before .before .before .before .before .before .before .before .if1 .left)) R, c .before .before .commit-child .ensures .1)
 
 pub commit-event-spec : {M : Type 1} → statement M
 commit-event-spec =

@@ -5,7 +5,7 @@ use mathlib.Core.List.{List}
 use Prim.Native.Nat.{ℕ, suc, _+_, _*_, _-_, _/_, _%_, _<_, _≤_}
 use native.Mathlib.Omega.{arith}
 use lib.ListN.{length, getD, set}
-use Rattle.commits.proofs.Commits.{child-test, commit-refuses, top-steps, top-cut, child-steps}
+use Rattle.commits.proofs.Commits.{top-steps, top-cut}
 use Rattle.arrays.proofs.Kin.{kin-retired}
 use borrow.Author.Needs.{needs}
 use Rattle.commits.proofs.commit_top.Statement.{statement}
@@ -45,7 +45,7 @@ element-copy-out-strike : tie.Need-element-copy-out-strike
 element-copy-out-strike c = search needs
 
 strike-requires : tie.Need-strike-requires
-strike-requires c κs = (c .before .before .before .before .before .before .before .before .before .before .before .before .before .before .before .before .before .pre .9 .named _, c .before .before .before .before .before .before .before .before .before .before .before .before .before .before .before .before .before .pre .0, c .before .before .before .before .before .before .before .before .before .before .before .before .before .before .before .before .before .pre .9 .long)
+strike-requires c κs = (c .before .before .before .before .before .before .before .before .before .before .before .before .before .before .before .before .before .pre .9 .named _, c .before .before .before .before .before .before .before .before .before .before .before .before .before .before .before .before .before .pre .0)
 
 retire-requires : tie.Need-retire-requires
 retire-requires c κs = search needs

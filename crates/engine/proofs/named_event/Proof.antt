@@ -8,9 +8,9 @@ use mathlib.Core.Option.{some}
 use Rattle.laws.specs.Tests.{same}
 use Rattle.rules.specs.Event.{commit, abort}
 use Rattle.event.proofs.Meaning.{means-commit, means-abort}
-use Rattle.arrays.proofs.Kin.{kin-child}
 use Rattle.engine.proofs.ByKind.{report-is, unknown-steps, leaf-of, waits-steps}
 use Rattle.engine.proofs.Numbers.{record-is, no-record, transaction-small}
+use Rattle.events.proofs.Parents.{child-test}
 use Rattle.events.proofs.Steps.{retold, sources, not-live}
 use borrow.Author.Needs.{needs}
 use Rattle.engine.proofs.named_event.Statement.{statement}
@@ -60,7 +60,7 @@ has-child-requires c κs = c .before .before .before .before .before .before .be
 
 returns-4 : tie.Need-returns-4
 returns-4 c = let a = c .before .before .before .before .before .before .before .before .before .before .args in let pre = c .before .before .before .before .before .before .before .before .before .before .pre in
-    (waits-steps _ (a .e .transaction) _ (kin-child _ _ _ _ _ _ (pre .6) (pre .3 .transaction) (c .before .has-child .ensures)) (c .if4 .taken) (a .e) refl (pre .4) (pre .1) (omega arith) (record { up = pre .5; live = omega arith }), pre .6)
+    (waits-steps _ (a .e .transaction) _ (child-test _ _ _ _ _ (pre .6) (pre .3 .transaction) (c .before .has-child .ensures)) (c .if4 .taken) (a .e) refl (pre .4) (pre .1) (omega arith) (record { up = pre .5; live = omega arith }), pre .6)
 
 checked-requires : tie.Need-checked-requires
 checked-requires c κs = search needs
@@ -76,7 +76,7 @@ record-event-requires c κs = let a = c .before .before .before .before .before 
   omega arith,
   pre .3,
   pre .4,
-  leaf-of _ (a .e .transaction) _ (kin-child _ _ _ _ _ _ (pre .6) (pre .3 .transaction) (c .before .before .before .before .before .before .before .before .before .before .before .before .before .before .has-child .ensures)) (c .before .before .before .before .before .before .before .before .before .before .before .before .before .if4 .left) (record { up = pre .5; live = omega arith }) _ (pre .0),
+  leaf-of _ (a .e .transaction) _ (child-test _ _ _ _ _ (pre .6) (pre .3 .transaction) (c .before .before .before .before .before .before .before .before .before .before .before .before .before .before .has-child .ensures)) (c .before .before .before .before .before .before .before .before .before .before .before .before .before .if4 .left) (record { up = pre .5; live = omega arith }) _ (pre .0),
 )
 
 enum-told : tie.Need-enum-told
