@@ -1,6 +1,6 @@
 -- The tests of the code decide the clauses.
 use mathlib.Core.Path.{_≡_, refl, sym, ap, _∙_, fun-ext}
-use mathlib.Core.Bool.{Bool, true, not, _&&_, _||_, true≢false}
+use mathlib.Core.Bool.{Bool, true, false, not, _&&_, _||_, true≢false, or-false}
 use mathlib.Core.List.{List}
 use mathlib.Core.Option.{Option, none, some}
 use native.Mathlib.Omega.{arith}
@@ -11,11 +11,16 @@ use lib.ListN.{getD}
 use Rattle.laws.specs.Tests.{same}
 use Rattle.laws.specs.Counting.{all}
 use Rattle.laws.specs.Bits.{bits}
+use Rattle.laws.proofs.Tests.{same-refl}
 use Rattle.laws.proofs.Bits.{bits-or}
-use Rattle.rules.specs.Store.{pagesOf, readCommit, isEmptied, emptied}
-use Rattle.rules.specs.Editions.{geometry1, depths}
+use Rattle.rules.specs.Store.{Page, pagesOf, readCommit, mapIn, isDamaged, isEmptied, emptied, Prepared, readPrepared, isPrepared, identityIn}
+use Rattle.rules.specs.Step.{isBusy}
+use Rattle.rules.specs.Sound.{isCalm}
+use Rattle.rules.specs.Editions.{geometry1, edition1, depths}
+use Rattle.rules.proofs.PreparedPage.{read-unprepared}
+use Rattle.rules.proofs.Editions.{proper1}
 use Rattle.sets.specs.Sets.{sets}
-use Rattle.commitpage.specs.Heard.{heard}
+use Rattle.commitpage.specs.Heard.{understood}
 use Rattle.clauses.specs.Decides.{Decides}
 use Rattle.clauses.specs.Clauses.{Vacant, Seated, Entry, Within, Lock, Share, Phase}
 use Rattle.clauses.proofs.Decides.{decides-as, decides-by, decides-self, decides-and, decides-or, decides-if, decides-unless, decides-same, decides-less, decides-most, decides-within}
@@ -131,19 +136,26 @@ free-share depth t e = record { yes = λ z h. absurd (omega arith); no = λ z f.
 pub live-share : {b : Bool} {P : Type 0} (depth : List ℕ) (t : ℕ) → 0 < getD depth t 0 → Decides b P → Decides b (0 < getD depth t 0 → P)
 live-share depth t h d = decides-as (λ p z. p) (λ f. f h) d
 
-empty-is : (o : Option ℕ) → (heard o .good && same (heard o .map) 0) ≡ isEmptied o
-unfolding heard isEmptied
-empty-is none = refl
-empty-is (some m) = refl
+-- not damaged, and with no map in force: empty or prepared
+calm-is : (page : Page) → (understood page .good && same (understood page .map) 0) ≡ (isEmptied (readCommit geometry1 page) || isBusy (identityIn (readPrepared geometry1 page)))
+unfolding understood mapIn isDamaged isEmptied isPrepared identityIn isBusy
+calm-is page = go (readCommit geometry1 page) refl (readPrepared geometry1 page) refl
+  where
+    go : (o : Option ℕ) → readCommit geometry1 page ≡ o → (q : Option Prepared) → readPrepared geometry1 page ≡ q
+        → (not (isDamaged o && not (isPrepared q)) && same (mapIn o) 0) ≡ (isEmptied o || isBusy (identityIn q))
+    go none e none h = refl
+    go none e (some p) h = same-refl 0
+    go (some m) e none h = sym (or-false (same m 0))
+    go (some m) e (some p) h = absurd (true≢false (ap (λ (q : Option Prepared). isPrepared q) (sym h ∙ read-unprepared geometry1 proper1 page m e)))
 
 pub phase-decided : (up : ℕ) (depth store : List ℕ) (idle good : Bool) (map : ℕ) → Decides idle ((t : ℕ) → t < 24 → getD depth t 0 ≡ 0)
-    → good ≡ heard (readCommit geometry1 (pagesOf store 0)) .good → map ≡ heard (readCommit geometry1 (pagesOf store 0)) .map
+    → good ≡ understood (pagesOf store 0) .good → map ≡ understood (pagesOf store 0) .map
     → Decides ((leb up 1 && (same up 1 || idle)) && (not (same up 1) || (good && same map 0))) (Phase up depth store)
-unfolding emptied
+unfolding isCalm emptied
 phase-decided up depth store idle good map d g m =
     decides-as
     (λ x. record { flag = x .0 .0; idle = x .0 .1; calm = x .1 })
     (λ p. ((p .flag, p .idle), p .calm))
     (decides-and
     (decides-and (decides-most up 1) (decides-unless (same up 1) d))
-    (decides-if (same up 1) (decides-by (rw (g, m) (empty-is (readCommit geometry1 (pagesOf store 0)))) (decides-self (isEmptied (readCommit geometry1 (pagesOf store 0)))))))
+    (decides-if (same up 1) (decides-by (rw (g, m) (calm-is (pagesOf store 0))) (decides-self (isCalm (edition1 .medium) (pagesOf store))))))

@@ -8,8 +8,9 @@ use Prim.Native.Nat.{ℕ, suc, _<_, _≤_}
 use lib.ListN.{getD}
 use Rattle.laws.specs.Tests.{same}
 use Rattle.rules.specs.Geometry.{transactions, nobody}
-use Rattle.rules.specs.Store.{pagesOf, emptied}
-use Rattle.rules.specs.Editions.{geometry1}
+use Rattle.rules.specs.Store.{pagesOf}
+use Rattle.rules.specs.Sound.{isCalm}
+use Rattle.rules.specs.Editions.{geometry1, edition1}
 use Rattle.sets.specs.Sets.{sets}
 use Rattle.arrays.specs.View.{anyMode, writeMode}
 
@@ -80,8 +81,8 @@ SharesOf line held retained t = (r : ℕ) → r < 16 → ShareOf line held retai
 abbrev pub Shares : List ℕ → List ℕ → List ℕ → List ℕ → Type 0
 Shares depth line held retained = (t : ℕ) → t < transactions → 0 < getD depth t 0 → SharesOf line held retained t
 
--- up is 0 or 1; nothing is live while down; the commit page is empty while up
+-- up is 0 or 1; nothing is live while down; the commit page is empty or prepared while up
 pub record Phase (up : ℕ) (depth store : List ℕ) : Type 0 where
   pub flag : up ≤ 1
   pub idle : same up 1 ≡ false → (t : ℕ) → t < transactions → getD depth t 0 ≡ 0
-  pub calm : same up 1 ≡ true → emptied geometry1 (pagesOf store) ≡ true
+  pub calm : same up 1 ≡ true → isCalm (edition1 .medium) (pagesOf store) ≡ true

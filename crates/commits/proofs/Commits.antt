@@ -33,7 +33,7 @@ use Rattle.arrays.proofs.Modes.{leaving-discarded, inheriting-inherited}
 use Rattle.slots.specs.Parts.{lifted}
 use Rattle.slots.proofs.Lifting.{hit, miss-depth, miss-row}
 use Rattle.commit.specs.Phase.{Leaves, topSlot, versionsIn}
-use Rattle.events.specs.Whole.{Arrays, arrays, view, lineIn, Intact, saying, Stepped, Ready}
+use Rattle.events.specs.Whole.{Arrays, arrays, view, lineIn, Intact, saying, Stepped, Ready, beside, Clear}
 use Rattle.events.proofs.Rules.{commit-done, commit-refused}
 use Rattle.events.proofs.Steps.{answer, stepped, finishes, unmoved, state-eq, up-is, live-is, wrote-is, depth-of, shallow, writer-deep}
 use Rattle.events.proofs.Ends.{bearers-cleared, lines-cleared, tidy-cleared, nested-cleared, rest-is, rest-form}
@@ -43,7 +43,7 @@ use Rattle.crashes.proofs.Falls.{zeros, zeros-down, zeros-formed, Fallen, falle
 pub commit-refuses : (x : Arrays) → Intact x → (t k : ℕ) → Ready x t → hasChild (view x) t ≡ true → Stepped x (some (commit t k)) (answer 10 0) x
 commit-refuses x I t k R h = unmoved x (some (commit t k)) 10 (I .form) (commit-refused edition1 (view x) t (up-is x (R .up)) (live-is x t (R .live)) k h)
 
-module _ (x : Arrays) (I : Intact x) (t k : ℕ) (R : Ready x t) (childless : hasChild (view x) t ≡ false) where
+module _ (x : Arrays) (I : Intact x) (t k : ℕ) (R : Ready x t) (childless : hasChild (view x) t ≡ false) (clear : Clear x t) where
   abbrev b : Bearers
   b = bearersOf (x .parent) (x .depth)
 
@@ -58,7 +58,8 @@ module _ (x : Arrays) (I : Intact x) (t k : ℕ) (R : Ready x t) (childless : ha
   closed = alone-closed (I .sound) t (record { up = up-is x (R .up); alive = live-is x t (R .live); childless = childless })
 
   commits-is : step edition1 (view x) (some (commit t k)) ≡ commits edition1 (view x) t k (lineOf (view x .bearer) t)
-  commits-is = commit-done edition1 (view x) t (up-is x (R .up)) (live-is x t (R .live)) k childless
+  unfolding beside
+  commits-is = commit-done edition1 (view x) t (up-is x (R .up)) (live-is x t (R .live)) k childless clear
 
   -- a top transaction, over what its page writes left
   module _ (top : d t ≡ 1) (m : ℕ) (mapped : m ≡ mapOf geometry1 (λ r. sets (x .writers) r t)) (store : List ℕ) (made : ℕ) (crashed : Bool) (size : length store ≡ 1056)

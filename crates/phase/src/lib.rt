@@ -18,14 +18,14 @@ fn is_idle(depth: &[u8; 24]) -> bool
     ok
 }
 
-// The flag is 0 or 1, nothing is live while down, and the commit page is empty while up.
+// The flag is 0 or 1, nothing is live while down, and the commit page is empty or prepared while up: not damaged, and with no map in force.
 pub fn is_phase(up: u8, depth: &[u8; 24], store: &[u8]) -> bool
     requires { ⌜ (length (now depth) ≡ 24) × (length (now store) ≡ 1056) ⌝ }
     ensures { λ r. ⌜ Decides r (Phase up (now (depth .entry)) (now (store .entry))) ⌝ }
 {
     let idle = is_idle(depth);
     let page = page::get_page(store, 0);
-    let c = commitpage::read_commit(page);
+    let c = commitpage::read_page(page);
     let good = c.good;
     let empty = c.map == 0;
     let is_up = up == 1;

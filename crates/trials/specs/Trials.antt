@@ -1,15 +1,15 @@
 -- The trials at the edges that document 01 marks, as rows of one table, with rows that shut out its five shortcuts, and rows for the locks of
--- document 02: read locks, reports, live children.
+-- document 02: read locks, reports, live children, and for prepared transactions.
 use Prim.Native.Nat.{ℕ, zero, suc, _+_, _-_, _*_, _/_, _%_}
 use mathlib.Core.Bool.{Bool, true, false, _&&_}
 use mathlib.Core.List.{List, [], _∷_, _++_}
-use lib.ListN.{take, length, set, replicate}
+use lib.ListN.{take, drop, length, set, replicate}
 use lib.IntN.{ℤ, pos, negsuc}
 use Rattle.laws.specs.Tests.{same}
 use Rattle.laws.specs.Bytes.{bytes, sameList}
 use Rattle.rules.specs.Geometry.{Geometry, pageSize, nobody, wordSize, workSize}
-use Rattle.rules.specs.Store.{Page, blank, fresh, settled, home, pagesOf}
-use Rattle.rules.specs.Event.{toWrite, toRead, Event, begin, lock, write, read, commit, abort, crash, recover, encode}
+use Rattle.rules.specs.Store.{Page, blank, fresh, settled, intention, home, pagesOf}
+use Rattle.rules.specs.Event.{toWrite, toRead, Event, begin, lock, write, read, commit, abort, crash, recover, prepare, decide, query, encode}
 use Rattle.rules.specs.Form.{Form, Medium}
 use Rattle.rules.specs.Run.{Result, run}
 use Rattle.rules.specs.Age.{Age, ahead, live, stale, refused, ageOf}
@@ -148,6 +148,25 @@ bothA5 = value 3 withA5 ∷ value 9 withA5 ∷ []
 abbrev neither : List Due
 neither = value 3 blank ∷ value 9 blank ∷ []
 
+-- a decision to commit, to abort
+abbrev rules : ℕ → ℕ → Event
+rules k i = decide true k i
+
+abbrev strikes : ℕ → ℕ → Event
+strikes k i = decide false k i
+
+-- a fresh store with these bytes at the commit page's beginning, and A5 in the intention page of record 3 at 2
+abbrev startWith : List ℕ → List ℕ
+startWith head = head ++ drop (length head) (set freshBytes (pageSize * intention 3 + 2) 0xA5)
+
+-- record 3 is prepared with identity 7
+abbrev prepared7 : List ℕ
+prepared7 = startWith (0x13 ∷ 0x10 ∷ 0x00 ∷ 0x08 ∷ 0x07 ∷ [])
+
+-- recovery over this commit page is refused
+abbrev damagedBy : List ℕ → Trial
+damagedBy head = plays (startWith head) (on (recover 63) 0x0400 ∷ []) (page 0 head ∷ value 3 blank ∷ [])
+
 abbrev pub trials : List Trial
 trials =
     -- 1: the list in full, and its commit page after the eleventh event
@@ -219,7 +238,7 @@ trials =
     onFresh (on top 0x0000 ∷ on (locks 0 3) 0x0000 ∷ on (write 0 3 2 0) 0x0000 ∷ on (commit 0 63) 0x0004 ∷ []) [] ∷
     -- Names: 24 to 30 are never live, 31 only in begin is no name; stray bits are 1 before all else.
     onFresh (
-    on (begin 24) 0x0500 ∷ on (begin 30) 0x0500 ∷ on (locks 31 3) 0x0500 ∷ (0x70000001, 0x0100) ∷ (0x90000000, 0x0100) ∷ (0x00000000, 0x0100) ∷
+    on (begin 24) 0x0500 ∷ on (begin 30) 0x0500 ∷ on (locks 31 3) 0x0500 ∷ (0x70000001, 0x0100) ∷ (0xC0000000, 0x0100) ∷ (0x00000000, 0x0100) ∷
     (0x20000002, 0x0100) ∷ on (recover 63) 0x0300 ∷ []) [] ∷
     -- Read locks. What is held and what is retained are apart: a retainer in write mode that holds to read does not write.
     plays freshBytes (
@@ -283,6 +302,54 @@ trials =
     on top 0x0000 ∷ on top 0x0001 ∷ on (locks 1 3) 0x0000 ∷ on (begin 0) 0x0002 ∷ on (begin 2) 0x0003 ∷ on (locks 0 3) 0x0E00 ∷ on (read 0 3 2) 0x0E00 ∷
     on (write 2 3 2 7) 0x0E00 ∷ on (locks 3 3) 0x0800 ∷ on (read 3 3 2) 0x0900 ∷ on (locks 4 3) 0x0500 ∷ on (aborts 0) 0x0000 ∷ on (read 0 3 2) 0x0500 ∷
     on (read 1 3 2) 0x0000 ∷ []) [] ∷
+    -- The prepared page: records 0 and 3, identity 2A. What it settles is as before.
+    onFresh (
+    on top 0x0000 ∷ on (locks 0 0) 0x0000 ∷ on (write 0 0 1 7) 0x0000 ∷ on (locks 0 3) 0x0000 ∷ on (write 0 3 2 0xA5) 0x0000 ∷ (0x90003F2A, 0x0003) ∷ []) (
+    page 0 (0x13 ∷ 0x90 ∷ 0x00 ∷ 0x10 ∷ 0x2A ∷ replicate 27 0) ∷ page 4 withA5 ∷ value 0 blank ∷ value 3 blank ∷ []) ∷
+    -- A count that isn't the map's, a map of 0, a byte behind: damaged. So is a fifth byte of an empty or a committed page. Identity 0 is one.
+    damagedBy (0x13 ∷ 0x90 ∷ 0x00 ∷ 0x08 ∷ 0x2A ∷ []) ∷ damagedBy (0x13 ∷ 0x00 ∷ 0x00 ∷ 0x00 ∷ 0x2A ∷ []) ∷
+    damagedBy (0x13 ∷ 0x10 ∷ 0x00 ∷ 0x09 ∷ 0x07 ∷ []) ∷ damagedBy (0x13 ∷ 0x10 ∷ 0x00 ∷ 0x08 ∷ 0x07 ∷ 0x01 ∷ []) ∷
+    damagedBy (0x10 ∷ 0x00 ∷ 0x00 ∷ 0x00 ∷ 0x01 ∷ []) ∷ damagedBy (0x15 ∷ 0x10 ∷ 0x00 ∷ 0x08 ∷ 0x01 ∷ []) ∷
+    plays (startWith (0x13 ∷ 0x10 ∷ 0x00 ∷ 0x08 ∷ 0x00 ∷ [])) (on (recover 63) 0x0000 ∷ on (query 0) 0x0001 ∷ []) [] ∷
+    -- A prepare of one record, cut after 0 and 1 writes: nothing is prepared, and it is lost; whole after 2.
+    onFresh (writesA5 ++ (on (prepare 0 0 7) 0x0B00 ∷ on (recover 63) 0x0000 ∷ on (query 7) 0x0000 ∷ [])) (value 3 blank ∷ page 0 emptyPage ∷ []) ∷
+    onFresh (writesA5 ++ (on (prepare 0 1 7) 0x0B01 ∷ on (recover 63) 0x0000 ∷ on (query 7) 0x0000 ∷ [])) (value 3 blank ∷ page 0 emptyPage ∷ []) ∷
+    onFresh (writesA5 ++ (on (prepare 0 2 7) 0x0002 ∷ on (query 7) 0x0001 ∷ on (query 8) 0x0000 ∷ [])) (value 3 blank ∷ []) ∷
+    -- A transaction that changed nothing just commits, also while another is prepared; there is nothing to decide then.
+    onFresh (on top 0x0000 ∷ on (locks 0 3) 0x0000 ∷ on (prepare 0 0 7) 0x0000 ∷ on (query 7) 0x0000 ∷ on (rules 63 7) 0x0000 ∷ on top 0x0000 ∷ on (locks 0 3) 0x0000 ∷ []) (
+    page 0 emptyPage ∷ []) ∷
+    onFresh (writesA5 ++ (on (prepare 0 63 7) 0x0002 ∷ on top 0x0000 ∷ on (locks 0 4) 0x0000 ∷ on (prepare 0 0 8) 0x0000 ∷ on top 0x0000 ∷ on (commit 0 0) 0x0000 ∷ on (query 7) 0x0001 ∷ [])) [] ∷
+    -- While one is prepared, 13 for a changed record: of a prepare, also by a child, tried after 10 and before 27; of a top commit, and not of a
+    -- child's.
+    onFresh (writesA5 ++ (
+    (0x90003F07, 0x0002) ∷ on top 0x0000 ∷ on (begin 0) 0x0001 ∷ (0x90803F08, 0x1B00) ∷ on (locks 1 4) 0x0000 ∷ on (write 1 4 2 7) 0x0000 ∷ (0x90803F08, 0x0D00) ∷
+    (0x90003F08, 0x0A00) ∷ (0x50803F00, 0x0000) ∷ (0x50003F00, 0x0D00) ∷ (0x90003F08, 0x0D00) ∷ (0xA0003F07, 0x0001) ∷ (0x50003F00, 0x0004) ∷ [])) (
+    value 3 blank ∷ value 4 (set blank 2 7) ∷ []) ∷
+    -- A prepare ends the transaction; what it changed stays locked in every mode, through crashes, and its other locks go.
+    onFresh (writesA5 ++ (
+    on (locks 0 4) 0x0000 ∷ on (shares 0 5) 0x0000 ∷ on (prepare 0 63 7) 0x0002 ∷ on (read 0 3 2) 0x0500 ∷ on top 0x0000 ∷ on (locks 0 3) 0x0800 ∷ on (shares 0 3) 0x0800 ∷
+    on (locks 0 4) 0x0000 ∷ on (locks 0 5) 0x0000 ∷ on crash 0x0000 ∷ on (recover 0) 0x0000 ∷ on top 0x0000 ∷ on (shares 0 3) 0x0800 ∷ on (rules 63 7) 0x0003 ∷
+    on (shares 0 3) 0x0000 ∷ on (read 0 3 2) 0x00A5 ∷ [])) (value 3 withA5 ∷ page 0 emptyPage ∷ []) ∷
+    -- Recovery over a prepared page writes nothing and comes up, whatever its count.
+    plays prepared7 (on (recover 0) 0x0000 ∷ on crash 0x0000 ∷ on (recover 63) 0x0000 ∷ []) (page 0 (0x13 ∷ 0x10 ∷ 0x00 ∷ 0x08 ∷ 0x07 ∷ []) ∷ value 3 blank ∷ []) ∷
+    -- A decision: offset 2 is 1, also while down; while down 2; for another nothing, whatever its count.
+    plays prepared7 (
+    (0xA000BF07, 0x0100) ∷ (0xA0007F07, 0x0200) ∷ (0xB0000007, 0x0200) ∷ (0xB0000107, 0x0100) ∷ on (recover 63) 0x0000 ∷ (0xA000BF07, 0x0100) ∷
+    on (rules 0 8) 0x0000 ∷ on (strikes 0 8) 0x0000 ∷ on (query 7) 0x0001 ∷ on (query 8) 0x0000 ∷ []) (value 3 blank ∷ []) ∷
+    -- To abort: cut after 0 it is still prepared; whole after 1, and again nothing.
+    plays prepared7 (
+    on (recover 63) 0x0000 ∷ (0xA0000007, 0x0B00) ∷ on (query 7) 0x0200 ∷ on (recover 63) 0x0000 ∷ on (query 7) 0x0001 ∷ on (strikes 1 7) 0x0001 ∷ on (query 7) 0x0000 ∷
+    on (strikes 63 7) 0x0000 ∷ on (rules 63 7) 0x0000 ∷ []) (value 3 blank ∷ page 0 emptyPage ∷ []) ∷
+    -- To commit: cut after 0 still prepared; after 1 and 2 stored, and recovered; whole after 3.
+    plays prepared7 (on (recover 63) 0x0000 ∷ on (rules 0 7) 0x0B00 ∷ on (recover 63) 0x0000 ∷ on (query 7) 0x0001 ∷ []) (value 3 blank ∷ []) ∷
+    plays prepared7 (on (recover 63) 0x0000 ∷ (0xA0004107, 0x0B01) ∷ []) (value 3 withA5 ∷ page 0 (0x15 ∷ 0x10 ∷ 0x00 ∷ 0x08 ∷ 0x00 ∷ []) ∷ []) ∷
+    plays prepared7 (on (recover 63) 0x0000 ∷ (0xA0004107, 0x0B01) ∷ on (recover 63) 0x0002 ∷ on (query 7) 0x0000 ∷ []) (value 3 withA5 ∷ page 0 emptyPage ∷ []) ∷
+    plays prepared7 (on (recover 63) 0x0000 ∷ on (rules 2 7) 0x0B02 ∷ []) (value 3 withA5 ∷ []) ∷
+    plays prepared7 (on (recover 63) 0x0000 ∷ on (rules 3 7) 0x0003 ∷ on (query 7) 0x0000 ∷ []) (value 3 withA5 ∷ page 0 emptyPage ∷ []) ∷
+    -- A cut decision ends the live transactions.
+    plays prepared7 (on (recover 63) 0x0000 ∷ on top 0x0000 ∷ on (rules 1 7) 0x0B01 ∷ on (recover 63) 0x0002 ∷ on (locks 0 3) 0x0500 ∷ []) (value 3 withA5 ∷ []) ∷
+    -- An age over a prepared page is by the home page.
+    ages (set prepared7 (pageSize * home geometry1 3 + 3) 7) 3 5 10 (ahead (negsuc 1)) ∷
     -- Refused before the first event, in the order 22, 24, 20, 21, with nothing touched.
     refuses 1055 5 (workSize geometry1 - 1) 0 22 ∷ refuses 1056 5 (workSize geometry1 - 1) 0 24 ∷ refuses 1056 5 (workSize geometry1) 0 20 ∷
     refuses 1056 16388 (workSize geometry1) 8194 20 ∷ refuses 1056 8 (workSize geometry1) 3 21 ∷

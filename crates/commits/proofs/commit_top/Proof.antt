@@ -33,7 +33,7 @@ same-length : tie.Need-same-length
 same-length c = search needs
 
 returns : tie.Need-returns
-returns c = (λ I R n d. top-cut _ I (c .before .before .before .before .before .before .before .before .before .before .before .before .before .before .before .before .before .before .before .args .t) (c .before .before .before .before .before .before .before .before .before .before .before .before .before .before .before .before .before .before .before .args .k) R n d _ (c .before .before .before .before .before .before .before .before .before .before .before .before .before .before .before .map-of .ensures) _ _ _ (search needs) (c .before .before .before .before .before .before .before .before .before .before .before .before .before .commit-pages .ensures) (c .before .before .before .before .before .before .before .before .before .before .if1 .taken) _ _ _ _ _ _ _ (c .fall .ensures .0), c .fall .ensures .1)
+returns c = (λ I R n clr d. top-cut _ I (c .before .before .before .before .before .before .before .before .before .before .before .before .before .before .before .before .before .before .before .args .t) (c .before .before .before .before .before .before .before .before .before .before .before .before .before .before .before .before .before .before .before .args .k) R n clr d _ (c .before .before .before .before .before .before .before .before .before .before .before .before .before .before .before .map-of .ensures) _ _ _ (search needs) (c .before .before .before .before .before .before .before .before .before .before .before .before .before .commit-pages .ensures) (c .before .before .before .before .before .before .before .before .before .before .if1 .taken) _ _ _ _ _ _ _ (c .fall .ensures .0), c .fall .ensures .1)
 
 single-requires : tie.Need-single-requires
 single-requires c κs = search needs
@@ -55,7 +55,7 @@ same-length-2 c = search needs
 
 returns-2 : tie.Need-returns-2
 returns-2 c = let e = c .retire .ensures in let f = c .before .before .before .before .before .before .before .before .discard .ensures in let s = c .before .before .before .before .strike .ensures in (
-  λ I R n d. top-steps _ I (c .before .before .before .before .before .before .before .before .before .before .before .before .before .before .before .before .before .before .before .before .before .before .args .t) (c .before .before .before .before .before .before .before .before .before .before .before .before .before .before .before .before .before .before .before .before .before .before .args .k) R n d _ (c .before .before .before .before .before .before .before .before .before .before .before .before .before .before .before .before .before .before .map-of .ensures) _ _ _ (search needs) (c .before .before .before .before .before .before .before .before .before .before .before .before .before .before .before .before .commit-pages .ensures) (c .before .before .before .before .before .before .before .before .before .before .before .before .before .if1 .left) _ _ _ _ _ _ _ (c .before .before .before .before .before .before .before .before .before .single .ensures) (e .0) (e .1) (e .2) (f .0) (f .1) (f .2),
+  λ I R n clr d. top-steps _ I (c .before .before .before .before .before .before .before .before .before .before .before .before .before .before .before .before .before .before .before .before .before .before .args .t) (c .before .before .before .before .before .before .before .before .before .before .before .before .before .before .before .before .before .before .before .before .before .before .args .k) R n clr d _ (c .before .before .before .before .before .before .before .before .before .before .before .before .before .before .before .before .before .before .map-of .ensures) _ _ _ (search needs) (c .before .before .before .before .before .before .before .before .before .before .before .before .before .before .before .before .commit-pages .ensures) (c .before .before .before .before .before .before .before .before .before .before .before .before .before .if1 .left) _ _ _ _ _ _ _ (c .before .before .before .before .before .before .before .before .before .single .ensures) (e .0) (e .1) (e .2) (f .0) (f .1) (f .2),
   kin-retired _ _ _ _ _ _ _ _ (c .before .before .before .before .before .before .before .before .before .before .before .before .before .before .before .before .before .before .before .before .before .before .args .t) _ (c .before .before .before .before .before .before .before .before .before .before .before .before .before .before .before .before .before .before .before .before .before .before .pre .9) refl (c .before .before .before .before .before .before .before .before .before .before .before .before .before .before .before .before .before .before .before .before .before .before .pre .9 .named (c .before .before .before .before .before .before .before .before .before .before .before .before .before .before .before .before .before .before .before .before .before .before .args .t)) (e .0) (e .1) (s .0) (s .1),
 )
 

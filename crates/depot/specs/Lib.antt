@@ -1,0 +1,2 @@
+-- The numbers of the depot's states, inputs and orders.
+pub mod Codes
