@@ -59,7 +59,7 @@ module _ (x : Arrays) (I : Intact x) (t k : ℕ) (R : Ready x t) (childless : ha
 
   commits-is : step edition1 (view x) (some (commit t k)) ≡ commits edition1 (view x) t k (lineOf (view x .bearer) t)
   unfolding beside
-  commits-is = commit-done edition1 (view x) t (up-is x (R .up)) (live-is x t (R .live)) k childless clear
+  commits-is = commit-done edition1 (view x) t (up-is x (R .up)) (live-is x t (R .live)) k childless (clear childless)
 
   -- a top transaction, over what its page writes left
   module _ (top : d t ≡ 1) (m : ℕ) (mapped : m ≡ mapOf geometry1 (λ r. sets (x .writers) r t)) (store : List ℕ) (made : ℕ) (crashed : Bool) (size : length store ≡ 1056)

@@ -1,20 +1,21 @@
 -- The engine's arrays as one, the state that they stand for, what holds of them between two events, and what one event does.
 use mathlib.Core.Path.{_≡_}
-use mathlib.Core.Bool.{Bool, false, _&&_}
+use mathlib.Core.Bool.{Bool, false}
 use mathlib.Core.List.{List}
 use mathlib.Core.Option.{Option}
 use Prim.Native.Nat.{ℕ, _<_, _≤_}
 use lib.ListN.{getD, length}
 use Rattle.laws.specs.Tests.{same}
-use Rattle.rules.specs.Store.{pagesOf}
+use Rattle.rules.specs.Store.{pagesOf, readPrepared}
 use Rattle.rules.specs.Event.{Event}
 use Rattle.rules.specs.State.{Bearers, State, lineOf, mem}
 use Rattle.rules.specs.Step as rules
-use Rattle.rules.specs.Step.{Outcome, StateOf, isTop, hasChild, changes, busy, numberOf, valueOf, step}
+use Rattle.rules.specs.Step.{Outcome, StateOf, hasChild, numberOf, valueOf, step}
 use Rattle.rules.specs.Sound.{Sound}
-use Rattle.rules.specs.Editions.{edition1, depths, workBytes}
+use Rattle.rules.specs.Editions.{geometry1, edition1, depths, workBytes}
 use Rattle.sets.specs.Sets.{sets}
 use Rattle.arrays.specs.View.{bearersOf, modesOf, Nested, versionsOf}
+use Rattle.commitpage.specs.Heard.{overheard}
 use Rattle.events.specs.declared.Answer.{Answer}
 
 -- up is 1, else the engine is down
@@ -85,14 +86,12 @@ pub record Ready (x : Arrays) (t : ℕ) : Type 0 where
   pub up : x .up ≡ 1
   pub live : 0 < getD (x .depth) t 0
 
--- t may commit beside what is prepared: it is a child, or has changed nothing, or nothing is prepared
-unfoldable pub beside : Arrays → ℕ → Bool
-beside x t = isTop (lineOf (view x .bearer) t) && (changes edition1 (view x) t && busy edition1 (view x))
-
-abbrev pub Clear : Arrays → ℕ → Type 0
-Clear x t = beside x t ≡ false
-
 -- and t has no live child
 pub record ReadyLeaf (x : Arrays) (t : ℕ) : Type 0 where
   pub ready : Ready x t
   pub childless : hasChild (view x) t ≡ false
+
+-- What the store says of a prepared transaction, kept beside the arrays: the map of the records that it changed, 0 where none is prepared, and its
+-- identity.
+abbrev pub Reserves : List ℕ → ℕ → ℕ → Type 0
+Reserves store map identity = overheard (readPrepared geometry1 (pagesOf store 0)) ≡ record { map = map; identity = identity }

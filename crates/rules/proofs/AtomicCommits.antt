@@ -306,10 +306,15 @@ module _ (g : Geometry) where
           (λ e. let w = commit-whole s v k e q in (or-left (emptied g (commitAt g s v k .store)) _ (w .0), w .1))
           (λ e. (ap (isCalm (atomicPages g)) (commit-idle s v k e) ∙ calm, or-left (same (changedIn g v) 0) _ (rw e (same-refl 0))))
 
+      -- the commit page says what it said of a prepared transaction
+      pub clear-held : (k : ℕ) → readPrepared g (commitAt g s v k .store 0) ≡ readPrepared g (s 0)
+      clear-held k = by-clear
+          (λ e. ap (readPrepared g) (commit-page s v k) ∙ commit-unprepared g proper k (mapOf g (changed v)) (mapOf-lt g (changed v)) (changes v) (s 0) (emptied-unprepared s e) ∙ sym (emptied-unprepared s e))
+          (λ e. ap (λ (x : Pages). readPrepared g (x 0)) (commit-idle s v k e))
+
       pub clear-unmoved : (k : ℕ) → Unmoved (atomicPages g) (commitAt g s v k .store) s
       clear-unmoved k = by-clear
-          (λ e. free-unmoved (commitAt g s v k .store) s
-          (ap (readPrepared g) (commit-page s v k) ∙ commit-unprepared g proper k (mapOf g (changed v)) (mapOf-lt g (changed v)) (changes v) (s 0) (emptied-unprepared s e)) (emptied-unprepared s e))
+          (λ e. free-unmoved (commitAt g s v k .store) s (clear-held k ∙ emptied-unprepared s e) (emptied-unprepared s e))
           (λ e. same-unmoved (commit-idle s v k e))
 
     pub agree-commit : (s c : Pages) (v w : ℕ → Option Page) (k : ℕ) → isClear g (atomicPages g) s v ≡ true → Ranged g v → Agree s c
@@ -358,12 +363,19 @@ module _ (g : Geometry) where
         go (some p) e = or-right (emptied g (recoverAt g s k .store)) _ (ap (λ (x : Pages). isBusy (identityIn (readPrepared g (x 0)))) (recover-idle s k p e) ∙ rw e)
         go none e = or-left (emptied g (recoverAt g s k .store)) _ (recover-whole s k (sym (and-true (isDamaged (readCommit g (s 0)))) ∙ rw e at d) q)
 
+    pub recover-held : (s : Pages) (k : ℕ) → readPrepared g (recoverAt g s k .store 0) ≡ readPrepared g (s 0)
+    recover-held s k = go (readPrepared g (s 0)) refl
+      where
+        go : (o : Option Prepared) → readPrepared g (s 0) ≡ o → readPrepared g (recoverAt g s k .store 0) ≡ readPrepared g (s 0)
+        go (some p) e = ap (λ (x : Pages). readPrepared g (x 0)) (recover-idle s k p e)
+        go none e = ap (readPrepared g) (recover-page s k) ∙ recover-unprepared g proper k (inForce s) (s 0) e ∙ sym e
+
     pub recover-unmoved : (s : Pages) (k : ℕ) → Unmoved (atomicPages g) (recoverAt g s k .store) s
     recover-unmoved s k = go (readPrepared g (s 0)) refl
       where
         go : (o : Option Prepared) → readPrepared g (s 0) ≡ o → Unmoved (atomicPages g) (recoverAt g s k .store) s
         go (some p) e = same-unmoved (recover-idle s k p e)
-        go none e = free-unmoved (recoverAt g s k .store) s (ap (readPrepared g) (recover-page s k) ∙ recover-unprepared g proper k (inForce s) (s 0) e) e
+        go none e = free-unmoved (recoverAt g s k .store) s (recover-held s k ∙ e) e
 
     pub home-calm : (s : Pages) (r : ℕ) → isCalm (atomicPages g) s ≡ true → s (home g r) ≡ settled g s r
     unfolding isCalm settled isNamed names isBusy identityIn

@@ -35,3 +35,4 @@ pub mod Event
 pub mod Durability
 pub mod Plain
 pub mod Fresh
+pub mod Held
