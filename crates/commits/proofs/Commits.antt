@@ -10,8 +10,8 @@ use native.Mathlib.Omega.{arith}
 use lib.ListN.{length, getD}
 use Rattle.laws.specs.Tests.{same, under}
 use Rattle.laws.specs.Bits.{bits}
-use Rattle.laws.proofs.Tests.{same?, Same, is, isnt, same-refl, ne-false, Is, is?, yes′, no′, under-lt, not-under}
-use Rattle.laws.proofs.Booleans.{clash, or-cases}
+use Rattle.laws.proofs.Tests.{same?, Same, is, isnt, same-refl, same-eq, ne-false, Is, is?, yes′, no′, under-lt, not-under}
+use Rattle.laws.proofs.Booleans.{clash, or-cases, both, not-true, not-false}
 use Rattle.rules.specs.Geometry.{records}
 use Rattle.rules.specs.Store.{Page, Pages, pagesOf, mapOf, named}
 use Rattle.rules.specs.Event.{Event, commit, prepare}
@@ -38,15 +38,42 @@ use Rattle.events.specs.Whole.{Arrays, arrays, view, lineIn, Intact, saying, St
 use Rattle.events.proofs.Rules.{commit-done, commit-busy, commit-refused, prepare-children, prepare-busy, prepare-beneath, prepare-done}
 use Rattle.events.proofs.Steps.{answer, stepped, finishes, unmoved, state-eq, up-is, live-is, wrote-is, depth-of, shallow, writer-deep}
 use Rattle.events.proofs.Ends.{bearers-cleared, lines-cleared, tidy-cleared, nested-cleared, rest-is, rest-form}
-use Rattle.events.proofs.Reserves.{busy-is, changes-are, top-is}
+use Rattle.rules.proofs.Held.{isPlain}
+use Rattle.events.specs.declared.Answer.{Answer}
+use Rattle.events.proofs.Reserves.{busy-is, changes-are, top-is, reserves-kept}
+use Rattle.commits.specs.Settling.{settling, settlingAt}
 use Rattle.events.proofs.Parents.{parent-there, parent-deep, parent-other, line-up}
 use Rattle.crashes.proofs.Falls.{zeros, zeros-down, zeros-formed, Fallen, fallen}
 
-pub prepare-refuses : (x : Arrays) → Intact x → (t k i : ℕ) → Ready x t → hasChild (view x) t ≡ true → Stepped x (some (prepare t k i)) (answer 10 0) x
+prepare-refuses : (x : Arrays) → Intact x → (t k i : ℕ) → Ready x t → hasChild (view x) t ≡ true → Stepped x (some (prepare t k i)) (answer 10 0) x
 prepare-refuses x I t k i R h = unmoved x (some (prepare t k i)) 10 (I .form) (prepare-children edition1 (view x) t (up-is x (R .up)) (live-is x t (R .live)) k i h)
 
-pub commit-refuses : (x : Arrays) → Intact x → (t k : ℕ) → Ready x t → hasChild (view x) t ≡ true → Stepped x (some (commit t k)) (answer 10 0) x
+commit-refuses : (x : Arrays) → Intact x → (t k : ℕ) → Ready x t → hasChild (view x) t ≡ true → Stepped x (some (commit t k)) (answer 10 0) x
 commit-refuses x I t k R h = unmoved x (some (commit t k)) 10 (I .form) (commit-refused edition1 (view x) t (up-is x (R .up)) (live-is x t (R .live)) k h)
+
+pub settling-refuses : (x : Arrays) → Intact x → (b : Bool) (t k i : ℕ) → Ready x t → hasChild (view x) t ≡ true → Stepped x (some (settling b t k i)) (answer 10 0) x
+unfolding settling
+settling-refuses x I false t k i R h = commit-refuses x I t k R h
+settling-refuses x I true t k i R h = prepare-refuses x I t k i R h
+
+commit-plain : (t k : ℕ) (f : Event) → some (commit t k) ≡ some f → isPlain f ≡ true
+unfolding isPlain
+commit-plain t k f q = let z : commit t k ≡ f = cc in rw (← z)
+
+-- a child's commit, by the code's test
+pub child-settling : (x y : Arrays) (a : Answer) (b : Bool) (t k i : ℕ) → b ≡ false → Stepped x (some (commit t k)) a y → Stepped x (some (settling b t k i)) a y
+unfolding settling
+child-settling x y a b t k i e T = subst⁻¹ (λ (b : Bool). Stepped x (some (settling b t k i)) a y) e T
+
+pub commits-only : (b : Bool) (d : ℕ) → (not b && not (same d 1)) ≡ true → (b ≡ false) × (d ≢ 1)
+commits-only b d e = let h = both (not b) (not (same d 1)) e in (not-true b (h .0), λ q. clash (h .1) (rw (q, same-refl 1)))
+
+pub else-top : (b : Bool) (d : ℕ) → (not b && not (same d 1)) ≡ false → b ≡ false → d ≡ 1
+else-top b d e q = same-eq d 1 (not-false (same d 1) (rw q at e))
+
+-- the same page writes
+pub settled-pages : (b c : Bool) (s t : Pages) (v : ℕ → Option Page) (i k m : ℕ) (d : Bool) → c ≡ b → Leaves (settlingAt b s v i k) t m d → Leaves (settlingAt c s v i k) t m d
+settled-pages b c s t v i k m d e L = subst⁻¹ (λ (b : Bool). Leaves (settlingAt b s v i k) t m d) e L
 
 module _ (x : Arrays) (I : Intact x) (t : ℕ) (R : Ready x t) (childless : hasChild (view x) t ≡ false) where
   abbrev b : Bearers
@@ -98,16 +125,16 @@ module _ (x : Arrays) (I : Intact x) (t : ℕ) (R : Ready x t) (childless : hasC
     both-are : (changes edition1 (view x) t && busy edition1 (view x)) ≡ (not (same m 0) && not (same n 0))
     both-are = ap₂ _&&_ (changes-are x t m mapped) (busy-is x n i H)
 
-    pub commit-13 : (k : ℕ) → d t ≡ 1 → (not (same m 0) && not (same n 0)) ≡ true → Stepped x (some (commit t k)) (answer 13 0) x
+    commit-13 : (k : ℕ) → d t ≡ 1 → (not (same m 0) && not (same n 0)) ≡ true → Stepped x (some (commit t k)) (answer 13 0) x
     commit-13 k top q =
         unmoved x (some (commit t k)) 13 (I .form) (commit-busy edition1 (view x) t (up-is x (R .up)) (live-is x t (R .live)) k childless
         (rw (top-is x t (R .live), top, same-refl 1) (both-are ∙ q)))
 
-    pub prepare-13 : (k j : ℕ) → (not (same m 0) && not (same n 0)) ≡ true → Stepped x (some (prepare t k j)) (answer 13 0) x
+    prepare-13 : (k j : ℕ) → (not (same m 0) && not (same n 0)) ≡ true → Stepped x (some (prepare t k j)) (answer 13 0) x
     prepare-13 k j q = unmoved x (some (prepare t k j)) 13 (I .form) (prepare-busy edition1 (view x) t (up-is x (R .up)) (live-is x t (R .live)) k j childless (both-are ∙ q))
 
     module _ (q : (not (same m 0) && not (same n 0)) ≡ false) where
-      pub prepare-27 : (k j : ℕ) → d t ≢ 1 → Stepped x (some (prepare t k j)) (answer 27 0) x
+      prepare-27 : (k j : ℕ) → d t ≢ 1 → Stepped x (some (prepare t k j)) (answer 27 0) x
       prepare-27 k j h =
           unmoved x (some (prepare t k j)) 27 (I .form) (prepare-beneath edition1 (view x) t (up-is x (R .up)) (live-is x t (R .live)) k j childless (both-are ∙ q)
           (top-is x t (R .live) ∙ ne-false (d t) 1 h))
@@ -128,18 +155,43 @@ module _ (x : Arrays) (I : Intact x) (t : ℕ) (R : Ready x t) (childless : hasC
         versions = fun-ext (λ r. version-at r (is? (under r 16)))
 
         -- a commit, and a prepare, of a top transaction
-        pub commit-ends : (k : ℕ) → step edition1 (view x) (some (commit t k)) ≡ commitsTop edition1 (view x) t (commitAt geometry1 (pagesOf (x .store)) (versionsIn m (x .work)) k)
+        commit-ends : (k : ℕ) → step edition1 (view x) (some (commit t k)) ≡ commitsTop edition1 (view x) t (commitAt geometry1 (pagesOf (x .store)) (versionsIn m (x .work)) k)
         unfolding view lineOf chain commits
         commit-ends k =
             commit-done edition1 (view x) t (up-is x (R .up)) (live-is x t (R .live)) k childless (rw (both-are ∙ q, and-false))
             ∙ ap (λ (n : ℕ). commits edition1 (view x) t k (chain b n t)) (depth-is (x .parent) (x .depth) t ∙ top)
             ∙ ap (λ (v : ℕ → Option Page). commitsTop edition1 (view x) t (commitAt geometry1 (pagesOf (x .store)) v k)) versions
 
-        pub prepare-ends : (k j : ℕ) → step edition1 (view x) (some (prepare t k j)) ≡ commitsTop edition1 (view x) t (prepareAt geometry1 (pagesOf (x .store)) (versionsIn m (x .work)) j k)
+        prepare-ends : (k j : ℕ) → step edition1 (view x) (some (prepare t k j)) ≡ commitsTop edition1 (view x) t (prepareAt geometry1 (pagesOf (x .store)) (versionsIn m (x .work)) j k)
         unfolding view
         prepare-ends k j =
             prepare-done edition1 (view x) t (up-is x (R .up)) (live-is x t (R .live)) k j childless (both-are ∙ q) (top-is x t (R .live) ∙ rw top (same-refl 1))
             ∙ ap (λ (v : ℕ → Option Page). commitsTop edition1 (view x) t (prepareAt geometry1 (pagesOf (x .store)) v j k)) versions
+
+    -- either of them, by the code's tests
+    pub settling-13 : (b : Bool) (k j : ℕ) → (b ≡ false → d t ≡ 1) → (not (same m 0) && not (same n 0)) ≡ true → Stepped x (some (settling b t k j)) (answer 13 0) x
+    unfolding settling
+    settling-13 false k j top q = commit-13 k (top refl) q
+    settling-13 true k j top q = prepare-13 k j q
+
+    pub settling-27 : (b : Bool) (k j : ℕ) → (b ≡ false → d t ≡ 1) → (not (same m 0) && not (same n 0)) ≡ false → d t ≢ 1 → Stepped x (some (settling b t k j)) (answer 27 0) x
+    unfolding settling
+    settling-27 false k j top q h = absurd (h (top refl))
+    settling-27 true k j top q h = prepare-27 q k j h
+
+    pub settling-ends : (b : Bool) (k j : ℕ) → (not (same m 0) && not (same n 0)) ≡ false → d t ≡ 1
+        → step edition1 (view x) (some (settling b t k j)) ≡ commitsTop edition1 (view x) t (settlingAt b (pagesOf (x .store)) (versionsIn m (x .work)) j k)
+    unfolding settling settlingAt
+    settling-ends false k j q top = commit-ends q top k
+    settling-ends true k j q top = prepare-ends q top k j
+
+    -- what is prepared after it: read again, or as it was
+    pub settling-reserves : (y : Arrays) (a : Answer) (b : Bool) (k j n′ i′ : ℕ) → Stepped x (some (settling b t k j)) a y → (b ≡ true → Reserves (y .store) n′ i′) → (b ≡ false → (n′ ≡ n) × (i′ ≡ i)) → Reserves (y .store) n′ i′
+    unfolding settling
+    settling-reserves y a true k j n′ i′ T again kept = again refl
+    settling-reserves y a false k j n′ i′ T again kept =
+        let e = kept refl in
+        reserves-kept x y (some (commit t k)) a n i I T H (commit-plain t k) ∙ sym (λ j. record { map = e .0 j; identity = e .1 j })
 
   -- a child
   module _ (k n : ℕ) (deep : d t ≡ suc (suc n)) where

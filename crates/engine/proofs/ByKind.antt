@@ -9,7 +9,7 @@ use native.Mathlib.Omega.{arith}
 use lib.Dec.{eqb·suc-zero}
 use lib.ListN.{length}
 use Rattle.laws.specs.Tests.{same}
-use Rattle.laws.proofs.Tests.{lt-under}
+use Rattle.laws.proofs.Tests.{lt-under, same?, Same, is, isnt}
 use Rattle.rules.specs.Geometry.{records, pageCount}
 use Rattle.rules.specs.Store.{pagesOf}
 use Rattle.rules.specs.Event.{Event, begin, lock, write, read, commit, abort, crash, recover, prepare, decide, query, accessOf, reportOf, decisionOf, eventOf, fits}
@@ -24,6 +24,7 @@ use Rattle.rules.proofs.Editions.{proper1}
 use Rattle.rules.proofs.Soundness.{sound-step, sound-bad}
 use Rattle.rules.proofs.Waiting.{lock-waits, write-waits, read-waits}
 use Rattle.arrays.specs.Changes.{accessWhen}
+use Rattle.commits.specs.Settling.{settling}
 use Rattle.event.specs.Meaning.{meaning, fieldsOf, InRange}
 use Rattle.event.specs.declared.Event.{Event as Fields}
 use Rattle.event.proofs.Meaning.{means-begin, means-lock, means-write, means-read, means-commit, means-abort, means-prepare, means-decide, means-query}
@@ -161,8 +162,21 @@ pub keeps-reserved : (x y : Arrays) (e : Fields) (a : Answer) (m i : ℕ) → e 
 unfolding meaning
 keeps-reserved x y e a m i p d I H T = reserves-kept x y (meaning e) a m i I T H (plain-of (e .kind) (e .transaction) (e .rec) (e .offset) (e .count) (e .value) p d)
 
--- and one that isn't 0 decides to commit
-pub decision-is : (v : ℕ) → decisionOf v ≡ not (same v 0)
-unfolding decisionOf same
-decision-is zero = refl
-decision-is (suc v) = ap not (sym (eqb·suc-zero v))
+-- the offset of a decision: 0 to abort, another to commit
+pub to-abort : (v : ℕ) → v ≡ 0 → decisionOf v ≡ false
+unfolding decisionOf
+to-abort v e = ap decisionOf e
+
+pub to-commit : (v : ℕ) → v ≢ 0 → decisionOf v ≡ true
+unfolding decisionOf
+to-commit zero n = absurd (n refl)
+to-commit (suc v) n = refl
+
+-- a commit or a prepare, by its kind
+pub means-settling : (e : Fields) → e .kind ≢ 6 → 4 < e .kind → e .kind < 10 → e .kind ≢ 7 → e .kind ≢ 8 → meaning e ≡ some (settling (same (e .kind) 9) (e .transaction) (e .count) (e .value))
+unfolding settling
+means-settling e a l h c r = go (same? (e .kind) 9)
+  where
+    go : Same (e .kind) 9 → meaning e ≡ some (settling (same (e .kind) 9) (e .transaction) (e .count) (e .value))
+    go (is q z _) = rw z (means-prepare e q)
+    go (isnt q z _) = rw z (means-commit e (omega arith))

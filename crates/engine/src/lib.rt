@@ -70,24 +70,6 @@ fn end_event(
     ensures { λ _. ⌜ Reserves (now (store .exit)) (now (reserved .exit)) (now (identity .exit)) ⌝ }
 {
     let kind = e.kind;
-    if kind == 5 {
-        return commits::commit_event(
-            up,
-            parent,
-            depth,
-            line,
-            live,
-            children,
-            held,
-            retained,
-            writers,
-            work,
-            store,
-            *reserved,
-            t,
-            e.count,
-        );
-    }
     if kind == 6 {
         return events::abort_event(
             parent,
@@ -102,7 +84,7 @@ fn end_event(
             e.value != 0,
         );
     }
-    commits::prepare_event(
+    commits::settle_event(
         up,
         parent,
         depth,
@@ -112,11 +94,12 @@ fn end_event(
         held,
         retained,
         writers,
-        &work[..],
+        work,
         store,
         reserved,
         identity,
         t,
+        kind == 9,
         e.count,
         e.value,
     )
@@ -200,7 +183,7 @@ fn named_event(
     }
 }
 
-// One event: the only place where all the arrays meet.
+// One event: the only place where all the arrays meet. A decision has two calls, so that the compiler leaves it out of the loop over the events.
 pub fn step(
     up: &mut u8,
     parent: &mut [u8; 24],
@@ -257,6 +240,25 @@ pub fn step(
     }
     if 9 < kind {
         if kind == 10 {
+            if e.offset == 0 {
+                return decisions::decide_event(
+                    up,
+                    parent,
+                    depth,
+                    line,
+                    live,
+                    children,
+                    held,
+                    retained,
+                    writers,
+                    store,
+                    reserved,
+                    identity,
+                    false,
+                    e.count,
+                    e.value,
+                );
+            }
             return decisions::decide_event(
                 up,
                 parent,
@@ -270,7 +272,7 @@ pub fn step(
                 store,
                 reserved,
                 identity,
-                e.offset != 0,
+                true,
                 e.count,
                 e.value,
             );

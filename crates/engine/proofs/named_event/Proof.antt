@@ -14,6 +14,7 @@ use Rattle.engine.proofs.named_event.Tie as tie
 use Rattle.engine.proofs.named_event.Reads as reads
 use Rattle.engine.proofs.named_event.Lts as lts
 use Rattle.engine.proofs.end_event.Reads as end-event-reads
+use Rattle.engine.proofs.end_event.Reads as end-event-reads
 use Rattle.engine.proofs.record_event.Reads as record-event-reads
 use Rattle.numbers.proofs.RecordNumber.checked.Reads as checked-reads
 use Rattle.transactions.proofs.has_child.Reads as has-child-reads

@@ -8,7 +8,7 @@ use lib.ListN.{length, getD, set}
 use mathlib.Core.Option.{some}
 use Rattle.rules.specs.Event.{begin, lock, write, read, commit, abort, crash, recover, decide, query}
 use Rattle.event.proofs.Meaning.{means-bad, means-begin, means-lock, means-write, means-read, means-commit, means-abort, means-crash, means-recover, means-decide, means-query}
-use Rattle.engine.proofs.ByKind.{decision-is, down-steps, unknown-steps, keeps, keeps-reserved}
+use Rattle.engine.proofs.ByKind.{to-abort, to-commit, down-steps, unknown-steps, keeps, keeps-reserved}
 use Rattle.engine.proofs.Numbers.{transaction-is, no-transaction, record-is, no-record, transaction-small}
 use Rattle.events.proofs.Steps.{retold, unmoved, sources, not-live-past}
 use Rattle.events.proofs.Rules.{bad-refused}
@@ -22,6 +22,8 @@ use Rattle.engine.proofs.step.Reads as reads
 use Rattle.engine.proofs.step.Lts as lts
 use Rattle.engine.proofs.named_event.Reads as named-event-reads
 use Rattle.begins.proofs.begin_event.Reads as begin-event-reads
+use Rattle.decisions.proofs.decide_event.Reads as decide-event-reads
+use Rattle.decisions.proofs.query_event.Reads as query-event-reads
 use Rattle.decisions.proofs.decide_event.Reads as decide-event-reads
 use Rattle.decisions.proofs.query_event.Reads as query-event-reads
 use Rattle.crashes.proofs.crash_event.Reads as crash-event-reads
@@ -61,20 +63,28 @@ returns-5 c = let R = c .before .before .before .before .before .before .before 
     (keeps _ _ (c .before .before .before .before .before .before .before .before .before .before .before .before .before .before .args .e) _ (c .before .before .before .before .before .before .before .before .before .before .before .before .before .before .pre .0) (c .before .before .before .before .before .before .before .before .before .before .before .before .before .before .pre .1) T, (c .begin-event .ensures .1, keeps-reserved _ _ (c .before .before .before .before .before .before .before .before .before .before .before .before .before .before .args .e) _ _ _ (λ z. omega arith) (λ z. omega arith) (c .before .before .before .before .before .before .before .before .before .before .before .before .before .before .pre .1) (c .before .before .before .before .before .before .before .before .before .before .before .before .before .before .pre .3) T))
 
 decide-event-requires : tie.Need-decide-event-requires
-decide-event-requires c κs = (c .before .before .before .before .before .before .before .before .before .before .before .before .before .before .before .before .before .before .before .before .before .before .before .pre .1 .form .stores, c .before .before .before .before .before .before .before .before .before .before .before .before .before .before .before .before .before .before .before .before .before .before .before .pre .2, c .before .before .before .before .before .before .before .before .before .before .before .before .before .before .before .before .before .before .before .before .before .before .before .pre .3)
+decide-event-requires c κs = (c .before .before .before .before .before .before .before .before .before .before .before .before .before .before .before .before .before .before .before .before .before .before .before .before .pre .1 .form .stores, c .before .before .before .before .before .before .before .before .before .before .before .before .before .before .before .before .before .before .before .before .before .before .before .before .pre .2, c .before .before .before .before .before .before .before .before .before .before .before .before .before .before .before .before .before .before .before .before .before .before .before .before .pre .3)
 
 same-length-2 : tie.Need-same-length-2
 same-length-2 c = search needs
 
 returns-6 : tie.Need-returns-6
-unfolding same
-returns-6 c = (keeps _ _ (c .before .before .before .before .before .before .before .before .before .before .before .before .before .before .before .before .before .before .before .before .before .before .before .before .before .before .args .e) _ (c .before .before .before .before .before .before .before .before .before .before .before .before .before .before .before .before .before .before .before .before .before .before .before .before .before .before .pre .0) (c .before .before .before .before .before .before .before .before .before .before .before .before .before .before .before .before .before .before .before .before .before .before .before .before .before .before .pre .1) (retold _ _ _ _ _ (means-decide (c .before .before .before .before .before .before .before .before .before .before .before .before .before .before .before .before .before .before .before .before .before .before .before .before .before .before .args .e) (c .before .before .before .before .before .before .before .before .before .before .before .before .before .before .before .before .if7 .taken) ∙ ap (λ (d : Bool). some (decide d (c .before .before .before .before .before .before .before .before .before .before .before .before .before .before .before .before .before .before .before .before .before .before .before .before .before .before .args .e .count) (c .before .before .before .before .before .before .before .before .before .before .before .before .before .before .before .before .before .before .before .before .before .before .before .before .before .before .args .e .value))) (decision-is (c .before .before .before .before .before .before .before .before .before .before .before .before .before .before .before .before .before .before .before .before .before .before .before .before .before .before .args .e .offset))) (c .before .before .decide-event .ensures .0 _ (c .before .before .before .before .before .before .before .before .before .before .before .before .before .before .before .before .before .before .before .before .before .before .before .before .before .before .pre .1) (c .before .before .before .before .before .before .before .before .before .before .before .before .before .before .before .before .before .before .before .if4 .left))), (c .before .before .decide-event .ensures .1 .0, c .before .before .decide-event .ensures .1 .1))
+returns-6 c = (keeps _ _ (c .before .before .before .before .before .before .before .before .before .before .before .before .before .before .before .before .before .before .before .before .before .before .before .before .before .before .before .args .e) _ (c .before .before .before .before .before .before .before .before .before .before .before .before .before .before .before .before .before .before .before .before .before .before .before .before .before .before .before .pre .0) (c .before .before .before .before .before .before .before .before .before .before .before .before .before .before .before .before .before .before .before .before .before .before .before .before .before .before .before .pre .1) (retold _ _ _ _ _ (means-decide (c .before .before .before .before .before .before .before .before .before .before .before .before .before .before .before .before .before .before .before .before .before .before .before .before .before .before .before .args .e) (c .before .before .before .before .before .before .before .before .before .before .before .before .before .before .before .before .before .if7 .taken) ∙ ap (λ (d : Bool). some (decide d (c .before .before .before .before .before .before .before .before .before .before .before .before .before .before .before .before .before .before .before .before .before .before .before .before .before .before .before .args .e .count) (c .before .before .before .before .before .before .before .before .before .before .before .before .before .before .before .before .before .before .before .before .before .before .before .before .before .before .before .args .e .value))) (to-abort (c .before .before .before .before .before .before .before .before .before .before .before .before .before .before .before .before .before .before .before .before .before .before .before .before .before .before .before .args .e .offset) (c .before .before .before .before .before .before .before .before .before .before .before .before .before .before .before .if8 .taken))) (c .before .before .decide-event .ensures .0 _ (c .before .before .before .before .before .before .before .before .before .before .before .before .before .before .before .before .before .before .before .before .before .before .before .before .before .before .before .pre .1) (c .before .before .before .before .before .before .before .before .before .before .before .before .before .before .before .before .before .before .before .before .if4 .left))), (c .before .before .decide-event .ensures .1 .0, c .before .before .decide-event .ensures .1 .1))
+
+decide-event-requires-2 : tie.Need-decide-event-requires-2
+decide-event-requires-2 c κs = (c .before .before .before .before .before .before .before .before .before .before .before .before .before .before .before .before .before .before .before .before .before .before .before .before .pre .1 .form .stores, c .before .before .before .before .before .before .before .before .before .before .before .before .before .before .before .before .before .before .before .before .before .before .before .before .pre .2, c .before .before .before .before .before .before .before .before .before .before .before .before .before .before .before .before .before .before .before .before .before .before .before .before .pre .3)
+
+same-length-3 : tie.Need-same-length-3
+same-length-3 c = search needs
+
+returns-7 : tie.Need-returns-7
+returns-7 c = (keeps _ _ (c .before .before .before .before .before .before .before .before .before .before .before .before .before .before .before .before .before .before .before .before .before .before .before .before .before .before .before .args .e) _ (c .before .before .before .before .before .before .before .before .before .before .before .before .before .before .before .before .before .before .before .before .before .before .before .before .before .before .before .pre .0) (c .before .before .before .before .before .before .before .before .before .before .before .before .before .before .before .before .before .before .before .before .before .before .before .before .before .before .before .pre .1) (retold _ _ _ _ _ (means-decide (c .before .before .before .before .before .before .before .before .before .before .before .before .before .before .before .before .before .before .before .before .before .before .before .before .before .before .before .args .e) (c .before .before .before .before .before .before .before .before .before .before .before .before .before .before .before .before .before .if7 .taken) ∙ ap (λ (d : Bool). some (decide d (c .before .before .before .before .before .before .before .before .before .before .before .before .before .before .before .before .before .before .before .before .before .before .before .before .before .before .before .args .e .count) (c .before .before .before .before .before .before .before .before .before .before .before .before .before .before .before .before .before .before .before .before .before .before .before .before .before .before .before .args .e .value))) (to-commit (c .before .before .before .before .before .before .before .before .before .before .before .before .before .before .before .before .before .before .before .before .before .before .before .before .before .before .before .args .e .offset) (c .before .before .before .before .before .before .before .before .before .before .before .before .before .before .before .if8 .left))) (c .before .before .decide-event2 .ensures .0 _ (c .before .before .before .before .before .before .before .before .before .before .before .before .before .before .before .before .before .before .before .before .before .before .before .before .before .before .before .pre .1) (c .before .before .before .before .before .before .before .before .before .before .before .before .before .before .before .before .before .before .before .before .if4 .left))), (c .before .before .decide-event2 .ensures .1 .0, c .before .before .decide-event2 .ensures .1 .1))
 
 query-event-requires : tie.Need-query-event-requires
 query-event-requires c κs = search needs
 
-returns-7 : tie.Need-returns-7
-returns-7 c = let R = c .before .before .before .before .before .before .before .before .before .before .before .before .before .pre .0 .kind in
+returns-8 : tie.Need-returns-8
+returns-8 c = let R = c .before .before .before .before .before .before .before .before .before .before .before .before .before .pre .0 .kind in
     (keeps _ _ (c .before .before .before .before .before .before .before .before .before .before .before .before .before .args .e) _ (c .before .before .before .before .before .before .before .before .before .before .before .before .before .pre .0) (c .before .before .before .before .before .before .before .before .before .before .before .before .before .pre .1) (retold _ _ _ _ _ (means-query (c .before .before .before .before .before .before .before .before .before .before .before .before .before .args .e) (omega arith)) (c .query-event .ensures _ (c .before .before .before .before .before .before .before .before .before .before .before .before .before .pre .1) (c .before .before .before .before .before .before .if4 .left) (c .before .before .before .before .before .before .before .before .before .before .before .before .before .pre .3))), (c .before .before .before .before .before .before .before .before .before .before .before .before .before .pre .2, c .before .before .before .before .before .before .before .before .before .before .before .before .before .pre .3))
 
 checked-requires : tie.Need-checked-requires
@@ -89,17 +99,17 @@ named-event-requires c κs = let R = c .before .before .before .before .before .
 enum-told : tie.Need-enum-told
 enum-told c = search needs
 
-same-length-3 : tie.Need-same-length-3
-same-length-3 c = search needs
-
 same-length-4 : tie.Need-same-length-4
 same-length-4 c = search needs
 
-returns-8 : tie.Need-returns-8
-returns-8 c = (keeps _ _ (c .before .before .before .before .before .before .before .before .before .before .before .before .before .before .before .before .before .before .before .before .before .before .before .before .before .before .before .before .before .before .before .args .e) _ (c .before .before .before .before .before .before .before .before .before .before .before .before .before .before .before .before .before .before .before .before .before .before .before .before .before .before .before .before .before .before .before .pre .0) (c .before .before .before .before .before .before .before .before .before .before .before .before .before .before .before .before .before .before .before .before .before .before .before .before .before .before .before .before .before .before .before .pre .1) (c .before .before .before .before .named-event .ensures .0), (c .before .before .before .before .named-event .ensures .1 .0, c .before .before .before .before .named-event .ensures .1 .1))
+same-length-5 : tie.Need-same-length-5
+same-length-5 c = search needs
 
 returns-9 : tie.Need-returns-9
-returns-9 c = let R = c .before .before .before .before .before .before .before .before .before .before .before .before .pre .0 .kind in let h = no-transaction (c .before .before .before .before .before .before .before .before .before .before .before .before .args .e .transaction) (sym (c .enum-told .given .1) ∙ c .before .before .checked .ensures) in
+returns-9 c = (keeps _ _ (c .before .before .before .before .before .before .before .before .before .before .before .before .before .before .before .before .before .before .before .before .before .before .before .before .before .before .before .before .before .before .before .args .e) _ (c .before .before .before .before .before .before .before .before .before .before .before .before .before .before .before .before .before .before .before .before .before .before .before .before .before .before .before .before .before .before .before .pre .0) (c .before .before .before .before .before .before .before .before .before .before .before .before .before .before .before .before .before .before .before .before .before .before .before .before .before .before .before .before .before .before .before .pre .1) (c .before .before .before .before .named-event .ensures .0), (c .before .before .before .before .named-event .ensures .1 .0, c .before .before .before .before .named-event .ensures .1 .1))
+
+returns-10 : tie.Need-returns-10
+returns-10 c = let R = c .before .before .before .before .before .before .before .before .before .before .before .before .pre .0 .kind in let h = no-transaction (c .before .before .before .before .before .before .before .before .before .before .before .before .args .e .transaction) (sym (c .enum-told .given .1) ∙ c .before .before .checked .ensures) in
     (keeps _ _ (c .before .before .before .before .before .before .before .before .before .before .before .before .args .e) _ (c .before .before .before .before .before .before .before .before .before .before .before .before .pre .0) (c .before .before .before .before .before .before .before .before .before .before .before .before .pre .1) (unknown-steps _ (c .before .before .before .before .before .before .before .before .before .before .before .before .args .e) (c .before .before .before .before .before .before .before .before .before .before .before .before .pre .1) (omega arith) (omega arith) (c .before .before .before .before .before .before .before .before .if2 .left) (c .before .before .before .before .before .before .before .if3 .left) (c .before .before .before .before .before .if4 .left) (not-live-past _ (c .before .before .before .before .before .before .before .before .before .before .before .before .args .e .transaction) (c .before .before .before .before .before .before .before .before .before .before .before .before .pre .1 .form) h)), (c .before .before .before .before .before .before .before .before .before .before .before .before .pre .2, c .before .before .before .before .before .before .before .before .before .before .before .before .pre .3))
 
 pub step-spec : {M : Type 1} → statement M
@@ -118,13 +128,16 @@ step-spec =
     decide-event-requires
     same-length-2
     returns-6
-    query-event-requires
+    decide-event-requires-2
+    same-length-3
     returns-7
+    query-event-requires
+    returns-8
     checked-requires
     enum-known-n
     named-event-requires
     enum-told
-    same-length-3
     same-length-4
-    returns-8
-    returns-9)
+    same-length-5
+    returns-9
+    returns-10)
