@@ -17,7 +17,7 @@ judged : Geometry → Fields → Option Event
 judged g f = cond (wellFormed g f) (eventOf f) none
 
 -- the fields of an event
-pub fieldsOf : Event → Fields
+unfoldable pub fieldsOf : Event → Fields
 fieldsOf (begin t) = record { kind = 1; transaction = t; rec = 0; offset = 0; count = 0; value = 0; spare = 0 }
 fieldsOf (lock t r a) = record { kind = 2; transaction = t; rec = r; offset = 0; count = 0; value = accessValue a; spare = 0 }
 fieldsOf (write t r o v) = record { kind = 3; transaction = t; rec = r; offset = o; count = 0; value = v; spare = 0 }
