@@ -34,6 +34,15 @@ is b e = ap not e
 isnt : (b : Bool) → b ≡ false → not b ≡ true
 isnt b e = ap not e
 
+-- the identity is compared
+pub not-for : (i : ℕ) (o : Option ℕ) → o ≢ some i → isFor i o ≡ false
+unfolding isFor
+not-for i none h = refl
+not-for i (some j) h = ne-false j i (λ e. h (ap some e))
+
+pub is-for : (i : ℕ) (o : Option ℕ) → o ≡ some i → isFor i o ≡ true
+is-for i o h = ap (isFor i) h ∙ unfold isFor in same-refl i
+
 module _ (f : Form) (s : StateOf f) where
   -- a crash leaves the store as it is: what is prepared stays so
   pub crash-keeps : step f s (some crash) .state .store ≡ s .store
@@ -104,15 +113,6 @@ module _ (f : Form) (s : StateOf f) where
   unfolding decides finished
   for-another d k = refl
 
-  -- the identity is compared
-  not-for : (i : ℕ) (o : Option ℕ) → o ≢ some i → isFor i o ≡ false
-  unfolding isFor
-  not-for i none h = refl
-  not-for i (some j) h = ne-false j i (λ e. h (ap some e))
-
-  for : (i : ℕ) (o : Option ℕ) → o ≡ some i → isFor i o ≡ true
-  for i o h = ap (isFor i) h ∙ unfold isFor in same-refl i
-
   module _ (up : s .up ≡ true) where
     unrefused : (e : Event) → refusal f s e ≡ none → step f s (some e) ≡ act f s e
     unfolding step judged
@@ -127,7 +127,7 @@ module _ (f : Form) (s : StateOf f) where
     -- a query tells whether its identity is prepared, and changes nothing
     pub query-prepared : (i : ℕ) → f .medium .prepared (s .store) ≡ some i → step f s (some (query i)) ≡ record { state = s; answer = done 1 }
     unfolding refusal refusals act finished
-    query-prepared i h = unrefused (query i) (passes 2 (not (s .up)) _ (is (s .up) up) (ends refl)) ∙ ap (λ (b : Bool). finished s (cond b 1 0)) (for i _ h)
+    query-prepared i h = unrefused (query i) (passes 2 (not (s .up)) _ (is (s .up) up) (ends refl)) ∙ ap (λ (b : Bool). finished s (cond b 1 0)) (is-for i _ h)
 
     pub query-another : (i : ℕ) → f .medium .prepared (s .store) ≢ some i → step f s (some (query i)) ≡ record { state = s; answer = done 0 }
     unfolding refusal refusals act finished
