@@ -20,6 +20,7 @@ use Rattle.rules.specs.Commit.{Cut}
 use Rattle.rules.specs.Form.{Form}
 use Rattle.rules.specs.Step.{done, refused, firstOf, hasChild, firstFree, isFor, isTop, StateOf, OutcomeOf, changes, busy, reserved, refusals, refusal, ended, raised, concluded, finished, visible, commitsTop, commitsChild, commits, recovers, decides, act, judged, step}
 use Rattle.rules.proofs.Grades.{writeMode, graded-lock}
+use Rattle.rules.proofs.Joint.{for-another}
 
 -- a test that did not refuse
 pub pass : (n : ℕ) (b : Bool) (rest : List (ℕ × Bool)) → firstOf ((n, b) ∷ rest) ≡ none → (b ≡ false) × (firstOf rest ≡ none)
@@ -216,11 +217,11 @@ module _ (f : Form) (s : StateOf f) where
   commits-answer t k (a ∷ y ∷ l) n e = done-answer 0 n e
 
   decides-answer : (d : Bool) (k : ℕ) (b : Bool) (n : ℕ) → decides f s d k b .answer ≡ refused n → ⊥
-  unfolding decides recovers finished
+  unfolding decides recovers
   decides-answer d k true n e =
       let c = f .medium .decide (s .store) d k in
       concluded-answer (raised s (c .store)) c (c .crashed) n e
-  decides-answer d k false n e = done-answer 0 n e
+  decides-answer d k false n e = done-answer 0 n (sym (ap (λ (o : OutcomeOf f). o .answer) (for-another f s d k)) ∙ e)
 
   pub act-answer : (e : Event) (n : ℕ) → act f s e .answer ≡ refused n → ⊥
   unfolding act finished recovers commitsTop

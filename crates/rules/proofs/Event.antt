@@ -10,6 +10,7 @@ use Rattle.laws.proofs.Tests.{same-eq, same-refl, under-lt, lt-under}
 use Rattle.laws.proofs.Booleans.{both}
 use Rattle.rules.specs.Geometry.{Geometry, Proper, records, wordSize, pageSize}
 use Rattle.rules.specs.Event.{Access, toWrite, toRead, Event, begin, lock, write, read, commit, abort, crash, recover, prepare, decide, query, Fields, fields, wellFormed, accessOf, accessValue, reportOf, reportValue, decisionOf, decisionOffset, eventOf, decode, encode, fits, open-event}
+use Rattle.rules.proofs.JointKinds.{decide-offset}
 use Rattle.rules.proofs.Words.{of, Bounded, wordOf, fields-bounded, fields-word, word-fields}
 
 -- the event that fields stand for
@@ -17,7 +18,7 @@ judged : Geometry → Fields → Option Event
 judged g f = cond (wellFormed g f) (eventOf f) none
 
 -- the fields of an event
-pub fieldsOf : Event → Fields
+unfoldable pub fieldsOf : Event → Fields
 fieldsOf (begin t) = record { kind = 1; transaction = t; rec = 0; offset = 0; count = 0; value = 0; spare = 0 }
 fieldsOf (lock t r a) = record { kind = 2; transaction = t; rec = r; offset = 0; count = 0; value = accessValue a; spare = 0 }
 fieldsOf (write t r o v) = record { kind = 3; transaction = t; rec = r; offset = o; count = 0; value = v; spare = 0 }
@@ -225,7 +226,7 @@ judged-is g k t r o c v s e (kind9 q) h =
 judged-is g k t r o c v s e (kind10 q) h =
     let p = chosen _ (decide (decisionOf o) c v) e (subst (λ k. is-of g k t r o c v s e) q h) in
     let d = cleared t r o c v s 256 2 (g .joint) false false true true true q (p .0) in
-    (d .is-cleared ∙ ap (λ (x : ℕ). of 10 0 0 x c v 0) (decision-offset o (d .offset-in)) ∙ ap fieldsOf (p .1), sym (ap (allowed g) (p .1)) ∙ d .known)
+    (d .is-cleared ∙ ap (λ (x : ℕ). of 10 0 0 x c v 0) (decision-offset o (decide-offset g (of 10 t r o c v s) refl (p .0))) ∙ ap fieldsOf (p .1), sym (ap (allowed g) (p .1)) ∙ d .known)
 judged-is g k t r o c v s e (kind11 q) h =
     let p = chosen _ (query v) e (subst (λ k. is-of g k t r o c v s e) q h) in
     let d = cleared t r o c v s 256 1 (g .joint) false false false false true q (p .0) in (d .is-cleared ∙ ap fieldsOf (p .1), sym (ap (allowed g) (p .1)) ∙ d .known)

@@ -1,5 +1,8 @@
 -- The arguments of this crate.
 pub mod Basics
+pub mod Joint
+pub mod JointKinds
+pub mod Plans
 pub mod Medium
 pub mod Tree
 pub mod Bearers
@@ -13,6 +16,7 @@ pub mod Parts
 pub mod Reserved
 pub mod Shaped
 pub mod Soundness
+pub mod StaysLocked
 pub mod Portions
 pub mod CutLists
 pub mod Calls

@@ -20,6 +20,7 @@ use Rattle.rules.specs.State.{mem}
 use Rattle.rules.specs.Versions.{else}
 use Rattle.rules.specs.Commit.{Cut, PageWrite, sets, written, applied, cutAt, intentions, homes, marks, recoverWrites, prepareWrites, decideWrites, recoverAt, decideAt}
 use Rattle.laws.proofs.Booleans.{and-left}
+use Rattle.rules.proofs.Plans.{prepare-takes}
 use Rattle.rules.proofs.Map.{named-zero, named-mapOf}
 use Rattle.rules.proofs.CommitPage.{read-commitPage}
 use Rattle.rules.proofs.PreparedPage.{Sensible, read-preparedPage, prepared-is, prepared-unread, not-prepared}
@@ -37,13 +38,9 @@ reserves g page r = under r (records g) && named g (preparedMap (readPrepared g 
 
 module _ (g : Geometry) where
   pub prepare-length : (f : ℕ → Page) (p : Prepared) (rs : List ℕ) → length (prepareWrites g f p rs) ≡ prepareDue (length rs)
-  unfolding prepareWrites prepareDue intentions
+  unfolding prepareWrites prepareDue
   prepare-length f p [] = rw (same-refl 0) refl
-  prepare-length f p (r ∷ rs) = rw (ne-false (suc (length rs)) 0 (λ e. omega arith)) (omega (
-    arith,
-    length-append (intentions g f (r ∷ rs)) (sets 0 (preparedPage g p) ∷ []),
-    length-map (r ∷ rs) (λ r. sets (intention r) (f r)),
-  ))
+  prepare-length f p (r ∷ rs) = rw (ne-false (suc (length rs)) 0 (λ e. omega arith)) (prepare-takes g f p r rs)
 
   module _ (f : ℕ → Page) (p : Prepared) (rs : List ℕ) (below : (q : ℕ) → mem q rs ≡ true → q < records g) (s : Pages) where
     early : (k : ℕ) → k ≤ length rs → Shows g (applied (take k (intentions g f rs ++ (sets 0 (preparedPage g p) ∷ []))) s) (s 0) (lay f (take k rs) (plan-of g s)) (home-of g s)

@@ -1,2 +1,0 @@
--- The crate's laws
-pub mod Entries

@@ -1,2 +1,0 @@
--- The numbers of the depot's states, inputs and orders.
-pub mod Codes
