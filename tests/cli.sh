@@ -27,6 +27,7 @@ fails() { # NAME STATUS PATTERN COMMAND..: fails with this status, and its messa
 }
 same() { cmp -s "$2" "$3"; report "$1" $?; }       # NAME FILE FILE
 holds() { local name=$1; shift; "$@" >/dev/null 2>&1; report "$name" $?; } # NAME TEST..
+soon() { local try; for try in {1..200}; do "$@" && return; sleep 0.05; done; return 1; } # TEST..: within ten seconds
 text() { printf '%b' "$1" >"$2"; }
 no_leftovers() { [ -z "$(find "$1" -name '.*.nekahuiro')" ]; report "no file is left over in $1" $?; }
 

@@ -9,21 +9,24 @@ flock . sleep 0.3 & sleep 0.1
 ok "waiting for another" "5 events: 5 done" "$run" play store change.txt --wait 10; wait
 # While a list comes slowly nobody has to wait.
 cp fresh.store store
-{ echo recover 63; sleep 0.5; echo crash; } | "$binary" play store - >slow & sleep 0.1
-ok "nobody waits for a list" "5 events: 5 done" "$run" play store change.txt --wait 0; wait
+{ echo recover 63; soon test -e may-go; echo crash; } | "$binary" play store - >slow & sleep 0.1
+ok "nobody waits for a list" "5 events: 5 done" "$run" play store change.txt --wait 0; touch may-go; wait
 holds "the slow list is played after it" grep -q "2 events: 2 done" slow
 ok "and on what the other left" "5  home page 22 +77000000" "$run" show store
 # While answers wait for their reader, nobody waits, and the store is replaced already.
 cp fresh.store store; mkfifo pipe; yes 'recover 63' | head -40000 >long.txt; cat change.txt >>long.txt
-"$binary" play store long.txt --portions 4096 --answers pipe >late & { sleep 0.5; cat >/dev/null; } <pipe & sleep 0.3
-ok "nobody waits for a reader" "5  home page 22 +77000000" "$run" show store
-ok "and can play" "4 events: 4 done" "$run" play store words.txt --wait 0
-holds "answers that aren't read: nothing is told" test ! -s late; wait
+"$binary" play store long.txt --portions 4096 --answers pipe >late & { soon test -e may-read; cat >/dev/null; } <pipe &
+holds "the store is replaced before the answers are read" soon bash -c "! cmp -s store fresh.store"
+ok "nobody waits for a reader" "4 events: 4 done" "$run" play store words.txt
+holds "answers that aren't read: nothing is told" test ! -s late; touch may-read; wait
 holds "answers that are read: it is told" grep -q "^40005 events" late
 # Somebody who doesn't keep to the locks changes the store while a long list is played: nothing but that is told.
 cp fresh.store store
 yes 'recover 63' | head -300000 >endless.txt; cat change.txt >>endless.txt
-spoil() { sleep 0.1; until [ -e spoilt ]; do printf "\\x$((RANDOM % 8))1" | dd of=store bs=1 seek=1000 conv=notrunc; done 2>/dev/null; }
+spoil() { # writes another number all the time
+    local number=0
+    until [ -e spoilt ]; do number=$((number + 1)); printf %08d $number | dd of=store bs=8 seek=125 conv=notrunc; done 2>/dev/null
+}
 spoil & spoiler=$!
 fails "a store that is changed meanwhile" 3 "store was changed by somebody else while the list was played" \
     "$binary" play store endless.txt --portions 4096 --trace --answers conflict.bin --picture conflict.svg

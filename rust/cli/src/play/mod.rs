@@ -40,7 +40,7 @@ number (00 done, 01 to 0A and 0E refused, 0B cut by a crash), then a value. --tr
 a lock is to write unless it is said to be to read. include/nekahuiro.h has all the numbers.
 
 When the list has been read, the command has the folders of its files for itself until they are
-replaced; another one waits. Nothing is told as done before it is: first the store is replaced, in one
+replaced, and another one waits. Nothing is told as done before it is: first the store is replaced, in one
 step, then the state file, then answers and picture; then the report is printed. If somebody else
 changed store or state file meanwhile, nothing is replaced.
 
@@ -50,7 +50,7 @@ store's place as seen from the state file's folder. It goes with the store of th
 with another, or if the store was changed since, nothing is played. Store and state file may be moved or
 copied together. A play that is stopped leaves the old pair or the new pair: the new state is first
 written to `.FILE.nekahuiro`, and where the state file doesn't fit the store and that one does, it is
-taken and put in its place. To give up what is live, remove the state file and begin with a recover.
+taken and put in its place. To give up what is live, play a crash and a recover.
 ",
     run,
 };

@@ -22,7 +22,7 @@ fn write(folder: &Folder, [store, state]: &Pair) {
 /// Kills plays of a list at random moments.
 fn kill(name: &str, list: &str, changes_store: bool) {
     const PLAY: &str = "play store list --state state";
-    let folder = Folder::new(name);
+    let folder = Folder::new(&name.replace(' ', "-"));
     folder.run("fresh store");
     folder.write("start", "recover 63\nbegin none\nbegin none\nlock 0 3\nwrite 0 3 0 A5\nlock 1 5\nwrite 1 5 0 5A\n");
     folder.write("list", list);
@@ -49,7 +49,7 @@ fn kill(name: &str, list: &str, changes_store: bool) {
         assert!(found == new || output.stdout.is_empty(), "told as done, and not done");
         renewed += usize::from(found == new);
     }
-    println!("{name}: {KILLS} kills left {renewed} new pairs, {halfway} of them from between the two files");
+    println!("kills of {name}: {KILLS}, new pair {renewed}, of these halfway {halfway}, old pair {}", KILLS - renewed);
     // What kills leave over has one name for each file, and goes with the next play.
     write(&folder, &old);
     folder.run(PLAY);
@@ -58,10 +58,10 @@ fn kill(name: &str, list: &str, changes_store: bool) {
 
 #[test]
 fn kills_of_a_play_that_leaves_the_store() {
-    kill("kills-state", "write 0 3 1 11\nbegin 1\nlock 2 7\n", false);
+    kill("a play that leaves the store", "write 0 3 1 11\nbegin 1\nlock 2 7\n", false);
 }
 
 #[test]
 fn kills_of_a_play_that_changes_the_store() {
-    kill("kills-store", "commit 0 63\nbegin none\nlock 0 7\n", true);
+    kill("a play that changes the store", "commit 0 63\nbegin none\nlock 0 7\n", true);
 }
