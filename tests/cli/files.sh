@@ -42,7 +42,7 @@ if [ "$(id -u)" = 0 ] && mkdir disk && mount -t tmpfs -o size=8k tmpfs disk 2>/d
         cp kept.first other.file
         fails "a state file that can't be replaced in the end" 7 "can't replace bound/kept" \
             "$run" play bound/cut rest.txt --state bound/kept
-        holds "a state file that can't be replaced: it is said" grep -q "bound/cut is replaced, and the next play finds the new state" err
+        holds "a state file that can't be replaced: it is said" grep -q "the list was played, so don't play it again, and the next play finds the new state" err
         umount "$mounted"; mounted=
         ok "the next play finds the new state" "bound/kept: down" bash -c "'$run' play bound/cut - --state bound/kept </dev/null"
         same "the next play: the store" bound/cut whole

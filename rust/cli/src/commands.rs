@@ -1,4 +1,4 @@
-//! The commands: one row each, in the order of the help.
+//! The commands: one row each, in the order of the help. A new one has a module with a `COMMAND`, and a row here.
 
 use crate::command::Command;
 use crate::failure::{visible, Failure, Outcome};

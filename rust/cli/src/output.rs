@@ -22,6 +22,11 @@ impl<'n> Output<'n> {
         Ok(Output { name, device, content: Vec::new(), staged: None })
     }
 
+    /// The plain file that it replaces, if it does.
+    pub fn file(&self) -> Option<&'n str> {
+        self.device.is_none().then_some(self.name)
+    }
+
     /// Takes the content; for a plain file it is on the disk then.
     pub fn stage(&mut self, content: Vec<u8>) -> Outcome {
         if self.device.is_none() {

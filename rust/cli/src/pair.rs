@@ -6,6 +6,9 @@ use crate::staged::{self, Staged};
 use crate::state_file::{self, Kept};
 use nekahuiro::Store;
 
+/// What is said if something fails after the point of no return.
+const PLAYED: &str = "the list was played, so don't play it again";
+
 /// The two files as they were read. Without a state file all starts down.
 pub struct Pair<'n> {
     store_name: &'n str,
@@ -29,7 +32,8 @@ impl<'n> Pair<'n> {
         if let Some(Ok(kept)) = first {
             return Ok((pair, kept));
         }
-        let second = state_file::bytes(name, &staged::beside(&place)).unwrap_or_default();
+        let beside = staged::beside(&place);
+        let second = state_file::bytes(&beside.to_string_lossy(), &beside)?;
         if let Some(Ok(kept)) = second.as_deref().map(|bytes| state_file::read(name, bytes, store_name, &pair.store)) {
             if !dry {
                 staged::sync(store_name, &place_of(store_name))?;
@@ -58,21 +62,17 @@ impl<'n> Pair<'n> {
         let new_store = changes.then(|| Staged::new(self.store_name, store.bytes())).transpose()?;
         self.check_unchanged()?;
         if let Some(mut new_store) = new_store {
-            new_state.as_ref().map_or(Ok(()), Staged::sync)?;
-            new_store.put().map_err(|failure| failure.and("no file was changed"))?;
+            let synced = new_state.as_ref().map_or(Ok(()), Staged::sync);
+            synced.and_then(|()| new_store.put()).map_err(|failure| failure.and("no file was changed"))?;
             new_state.iter_mut().for_each(Staged::leave);
-            new_store.sync().map_err(|failure| failure.after(&self.played()))?;
+            new_store.sync().map_err(|failure| failure.after(PLAYED))?;
         }
         let Some(mut new_state) = new_state else { return Ok(()) };
         new_state.put().map_err(|failure| match changes {
-            true => failure.after(&format!("{}, and the next play finds the new state all the same", self.played())),
+            true => failure.after(&format!("{PLAYED}, and the next play finds the new state all the same")),
             false => failure.and("no file was changed"),
         })?;
-        new_state.sync().map_err(|failure| failure.after(&self.played()))
-    }
-
-    fn played(&self) -> String {
-        format!("the list was played, and {} is replaced", self.store_name)
+        new_state.sync().map_err(|failure| failure.after(PLAYED))
     }
 
     fn check_unchanged(&self) -> Outcome {

@@ -1,6 +1,6 @@
 //! Replacing plain files in one step.
 
-use crate::failure::{Failure, Outcome};
+use crate::failure::{Failure, Outcome, Status};
 use crate::files::{folder_of, said};
 use std::fs::{self, File, Metadata, OpenOptions};
 use std::io::{self, ErrorKind, Write};
@@ -12,6 +12,8 @@ pub struct Staged {
     name: String,
     target: PathBuf,
     beside: PathBuf,
+    /// The number of the file beside it, by which it is known again.
+    inode: u64,
     /// Whether it isn't to be taken away.
     stays: bool,
 }
@@ -46,13 +48,19 @@ impl Staged {
         }
         let beside = beside(&target);
         let file = new_file(&beside, found.is_some()).map_err(fails)?;
-        let staged = Staged { name: name.to_string(), target, beside, stays: false };
+        let inode = file.metadata().map_err(fails)?.ino();
+        let staged = Staged { name: name.to_string(), target, beside, inode, stays: false };
         fill(file, content, found).map_err(fails)?;
         Ok(staged)
     }
 
     /// Puts the new content in the file's place, in one step.
     pub fn put(&mut self) -> Outcome {
+        // On a disk without locks somebody else may have written beside the file too.
+        if fs::symlink_metadata(&self.beside).is_ok_and(|found| found.ino() != self.inode) {
+            let reason = format!("{} is being written by somebody else", self.name);
+            return Err(Failure::with(Status::Busy, &reason, "try again"));
+        }
         fs::rename(&self.beside, &self.target).map_err(|error| cant_write("replace", &self.name, &error))?;
         self.stays = true;
         Ok(())

@@ -80,7 +80,9 @@ fn run(words: &[String]) -> Outcome {
     let expected = options.expect.map(expected::read).transpose()?;
     let mut answers_to = options.answers.map(Output::open).transpose()?;
     let mut picture_to = options.picture.map(Output::open).transpose()?;
-    let alone = Alone::with(&options.written(), options.wait)?;
+    let files = answers_to.iter().chain(&picture_to).filter_map(Output::file);
+    let files: Vec<&str> = std::iter::once(options.store).chain(options.state).chain(files).collect();
+    let alone = Alone::with(&files, options.wait)?;
     let (pair, kept) = Pair::read(options.store, options.state, options.dry)?;
     let played = play(&options, pair.store.clone(), kept, words)?;
     // All new content is on the disk before any file is replaced.

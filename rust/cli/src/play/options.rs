@@ -58,11 +58,6 @@ impl<'w> Options<'w> {
         })
     }
 
-    /// The files that may be written, the store first.
-    pub fn written(&self) -> Vec<&'w str> {
-        [Some(self.store), self.state, self.answers, self.picture].into_iter().flatten().collect()
-    }
-
     /// No file may be written that is read or written as something else.
     pub fn check_files(&self) -> Outcome {
         need_plain(self.store, "store")?;
