@@ -54,7 +54,9 @@ fails "clock too large" 2 "isn't a number of minutes from 0 to 4294967295" "$run
 fails "a bad event to encode" 4 "the event given: the record .17. isn't .* 0 to 15, in .lock 0 17.$" "$run" encode lock 0 17
 fails "encode --raw with an event" 2 "raw takes no EVENT" "$run" encode --raw crash
 fails "encode of an empty event" 2 "EVENT is empty" "$run" encode ""
-for command in demo fresh play show age encode bench help; do
+commands=$("$run" help | sed -n 's|^  ./nekahuiro \([a-z]*\) .*|\1|p')
+holds "the help lists the commands" test "$(wc -w <<<"$commands")" -ge 8
+for command in $commands; do
     ok "help of $command" "^./nekahuiro $command" "$run" $command --help
     ok "the same help of $command" "^./nekahuiro $command" "$run" help $command
 done

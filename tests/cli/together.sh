@@ -116,4 +116,4 @@ holds "refusals in words" grep -q '>refused 5: the named transaction isn.t live<
 ok "tips on many events" "^200$" bash -c "head -201 many.txt | tail -200 | '$run' play store - --picture tips.svg --dry >/dev/null
     grep -o '<title>event [0-9]*' tips.svg | sort -u | wc -l"
 ok "the picture in the README" "35 events" "$run" play store "$root/docs/timeline.txt" --picture timeline.svg
-same "it is the one that is drawn now" timeline.svg "$root/docs/timeline.svg"
+same "it is the one that is drawn now: else draw it again" timeline.svg "$root/docs/timeline.svg"
