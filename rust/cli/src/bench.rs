@@ -1,5 +1,6 @@
 //! `bench`: the engine against the ordinary player on lists of 4,096 events, whole and one event at a time.
 
+use crate::command::Command;
 use crate::failure::{Failure, Outcome};
 use crate::say;
 use nekahuiro::limits::{ANSWER_BYTES, EVENTS, EVENT_BYTES, WORK_BYTES};
@@ -8,8 +9,18 @@ use nekahuiro_lists::timing;
 use nekahuiro_player::Volatile;
 use std::fmt::Write;
 use std::hint::black_box;
-use std::process::Command;
+use std::process;
 use std::time::Instant;
+
+/// The command.
+pub const COMMAND: Command = Command {
+    name: "bench",
+    names: &[],
+    options: &[("--quick", "", "leave out the instruction counts, for which valgrind is used if it is there")],
+    summary: "time the engine against an ordinary program",
+    help: "",
+    run,
+};
 
 /// Repetitions of each list on each program, one after the other.
 const ROUNDS: usize = 600;
@@ -39,7 +50,7 @@ fn races() -> Vec<Race> {
 }
 
 /// Prints a line for each list and way: its name, nanoseconds an event of engine and player, the ratio.
-pub fn command(arguments: &[String]) -> Outcome {
+fn run(arguments: &[String]) -> Outcome {
     let words: Vec<&str> = arguments.iter().map(String::as_str).collect();
     match words[..] {
         ["--quick"] => say(&times()?),
@@ -162,7 +173,7 @@ fn instructions() -> Outcome<String> {
 fn counted(list: &str, program: &str) -> Option<f64> {
     let with = |rounds: u64| -> Option<u64> {
         let itself = std::env::current_exe().ok()?;
-        let mut command = Command::new("valgrind");
+        let mut command = process::Command::new("valgrind");
         command.args(["--tool=cachegrind", "--cache-sim=no", "--cachegrind-out-file=/dev/null"]);
         let output = command.arg(itself).args(["bench", "one", list, program, &rounds.to_string()]).output().ok()?;
         let text = String::from_utf8_lossy(&output.stderr).replace(',', "");

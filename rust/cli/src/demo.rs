@@ -1,6 +1,6 @@
 //! `demo`: the worked list, told step by step.
 
-use crate::arguments::Form;
+use crate::command::Command;
 use crate::failure::{Failure, Outcome};
 use crate::follow::Follower;
 use crate::{say, show, trace};
@@ -10,7 +10,9 @@ use nekahuiro_history::{tell, History};
 use nekahuiro_lists::worked;
 use std::fmt::Write;
 
-const FORM: Form = Form { command: "demo", names: &[], options: &[] };
+/// The command.
+pub const COMMAND: Command =
+    Command { name: "demo", names: &[], options: &[], summary: "the worked list, told step by step", help: "", run };
 
 /// What each event of the worked list shows.
 const STEPS: [&str; 16] = [
@@ -33,8 +35,8 @@ const STEPS: [&str; 16] = [
 ];
 
 /// Plays the worked list on a fresh store and tells it; fails if an answer isn't the one due.
-pub fn command(words: &[String]) -> Outcome {
-    let ([], _) = FORM.read(words)?;
+fn run(words: &[String]) -> Outcome {
+    let ([], _) = COMMAND.read(words)?;
     let words = worked::events();
     let mut store = Store::fresh();
     let answers = store.play_words(&words).map_err(|refusal| wrong(&refusal.to_string()))?;
@@ -54,6 +56,7 @@ fn wrong(what: &str) -> Failure {
 fn text(words: &[u8], answers: &[Answer], history: &History, end: &Store) -> Outcome<String> {
     let mut text = String::from("Sixteen events on a fresh store, played by the proved engine.\n\n");
     let mut follower = Follower::default();
+    let endings = trace::endings(history);
     for (at, (word, answer)) in words.chunks_exact(EVENT_BYTES).zip(answers).enumerate() {
         let word = [word[0], word[1], word[2], word[3]];
         let event = Event::of(word);
@@ -71,7 +74,7 @@ fn text(words: &[u8], answers: &[Answer], history: &History, end: &Store) -> Out
         if let Some(event) = event {
             follower.event(event, *answer);
         }
-        for line in trace::endings(at, history) {
+        for line in endings.get(&at).map(trace::Ending::lines).unwrap_or_default() {
             let _ = writeln!(text, "      {line}");
         }
         let _ = writeln!(text, "      {}", follower.locks_in_words());

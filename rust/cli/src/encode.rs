@@ -1,36 +1,47 @@
 //! `encode`: events in words to event words and back.
 
-use crate::arguments::Form;
+use crate::command::Command;
 use crate::failure::{Failure, Outcome};
-use crate::list::{self, hex_word, line_words, Content};
+use crate::list::{self, hex_word, line_words};
 use crate::{files, say, say_bytes};
 use nekahuiro::limits::EVENT_BYTES;
 use nekahuiro::{describe, why_bad};
 
-const FORM: Form = Form { command: "encode", names: &["[EVENT]"], options: &[("--raw", "")] };
+/// The command.
+pub const COMMAND: Command = Command {
+    name: "encode",
+    names: &["[EVENT]"],
+    options: &[
+        ("--raw", "", "write raw event words of 4 bytes, for `play --raw`"),
+        ("--from-raw", "", "take standard input as raw event words, and write them in words"),
+    ],
+    summary: "words to event words and back",
+    help: "\
+An event in words becomes 8 hex digits, and 8 hex digits become words. Without EVENT each line of standard
+input is taken.
+",
+    run,
+};
 
-/// Turns the event given, or each line of standard input; raw words are told in words.
-pub fn command(words: &[String]) -> Outcome {
-    let given = FORM.split(words)?;
-    match (&given.names[..], given.has("--raw")) {
-        ([] | ["-"], true) => say_bytes(&list::read("-", false)?),
-        (_, true) => {
-            let reason = "encode: --raw takes no EVENT, but a list on standard input";
-            Err(Failure::usage(reason, "write `./nekahuiro encode --raw < LIST`"))
+/// Turns the event given, or each line of standard input.
+fn run(words: &[String]) -> Outcome {
+    let given = COMMAND.split(words)?;
+    let is_input = matches!(given.names[..], [] | ["-"]);
+    for option in ["--raw", "--from-raw"] {
+        if given.has(option) && !is_input {
+            let reason = format!("encode: {option} takes no EVENT, but a list on standard input");
+            return Err(Failure::usage(&reason, &format!("write `./nekahuiro encode {option} < LIST`")));
         }
-        ([] | ["-"], false) => say(&turn_input(&files::read_list("-")?)?),
-        (names, false) => match names.join(" ") {
-            event if event.trim().is_empty() => Err(FORM.misuse("EVENT is empty")),
+    }
+    let name = files::name_of("-");
+    match (given.has("--raw"), given.has("--from-raw")) {
+        (true, from_raw) => say_bytes(&list::read("-", from_raw)?),
+        (false, true) => say(&all_in_words(&list::read("-", true)?)),
+        (false, false) if is_input => say(&turn(Some(name), list::text(name, &files::read_list("-")?)?)?),
+        (false, false) => match given.names.join(" ") {
+            event if event.trim().is_empty() => Err(COMMAND.misuse("EVENT is empty")),
             event => say(&turn(None, &event)?),
         },
-    }
-}
-
-fn turn_input(bytes: &[u8]) -> Outcome<String> {
-    let name = files::name_of("-");
-    match Content::of(name, bytes, false)? {
-        Content::Text(text) => turn(Some(name), text),
-        Content::Raw(words) => Ok(all_in_words(words)),
     }
 }
 

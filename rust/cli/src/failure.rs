@@ -2,17 +2,43 @@
 
 use std::fmt;
 
-/// The exit status of bad usage.
-const USAGE: u8 = 2;
+/// How a command ends, if not with 0.
+#[derive(Clone, Copy, PartialEq, Eq)]
+pub enum Status {
+    /// A file can't be read or written.
+    Failed = 1,
+    /// The command was called wrongly.
+    Usage = 2,
+    /// Another command has the store, or changed it meanwhile.
+    Busy = 3,
+    /// What was given can't be played.
+    Refused = 4,
+    /// An event was refused, and --strict was given.
+    EventRefused = 5,
+    /// The answers aren't those of --expect.
+    OtherAnswers = 6,
+    /// All was done, but couldn't be told.
+    Untold = 7,
+}
+
+/// The exit statuses in words, for the help.
+pub const STATUSES: &str = "  0  all went well; a refused event is an answer and no failure
+  1  failed: a file can't be read or written; store and state file are as they were
+  2  called wrongly: nothing was done
+  3  busy: another command has the store, or changed it meanwhile; nothing was done, try again
+  4  refused: a list, store, state file or number that can't be taken; nothing was done
+  5  with --strict: the list was played, and an event was refused
+  6  with --expect: the list was played, and the answers aren't the expected ones
+  7  done, but not told: store and state file are replaced, and an output couldn't be written
+";
 
 /// A command that did not succeed: nothing of the user's was changed, unless it says so.
 pub struct Failure {
     reason: String,
     mend: String,
-    /// The exit status, never 0.
-    pub status: u8,
-    /// Whether it is only that nobody reads the output any more.
-    unread: bool,
+    /// How the command ends.
+    pub status: Status,
+    /// There is nothing to say: the reader of the output had enough.
     quiet: bool,
 }
 
@@ -20,9 +46,29 @@ pub struct Failure {
 pub type Outcome<T = ()> = Result<T, Failure>;
 
 impl Failure {
-    /// Something went wrong; `mend` says what the user can do.
+    /// A command ends with this status; `mend` says what the user can do.
+    pub fn with(status: Status, reason: &str, mend: &str) -> Failure {
+        Failure { reason: reason.to_string(), mend: mend.to_string(), status, quiet: false }
+    }
+
+    /// A file can't be read or written.
     pub fn new(reason: &str, mend: &str) -> Failure {
-        Failure { reason: reason.to_string(), mend: mend.to_string(), status: 1, unread: false, quiet: false }
+        Failure::with(Status::Failed, reason, mend)
+    }
+
+    /// What was given can't be taken.
+    pub fn refused(reason: &str, mend: &str) -> Failure {
+        Failure::with(Status::Refused, reason, mend)
+    }
+
+    /// The command was not called as it should be.
+    pub fn usage(reason: &str, mend: &str) -> Failure {
+        Failure::with(Status::Usage, reason, mend)
+    }
+
+    /// The reader of the output stopped before its end, as `head` does: that is its own affair.
+    pub fn unread(reason: &str, mend: &str) -> Failure {
+        Failure { quiet: true, ..Failure::new(reason, mend) }
     }
 
     /// The same with more to say after the mend.
@@ -30,19 +76,9 @@ impl Failure {
         Failure { mend: format!("{}; {more}", self.mend), ..self }
     }
 
-    /// The command was not called as it should be.
-    pub fn usage(reason: &str, mend: &str) -> Failure {
-        Failure { status: USAGE, ..Failure::new(reason, mend) }
-    }
-
-    /// The reader of the output stopped before its end, as `head` does.
-    pub fn unread(reason: &str, mend: &str) -> Failure {
-        Failure { unread: true, ..Failure::new(reason, mend) }
-    }
-
-    /// The failure of a command that changes no file: there is nothing to say if its reader had enough.
-    pub fn of_reader(self) -> Failure {
-        Failure { quiet: self.unread, ..self }
+    /// The same, after all was done that changes a store.
+    pub fn after(self, done: &str) -> Failure {
+        Failure { status: Status::Untold, quiet: false, mend: format!("{done}; {}", self.mend), ..self }
     }
 }
 
@@ -50,7 +86,13 @@ impl fmt::Display for Failure {
     fn fmt(&self, f: &mut fmt::Formatter) -> fmt::Result {
         match self.quiet {
             true => Ok(()),
-            false => writeln!(f, "nekahuiro: {}\n  {}", self.reason, self.mend),
+            false => writeln!(f, "nekahuiro: {}\n  {}", visible(&self.reason), visible(&self.mend)),
         }
     }
+}
+
+/// Text for a terminal: what would move the cursor or change colours is written out.
+pub fn visible(text: &str) -> String {
+    let one = |c: char| if c.is_control() { c.escape_default().to_string() } else { c.to_string() };
+    text.chars().map(one).collect()
 }

@@ -16,7 +16,7 @@ pub fn read_store(path: &str) -> Outcome<Store> {
         .map_err(|error| cant_read(path, &error, "check the name; `./nekahuiro fresh STORE` makes a store"))?;
     Store::of(&bytes).map_err(|refusal| {
         let found = length_in_words(path, bytes.len(), STORE_BYTES);
-        Failure::new(
+        Failure::refused(
             &format!("{path} is no store: it has {found} ({refusal})"),
             "name a store; `./nekahuiro fresh STORE` makes one",
         )
@@ -34,13 +34,13 @@ pub fn read_list(path: &str) -> Outcome<Vec<u8>> {
     read.map_err(|error| cant_read(name, &error, "check the name; it should be a list of events"))?;
     if bytes.len() > LONGEST {
         let reason = format!("{name} has more than {} MiB", LONGEST >> 20);
-        return Err(Failure::new(&reason, "cut the list, and play its parts one after the other with --state"));
+        return Err(Failure::refused(&reason, "cut the list, and play its parts one after the other with --state"));
     }
     Ok(bytes)
 }
 
 /// The first bytes of a file; no file is read further than it has to be.
-pub fn read_up_to(path: &str, limit: usize) -> io::Result<Vec<u8>> {
+pub fn read_up_to(path: impl AsRef<Path>, limit: usize) -> io::Result<Vec<u8>> {
     let mut bytes = Vec::new();
     File::open(path)?.take(limit as u64).read_to_end(&mut bytes)?;
     Ok(bytes)
@@ -102,7 +102,7 @@ pub fn need_plain(path: &str, what: &str) -> Outcome {
 pub fn place_of(name: &str) -> PathBuf {
     let path = Path::new(name);
     fs::canonicalize(path).unwrap_or_else(|_| match path.file_name() {
-        Some(file) => fs::canonicalize(folder_of(path)).unwrap_or_default().join(file),
+        Some(file) => fs::canonicalize(folder_of(path)).unwrap_or_else(|_| folder_of(path).to_path_buf()).join(file),
         None => path.to_path_buf(),
     })
 }

@@ -1,63 +1,47 @@
-//! The help text.
+//! `help [COMMAND]`: what there is, or what one command does.
 
-use crate::failure::Outcome;
-use crate::say;
+use crate::command::Command;
+use crate::failure::{Outcome, STATUSES};
+use crate::{commands, say, state_file};
+use std::fmt::Write;
 
-const TEXT: &str = "\
-nekahuiro: a record store with nested transactions, proved
+/// The command.
+pub const COMMAND: Command = Command {
+    name: "help",
+    names: &["[COMMAND]"],
+    options: &[],
+    summary: "this text, or the help of one command",
+    help: "",
+    run,
+};
 
-  ./nekahuiro demo                        the worked list, told step by step
-  ./nekahuiro fresh STORE [--force]       make a store file; --force replaces one that is there
-  ./nekahuiro play STORE EVENTS           play a list of events on a store
-      --answers FILE                        write the answers there, two bytes each
-      --trace                               tell each event: who holds, who retains, what crashed;
-                                            a lock is to write unless it is said to be to read
-      --picture FILE.svg                    draw the run as a timeline
-      --portions N                          play N events at a time; the list may then have any length
-      --state FILE                          go on from the state in FILE, and leave the new state there;
-                                            without the file, start down
-      --raw                                 take EVENTS as raw event words, whatever it looks like
-      --dry                                 leave store and state file as they are
-  ./nekahuiro show STORE                  the commit page in words, each record and where it stands
-  ./nekahuiro age STORE RECORD CLOCK LIMIT  how old a record is, in minutes: live, ahead or stale
-  ./nekahuiro encode [EVENT]              words to event words and back; without EVENT each line of
-                                          standard input; --raw writes bytes for `play`
-  ./nekahuiro bench [--quick]             time against an ordinary program; --quick leaves out the
-                                          instruction counts, for which valgrind is used if it is there
-  ./nekahuiro help                        this text
-
-EVENTS is a file, or - for standard input. It is UTF-8 text with event words in hex, or events in words,
-one to a line; # starts a comment. What has a byte 0 in it is taken as raw event words of 4 bytes.
-
-  begin none | begin PARENT               numbers are given in the answers, from 0
-  lock TRANSACTION RECORD                 to read and to write, alone
-  read-lock TRANSACTION RECORD            only to read, beside other readers
-  write TRANSACTION RECORD OFFSET VALUE   VALUE is in hex, all else decimal
-  read TRANSACTION RECORD OFFSET
-  commit TRANSACTION COUNT                the power goes after COUNT page writes; 63: it doesn't
-  abort TRANSACTION                       its locks go with it
-  abort TRANSACTION report                its parent retains its locks, since it told what it read
-  crash
-  recover COUNT                           a run starts down: recover comes first
-
-Each event has an answer of two bytes, told in hex: a number (00 done, 01 to 0A and 0E refused, 0B cut by
-a crash), then a value. --trace tells it in words, and include/nekahuiro.h has all the numbers.
-
-Options may stand anywhere after the command. After -- nothing is an option; a file whose name begins
-with - can also be written ./-name.
-
-The store file is replaced only when all has gone well, in one step. The exit status is 0 only then:
-1 means that something failed, 2 that the command was called wrongly. A refused event is an answer and
-no failure.
-
-A state file has what is live between two portions: a line that says what it is and of which version,
-a digest of the store left with it and one of what follows, the lent state, the working buffer. It goes
-with that store: if another is named, or the store was changed since, nothing is played. If the power
-goes while the two are replaced, the state file is gone: what was live is lost, and the next list starts
-down.
+const OPTIONS: &str = "\
+Options may stand anywhere after the command, as `--option VALUE` or `--option=VALUE`. After -- nothing
+is an option; a file whose name begins with - can also be written ./-name.
 ";
 
 /// Prints the help.
-pub fn command() -> Outcome {
-    say(TEXT)
+pub fn run(words: &[String]) -> Outcome {
+    match &COMMAND.split(words)?.names[..] {
+        [] => say(&all()),
+        [name] => say(&commands::named(name)?.help()),
+        [_, second, ..] => Err(COMMAND.misuse(&format!("`{second}` is one word too many"))),
+    }
+}
+
+fn all() -> String {
+    let mut text = String::from("nekahuiro: a record store with nested transactions, proved\n\n");
+    for command in commands::ALL {
+        let _ = writeln!(text, "  {:43} {}", command.usage(), command.summary);
+    }
+    let _ = writeln!(text, "  {:43} the version", "./nekahuiro --version");
+    let _ = writeln!(text, "\n`./nekahuiro help play` has the options of `play`, and so for each command.");
+    let _ = write!(text, "\n{}\n{OPTIONS}\nThe exit status is\n{STATUSES}", crate::list::HELP);
+    text
+}
+
+/// Prints the version.
+pub fn version() -> Outcome {
+    let (version, states) = (env!("CARGO_PKG_VERSION"), state_file::VERSION);
+    say(&format!("nekahuiro {version} (state files of version {states})\n"))
 }

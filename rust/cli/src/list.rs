@@ -10,67 +10,58 @@ const LONGEST_WORD: usize = 32;
 /// As much of a line as a message shows.
 const SHOWN: usize = 60;
 
-/// What a list is written in.
-pub enum Content<'b> {
-    /// Lines of hex words, or of events in words.
-    Text(&'b str),
-    /// Event words, 4 bytes each.
-    Raw(&'b [u8]),
-}
+/// How a list is written, for the help.
+pub const HELP: &str = "\
+EVENTS is a file, or - for standard input. It is UTF-8 text with event words in hex, or events in words,
+one to a line; # starts a comment. With --raw it has raw event words of 4 bytes.
+
+  begin none | begin PARENT               numbers are given in the answers, from 0
+  lock TRANSACTION RECORD                 to read and to write, alone
+  read-lock TRANSACTION RECORD            only to read, beside other readers
+  write TRANSACTION RECORD OFFSET VALUE   VALUE is in hex, all else decimal
+  read TRANSACTION RECORD OFFSET
+  commit TRANSACTION COUNT                the power goes after COUNT page writes; 63: it doesn't
+  abort TRANSACTION                       its locks go with it
+  abort TRANSACTION report                its parent retains its locks, since it told what it read
+  crash
+  recover COUNT                           a run starts down: recover comes first
+";
 
 /// Reads a list of events into raw words; `raw` says that it has them already.
 pub fn read(path: &str, raw: bool) -> Outcome<Vec<u8>> {
     let bytes = read_list(path)?;
     let name = name_of(path);
-    match Content::of(name, &bytes, raw)? {
-        Content::Text(text) => parse(name, text),
-        Content::Raw(words) => Ok(words.to_vec()),
+    match raw {
+        true => whole(name, bytes),
+        false => parse(name, text(name, &bytes)?),
     }
 }
 
-impl<'b> Content<'b> {
-    /// Tells text from raw words, unless it is known. Every event but a write has a byte 0, and no
-    /// text has one.
-    pub fn of(name: &str, bytes: &'b [u8], raw: bool) -> Outcome<Content<'b>> {
-        let is_write = |word: &[u8]| word[0] >> 4 == 3;
-        if raw {
-            return whole(name, bytes);
-        }
-        if bytes.starts_with(&[0xFF, 0xFE]) || bytes.starts_with(&[0xFE, 0xFF]) {
-            return Err(Failure::new(&format!("{name} seems to be UTF-16 text"), SAVE));
-        }
-        match text(bytes) {
-            Ok(text) => Ok(Content::Text(text.strip_prefix('\u{FEFF}').unwrap_or(text))),
-            Err(_) if bytes.contains(&0) || bytes.chunks(EVENT_BYTES).all(is_write) => whole(name, bytes),
-            Err(at) => {
-                let line = 1 + bytes[..at].iter().filter(|byte| **byte == b'\n').count();
-                let reason = format!("{name}, line {line}: the byte {:02X} is no text", bytes[at]);
-                Err(Failure::new(&reason, SAVE))
-            }
-        }
-    }
-}
+/// The mend for what is no text.
+const SAVE: &str = "save the list as UTF-8 text; raw event words are taken only with --raw";
 
-/// The mend for what is neither text nor raw words.
-const SAVE: &str = "save the list as UTF-8 text; `play` takes raw event words with --raw";
-
-/// The bytes as text, or the place of the first that can't be in one.
-fn text(bytes: &[u8]) -> Result<&str, usize> {
-    let text = std::str::from_utf8(bytes).map_err(|error| error.valid_up_to())?;
-    match text.find(|c: char| c.is_control() && !c.is_ascii_whitespace()) {
-        Some(at) => Err(at),
-        None => Ok(text),
+/// The bytes as text.
+pub fn text<'b>(name: &str, bytes: &'b [u8]) -> Outcome<&'b str> {
+    if bytes.starts_with(&[0xFF, 0xFE]) || bytes.starts_with(&[0xFE, 0xFF]) {
+        return Err(Failure::refused(&format!("{name} seems to be UTF-16 text"), SAVE));
     }
+    let found = std::str::from_utf8(bytes).map_err(|error| error.valid_up_to());
+    let bad = |text: &str| text.find(|c: char| c.is_control() && !c.is_ascii_whitespace());
+    let found = found.and_then(|text| bad(text).map_or(Ok(text), Err));
+    found.map(|text| text.strip_prefix('\u{FEFF}').unwrap_or(text)).map_err(|at| {
+        let line = 1 + bytes[..at].iter().filter(|byte| **byte == b'\n').count();
+        Failure::refused(&format!("{name}, line {line}: the byte {:02X} is no text", bytes[at]), SAVE)
+    })
 }
 
 /// Raw words, if they are whole.
-fn whole<'b>(name: &str, bytes: &'b [u8]) -> Outcome<Content<'b>> {
+fn whole(name: &str, bytes: Vec<u8>) -> Outcome<Vec<u8>> {
     if bytes.len() % EVENT_BYTES != 0 {
         let length = crate::number_of(bytes.len(), "raw byte");
         let reason = format!("{name} has {length}, which is no whole number of 4-byte event words (refusal 20)");
-        return Err(Failure::new(&reason, "check that the list is whole; one in words is saved as UTF-8 text"));
+        return Err(Failure::refused(&reason, "check that the list is whole; one in text is taken without --raw"));
     }
-    Ok(Content::Raw(bytes))
+    Ok(bytes)
 }
 
 /// Reads a list from text; a message names the line.
@@ -89,7 +80,7 @@ pub fn check_length(path: &str, words: &[u8]) -> Outcome {
     if events > EVENTS {
         let name = name_of(path);
         let reason = format!("{name}: {events} events, but a run takes at most {EVENTS} (refusal 20)");
-        return Err(Failure::new(&reason, &format!("play it in portions, with `--portions {EVENTS}`")));
+        return Err(Failure::refused(&reason, &format!("play it in portions, with `--portions {EVENTS}`")));
     }
     Ok(())
 }
@@ -106,7 +97,7 @@ pub fn bad_line(place: &str, line: &str, bad: &BadWords) -> Failure {
         true => bad.reason.clone(),
         false => format!("{}, in {line}", bad.reason),
     };
-    Failure::new(&format!("{place}: {reason}"), &bad.mend)
+    Failure::refused(&format!("{place}: {reason}"), &bad.mend)
 }
 
 /// As much of a line as a message has room for, without what would move the cursor.

@@ -1,8 +1,10 @@
 //! The command line: `./nekahuiro help` says what it can do.
 
 mod age;
-mod arguments;
+mod alone;
 mod bench;
+mod command;
+mod commands;
 mod demo;
 mod encode;
 mod failure;
@@ -11,6 +13,8 @@ mod follow;
 mod fresh;
 mod help;
 mod list;
+mod output;
+mod pair;
 mod picture;
 mod play;
 mod show;
@@ -25,12 +29,12 @@ use std::process::ExitCode;
 
 fn main() -> ExitCode {
     let words: Outcome<Vec<String>> = std::env::args_os().skip(1).map(plain).collect();
-    match words.and_then(|words| command(&words)) {
+    match words.and_then(|words| commands::run(&words)) {
         Ok(()) => ExitCode::SUCCESS,
         Err(failure) => {
             // Nothing can be done if standard error is closed too.
             let _ = write!(std::io::stderr(), "{failure}");
-            ExitCode::from(failure.status)
+            ExitCode::from(failure.status as u8)
         }
     }
 }
@@ -42,40 +46,20 @@ fn plain(word: OsString) -> Outcome<String> {
     })
 }
 
-fn command(words: &[String]) -> Outcome {
-    let Some((name, rest)) = words.split_first() else {
-        return Err(Failure::usage("no command given", "try `./nekahuiro demo` or `./nekahuiro help`"));
-    };
-    if arguments::asks_for_help(words) {
-        return help::command().map_err(Failure::of_reader);
-    }
-    match name.as_str() {
-        "fresh" => fresh::command(rest),
-        "play" => play::command(rest),
-        "show" => show::command(rest).map_err(Failure::of_reader),
-        "age" => age::command(rest).map_err(Failure::of_reader),
-        "encode" => encode::command(rest).map_err(Failure::of_reader),
-        "demo" => demo::command(rest).map_err(Failure::of_reader),
-        "bench" => bench::command(rest).map_err(Failure::of_reader),
-        "help" => help::command().map_err(Failure::of_reader),
-        _ => Err(Failure::usage(&format!("there is no command `{name}`"), "`./nekahuiro help` lists the commands")),
-    }
-}
-
 /// Writes text to standard output.
 fn say(text: &str) -> Outcome {
     say_bytes(text.as_bytes())
 }
 
-/// Writes bytes to standard output, to the last one. It comes before any file is replaced.
+/// Writes bytes to standard output, to the last one.
 fn say_bytes(bytes: &[u8]) -> Outcome {
     let mut out = std::io::stdout().lock();
     let written = out.write_all(bytes).and_then(|()| out.flush());
     written.map_err(|error| {
         let reason = format!("can't write to standard output: {}", files::said(&error));
         match error.kind() {
-            ErrorKind::BrokenPipe => Failure::unread(&reason, "let it be read to its end; no file was changed"),
-            _ => Failure::new(&reason, "free some room, or write elsewhere; no file was changed"),
+            ErrorKind::BrokenPipe => Failure::unread(&reason, "let the output be read to its end"),
+            _ => Failure::new(&reason, "free some room, or write elsewhere"),
         }
     })
 }

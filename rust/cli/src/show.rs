@@ -1,18 +1,26 @@
 //! `show STORE`: the commit page in words, each record's settled value and where it stands.
 
-use crate::arguments::Form;
-use crate::failure::Outcome;
+use crate::command::Command;
+use crate::failure::{visible, Outcome};
 use crate::{files, say};
 use nekahuiro::{CommitPage, Place, Record, Store};
 use std::fmt::Write;
 
-const FORM: Form = Form { command: "show", names: &["STORE"], options: &[] };
+/// The command.
+pub const COMMAND: Command = Command {
+    name: "show",
+    names: &["STORE"],
+    options: &[],
+    summary: "the commit page in words, each record and where it stands",
+    help: "",
+    run,
+};
 
 /// Prints a store.
-pub fn command(words: &[String]) -> Outcome {
-    let ([path], _) = FORM.read(words)?;
+fn run(words: &[String]) -> Outcome {
+    let ([path], _) = COMMAND.read(words)?;
     let store = files::read_store(path)?;
-    let mut text = format!("{path}\n{}\n\n", commit_page(&store));
+    let mut text = format!("{}\n{}\n\n", visible(path), commit_page(&store));
     text.push_str("record  settled in           value\n");
     for record in Record::all() {
         let _ = writeln!(text, "{:6}  {:19}  {}", record.number(), place(&store, record), hex(&store.settled(record)));

@@ -1,7 +1,7 @@
-//! Replacing files in one step.
+//! Replacing plain files in one step.
 
-use crate::failure::{Failure, Outcome};
-use crate::files::{folder_of, place_of, said};
+use crate::failure::{Failure, Outcome, Status};
+use crate::files::{folder_of, said};
 use std::fs::{self, File, Metadata, OpenOptions};
 use std::io::{self, ErrorKind, Write};
 use std::os::unix::fs::{fchown, MetadataExt, OpenOptionsExt};
@@ -9,22 +9,24 @@ use std::path::{Path, PathBuf};
 
 /// New content for a file, written beside it and not yet in its place. Dropped, it leaves no trace.
 pub struct Staged {
-    /// What the user calls the file.
-    pub name: String,
+    name: String,
     target: PathBuf,
-    /// None for a device or a pipe, which is written at once.
-    beside: Option<PathBuf>,
+    beside: PathBuf,
+    /// The number of the file beside it, by which it is known again.
+    inode: u64,
+    /// Whether it isn't to be taken away.
+    stays: bool,
 }
 
 impl Staged {
-    /// Writes the content beside the file, to the disk.
+    /// Writes the content beside the file, to the disk. The caller is alone in its folder.
     pub fn new(name: &str, content: &[u8]) -> Outcome<Staged> {
         Staged::write(name, content).map_err(|failure| failure.and("no file was changed"))
     }
 
     fn write(name: &str, content: &[u8]) -> Outcome<Staged> {
         let fails = |error: io::Error| cant_write("write", name, &error);
-        // A link is followed, so that the file it names is replaced and not the link. A pipe has no path.
+        // A link is followed, so that the file it names is replaced and not the link.
         let target = fs::canonicalize(name).unwrap_or_else(|_| PathBuf::from(name));
         let found = match fs::metadata(&target) {
             Err(error) if error.kind() == ErrorKind::NotFound => None,
@@ -36,11 +38,6 @@ impl Staged {
                 return Err(Failure::new(&reason, "remove the link, or make the file that it names"));
             }
             Some(found) if found.is_dir() => return Err(fails(ErrorKind::IsADirectory.into())),
-            Some(found) if !found.is_file() => {
-                let mut device = OpenOptions::new().write(true).open(&target).map_err(fails)?;
-                device.write_all(content).map_err(fails)?;
-                return Ok(Staged { name: name.to_string(), target, beside: None });
-            }
             Some(found) if found.permissions().readonly() => {
                 let reason = format!("can't write {name}: it is read-only");
                 return Err(Failure::new(&reason, &format!("allow it with `chmod u+w {name}`")));
@@ -49,68 +46,83 @@ impl Staged {
             Some(_) => drop(OpenOptions::new().write(true).open(&target).map_err(fails)?),
             None => {}
         }
-        let (beside, file) = new_beside(&target, found.is_some()).map_err(fails)?;
-        let staged = Staged { name: name.to_string(), target, beside: Some(beside) };
+        let beside = beside(&target);
+        let file = new_file(&beside, found.is_some()).map_err(fails)?;
+        let inode = file.metadata().map_err(fails)?.ino();
+        let staged = Staged { name: name.to_string(), target, beside, inode, stays: false };
         fill(file, content, found).map_err(fails)?;
         Ok(staged)
     }
 
-    /// Puts the new content in the file's place, in one step; `so_far` says what was changed before.
-    pub fn keep(mut self, so_far: &str) -> Outcome {
-        let Some(beside) = self.beside.take() else { return Ok(()) };
-        fs::rename(&beside, &self.target).map_err(|error| {
-            let _ = fs::remove_file(&beside);
-            cant_write("replace", &self.name, &error).and(so_far)
-        })?;
-        sync_folder(&self.target).map_err(|error| {
-            let reason = format!("{} is replaced, but may not be on the disk yet: {}", self.name, said(&error));
-            Failure::new(&reason, "check the disk, and look at the file before you play again")
-        })
-    }
-
-    /// Takes the old file away, if there is one.
-    pub fn remove_old(&self) -> Outcome {
-        match fs::remove_file(&self.target) {
-            Err(error) if error.kind() != ErrorKind::NotFound => Err(cant_write("replace", &self.name, &error)),
-            _ => Ok(()),
+    /// Puts the new content in the file's place, in one step.
+    pub fn put(&mut self) -> Outcome {
+        // On a disk without locks somebody else may have written beside the file too.
+        if fs::symlink_metadata(&self.beside).is_ok_and(|found| found.ino() != self.inode) {
+            let reason = format!("{} is being written by somebody else", self.name);
+            return Err(Failure::with(Status::Busy, &reason, "try again"));
         }
+        fs::rename(&self.beside, &self.target).map_err(|error| cant_write("replace", &self.name, &error))?;
+        self.stays = true;
+        Ok(())
     }
 
-    /// What was done to its folder is brought to the disk.
+    /// What was done in its folder is brought to the disk.
     pub fn sync(&self) -> Outcome {
-        sync_folder(&self.target).map_err(|error| cant_write("replace", &self.name, &error))
+        sync(&self.name, &self.target)
+    }
+
+    /// From now on it stays beside the file even if it is dropped.
+    pub fn leave(&mut self) {
+        self.stays = true;
     }
 }
 
 impl Drop for Staged {
     fn drop(&mut self) {
-        if let Some(beside) = &self.beside {
-            let _ = fs::remove_file(beside);
+        if !self.stays {
+            let _ = fs::remove_file(&self.beside);
         }
     }
 }
 
-/// While it is kept, no other command is between its last look at a file of that folder and replacing it: a second one
-/// waits, and then sees what the first has left. On a disk that has no locks it guards nothing.
-pub fn alone_in_folder_of(name: &str) -> Option<File> {
-    let folder = File::open(folder_of(&place_of(name))).ok()?;
-    folder.lock().ok()?;
-    Some(folder)
+/// Puts what stands beside a file in its place, and that to the disk.
+pub fn finish(name: &str, target: &Path) -> Outcome {
+    fs::rename(beside(target), target).map_err(|error| cant_write("replace", name, &error))?;
+    sync(name, target)
 }
 
-/// A new file in the same folder, so that moving it is one step. One that replaces another is nobody
-/// else's to read until it has that one's permissions.
-fn new_beside(target: &Path, replaces: bool) -> io::Result<(PathBuf, File)> {
+/// What was done in a file's folder is brought to the disk.
+pub fn sync(name: &str, target: &Path) -> Outcome {
+    File::open(folder_of(target)).and_then(|folder| folder.sync_all()).map_err(|error| {
+        let reason = format!("{name} may not be on the disk yet: {}", said(&error));
+        Failure::new(&reason, "check the disk, and look at the file before you play again")
+    })
+}
+
+/// Where new content for a file is written first: always the same name, so that what a kill leaves is used again.
+/// It is in the same folder, so that moving it is one step.
+pub fn beside(target: &Path) -> PathBuf {
+    let name = target.file_name().unwrap_or_default().to_string_lossy().into_owned();
+    // A name has at most 255 bytes.
+    let short = if name.len() > 200 { format!("{:016x}", u64::from_le_bytes(digest(name.as_bytes()))) } else { name };
+    target.with_file_name(format!(".{short}.nekahuiro"))
+}
+
+/// A number that tells contents apart that differ by accident: FNV-1a, 64 bits, the least byte first.
+pub fn digest(bytes: &[u8]) -> [u8; 8] {
+    let step = |digest: u64, byte: &u8| (digest ^ u64::from(*byte)).wrapping_mul(0x0000_0100_0000_01B3);
+    bytes.iter().fold(0xCBF2_9CE4_8422_2325, step).to_le_bytes()
+}
+
+/// A new file, in place of what a kill left over. One that replaces another is nobody else's to read until
+/// it has that one's permissions.
+fn new_file(path: &Path, replaces: bool) -> io::Result<File> {
     let mode = if replaces { 0o600 } else { 0o666 };
-    let mut number = 0;
-    loop {
-        let path = target.with_file_name(format!(".nekahuiro.{}.{number}.new", std::process::id()));
-        match OpenOptions::new().write(true).create_new(true).mode(mode).open(&path) {
-            // Another's, or left over from a power cut.
-            Err(error) if error.kind() == ErrorKind::AlreadyExists => number += 1,
-            made => return Ok((path, made?)),
-        }
+    match fs::remove_file(path) {
+        Err(error) if error.kind() != ErrorKind::NotFound => return Err(error),
+        _ => {}
     }
+    OpenOptions::new().write(true).create_new(true).mode(mode).open(path)
 }
 
 /// Content, owner and permissions, to the disk.
@@ -127,12 +139,8 @@ fn fill(mut file: File, content: &[u8], replaced: Option<Metadata>) -> io::Resul
     file.sync_all()
 }
 
-/// A move must reach the disk too.
-fn sync_folder(target: &Path) -> io::Result<()> {
-    File::open(folder_of(target))?.sync_all()
-}
-
-fn cant_write(what: &str, name: &str, error: &io::Error) -> Failure {
+/// The message for a file that can't be written.
+pub fn cant_write(what: &str, name: &str, error: &io::Error) -> Failure {
     let mend = match error.kind() {
         ErrorKind::StorageFull | ErrorKind::FileTooLarge | ErrorKind::QuotaExceeded => "free some room",
         ErrorKind::PermissionDenied => "allow writing to it and in its folder",

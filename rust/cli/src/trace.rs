@@ -1,9 +1,11 @@
 //! `--trace`: each event and answer in words, with who holds, who retains and what crashed.
 
 use crate::follow::Follower;
+use crate::number_of;
 use nekahuiro::limits::EVENT_BYTES;
 use nekahuiro::{describe, page_writes, why_bad, Answer, Event};
 use nekahuiro_history::{End, History};
+use std::collections::BTreeMap;
 use std::fmt::Write;
 
 /// Tells a run, a line or two for each event, from what is known before it.
@@ -11,6 +13,7 @@ pub fn tell(start: &Follower, words: &[u8], answers: &[Answer], history: &Histor
     let mut text = String::from("event  word      answer  what happened\n");
     let mut follower = start.clone();
     let mut locks = follower.locks_in_words();
+    let endings = endings(history);
     if follower.up {
         let live: Vec<String> = follower.live.keys().map(u8::to_string).collect();
         let live = if live.is_empty() { "nothing".to_string() } else { live.join(", ") };
@@ -32,7 +35,7 @@ pub fn tell(start: &Follower, words: &[u8], answers: &[Answer], history: &Histor
         if let Some(event) = event {
             follower.event(event, *answer);
         }
-        for line in endings(at, history) {
+        for line in endings.get(&at).map(Ending::lines).unwrap_or_default() {
             let _ = writeln!(text, "{:27}{line}", "");
         }
         let after = follower.locks_in_words();
@@ -63,32 +66,49 @@ pub fn what_happened(event: Option<Event>, word: [u8; EVENT_BYTES], answer: Answ
     }
 }
 
-/// Who ended at this event, other than by a whole commit of its own.
-pub fn endings(at: usize, history: &History) -> Vec<String> {
-    let mut lines = Vec::new();
-    let of = |wanted: fn(End, usize) -> bool| -> Vec<String> {
-        let ended = history.transactions.iter().filter(|told| wanted(told.end, at));
-        ended.map(|told| told.number.to_string()).collect()
-    };
-    let committer = history
-        .transactions
-        .iter()
-        .find(|told| matches!(told.end, End::Committed { at: there, cut: true, .. } if there == at));
-    if let Some(told) = committer {
-        let fate = if told.survives {
-            "survives: the commit page was written"
-        } else {
-            "is lost: the commit page was not written"
-        };
-        lines.push(format!("the store is down; transaction {} {fate}", told.number));
+/// Who ended at an event, other than by a whole commit of its own.
+#[derive(Default)]
+pub struct Ending {
+    cut: Option<String>,
+    crashed: Vec<String>,
+    aborted: Vec<String>,
+}
+
+/// Where transactions ended, and which.
+pub fn endings(history: &History) -> BTreeMap<usize, Ending> {
+    let mut endings: BTreeMap<usize, Ending> = BTreeMap::new();
+    for told in &history.transactions {
+        let number = told.number.to_string();
+        match told.end {
+            End::Committed { at, cut: true, .. } => {
+                let fate =
+                    if told.survives { "survives: the commit page was" } else { "is lost: the commit page was not" };
+                let line = format!("the store is down; transaction {number} {fate} written");
+                endings.entry(at).or_default().cut = Some(line);
+            }
+            End::Crashed(at) => endings.entry(at).or_default().crashed.push(number),
+            End::Aborted(at) => endings.entry(at).or_default().aborted.push(number),
+            End::Committed { .. } | End::Never => {}
+        }
     }
-    let crashed = of(|end, at| end == End::Crashed(at));
-    if !crashed.is_empty() {
-        lines.push(format!("crashed and lost: {}", crashed.join(", ")));
+    endings
+}
+
+impl Ending {
+    /// In words, a line each.
+    pub fn lines(&self) -> Vec<String> {
+        let crashed = (!self.crashed.is_empty()).then(|| format!("crashed and lost: {}", self.crashed.join(", ")));
+        let aborted = (!self.aborted.is_empty()).then(|| format!("aborted: {}", self.aborted.join(", ")));
+        self.cut.iter().cloned().chain(crashed).chain(aborted).collect()
     }
-    let aborted = of(|end, at| end == End::Aborted(at));
-    if !aborted.is_empty() {
-        lines.push(format!("aborted: {}", aborted.join(", ")));
-    }
-    lines
+}
+
+/// How many transactions there were, and what became of them.
+pub fn fates(history: &History) -> String {
+    let all = history.transactions.len();
+    let survive = history.transactions.iter().filter(|told| told.survives).count();
+    let open = (0..all).filter(|place| history.is_open(*place)).count();
+    let verb = if survive == 1 { "survives" } else { "survive" };
+    let open_in_words = if open == 0 { String::new() } else { format!(", {open} undecided") };
+    format!("{}: {survive} {verb}, {} lost{open_in_words}", number_of(all, "transaction"), all - survive - open)
 }

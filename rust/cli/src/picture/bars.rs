@@ -49,15 +49,16 @@ fn draw_box(svg: &mut Svg, told: &Told, scale: &Scale, bar: &Bar, y: f64) {
 /// The transaction's number, where it begins.
 fn draw_badge(svg: &mut Svg, told: &Told, scale: &Scale, bar: &Bar, y: f64) {
     let transaction = &told.history.transactions[bar.transaction];
+    let tip = transaction.begun.map_or("begun before".to_string(), |at| told.tip(at));
     if !scale.has_room_for_text() {
-        svg.text(scale.left(bar.first) + 3.0, y - 4.5, "small", &transaction.number.to_string());
+        svg.text_with_tip(scale.left(bar.first) + 3.0, y - 4.5, "small", &transaction.number.to_string(), &tip);
         return;
     }
     let class = format!("badge-{}", told.fate(bar.transaction));
     // One that was live before has an event of its own in its first column.
     let x = if transaction.begun.is_some() { scale.middle(bar.first) } else { scale.left(bar.first) };
-    svg.circle(x, y, 8.5, &class);
-    svg.text(x, y + 3.5, "badge", &transaction.number.to_string());
+    svg.circle(x, y, 8.5, &class, &tip);
+    svg.text_with_tip(x, y + 3.5, "badge", &transaction.number.to_string(), &tip);
 }
 
 fn draw_event(svg: &mut Svg, told: &Told, scale: &Scale, at: usize, y: f64) {
@@ -66,13 +67,17 @@ fn draw_event(svg: &mut Svg, told: &Told, scale: &Scale, at: usize, y: f64) {
     if matches!(told.events[at], Some(Event::Begin { .. })) && accepted {
         return;
     }
-    let x = scale.middle(at);
-    if !scale.has_room_for_text() {
-        svg.rect(scale.left(at), y - 2.0, scale.step - 1.0, 9.0, if accepted { "tick" } else { "tick-no" }, "");
-    } else if accepted {
-        svg.text(x, y + 4.0, class, &letters);
+    // A commit that was cut and lost is none.
+    let lost = told.answers[at].is_cut() && told.history.owner[at].is_some_and(|owner| told.fate(owner) == "lost");
+    let (class, letters, tick) = match (accepted, lost) {
+        (false, _) => ("event no", letters, "tick-no"),
+        (true, true) => ("event cut", "cut".to_string(), "tick-cut"),
+        (true, false) => (class, letters, "tick"),
+    };
+    if scale.has_room_for_text() {
+        svg.text_with_tip(scale.middle(at), y + 4.0, class, &letters, &told.tip(at));
     } else {
-        svg.text(x, y + 4.0, "event no", &letters);
+        svg.rect(scale.left(at), y - 2.0, scale.step - 1.0, 9.0, tick, &told.tip(at));
     }
 }
 

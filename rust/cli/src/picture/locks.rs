@@ -43,10 +43,13 @@ impl Rows {
         let mut follower = told.start.clone();
         let mut rows: [Row; RECORDS] = Default::default();
         for (at, (event, answer)) in told.events.iter().zip(told.answers).enumerate() {
+            // A crash comes at the right end of its column: until there all is as it was.
+            let before = follower.clone();
             if let Some(event) = event {
                 follower.event(*event, *answer);
             }
-            for (row, lock) in rows.iter_mut().zip(&follower.locks) {
+            let shown = if told.is_crash(at) { &before } else { &follower };
+            for (row, lock) in rows.iter_mut().zip(&shown.locks) {
                 note(&mut row.held, at, &lock.holders);
                 note(&mut row.retained, at, &lock.retainers);
             }

@@ -6,15 +6,18 @@ mod locks;
 mod svg;
 
 use crate::follow::Follower;
-use crate::number_of;
+use crate::{number_of, trace};
 use layout::{Layout, Scale};
 use nekahuiro::limits::EVENT_BYTES;
-use nekahuiro::{Answer, Event};
+use nekahuiro::{describe, Answer, Event};
 use nekahuiro_history::History;
+use std::collections::BTreeMap;
 use svg::Svg;
 
 /// What each part of the picture is drawn from.
 pub struct Told<'t> {
+    /// Each event word.
+    pub words: Vec<[u8; EVENT_BYTES]>,
     /// Each event, none where its word is bad.
     pub events: Vec<Option<Event>>,
     /// The engine's answers.
@@ -23,21 +26,36 @@ pub struct Told<'t> {
     pub history: &'t History,
     /// What is known before the first event.
     pub start: &'t Follower,
-    /// Whether what is live at the end stays so; else it is lost.
-    pub kept: bool,
 }
 
 impl Told<'_> {
-    /// Whether it isn't decided yet if a transaction survives.
-    pub fn is_open(&self, transaction: usize) -> bool {
-        self.kept && self.history.is_open(transaction)
+    /// An event and its answer in words.
+    pub fn tip(&self, at: usize) -> String {
+        let word = self.words[at];
+        format!(
+            "event {}, {}: {}",
+            at + 1,
+            describe(word),
+            trace::what_happened(self.events[at], word, self.answers[at])
+        )
+    }
+
+    /// Whether the store goes down at an event.
+    pub fn is_crash(&self, at: usize) -> bool {
+        let crash = matches!(self.events[at], Some(Event::Crash)) && self.answers[at].is_accepted();
+        crash || self.answers[at].is_cut()
+    }
+
+    /// The refusals of this run, each number once.
+    fn refusals(&self) -> BTreeMap<u8, String> {
+        self.answers.iter().filter_map(|answer| Some((answer.number, answer.refusal()?))).collect()
     }
 
     /// Whether a transaction survives, in a word.
     pub fn fate(&self, transaction: usize) -> &'static str {
         match self.history.transactions[transaction].survives {
             true => "survives",
-            false if self.is_open(transaction) => "undecided",
+            false if self.history.is_open(transaction) => "undecided",
             false => "lost",
         }
     }
@@ -47,12 +65,14 @@ const TITLE: f64 = 30.0;
 const AXIS: f64 = 44.0;
 const CRASH_LABEL: f64 = 28.0;
 const LEGEND: f64 = 74.0;
+const LEGEND_ROW: f64 = 16.0;
 const LEAST_WIDTH: f64 = 900.0;
 
 /// Draws a run.
-pub fn draw(start: &Follower, words: &[u8], answers: &[Answer], history: &History, kept: bool) -> String {
-    let events = words.chunks_exact(EVENT_BYTES).map(|w| Event::of([w[0], w[1], w[2], w[3]])).collect();
-    let told = Told { events, answers, history, start, kept };
+pub fn draw(start: &Follower, words: &[u8], answers: &[Answer], history: &History) -> String {
+    let words: Vec<[u8; EVENT_BYTES]> = words.chunks_exact(EVENT_BYTES).map(|w| [w[0], w[1], w[2], w[3]]).collect();
+    let events = words.iter().map(|word| Event::of(*word)).collect();
+    let told = Told { words, events, answers, history, start };
     let scale = Scale::of(answers.len());
     let bars = Layout::of(history, answers.len());
     let locks = locks::Rows::of(&told);
@@ -60,24 +80,15 @@ pub fn draw(start: &Follower, words: &[u8], answers: &[Answer], history: &Histor
     let top_of_locks = top_of_bars + bars.height + 12.0;
     let bottom = top_of_locks + locks.height();
     let width = scale.right().max(LEAST_WIDTH);
-    let mut svg = Svg::new(width, bottom + CRASH_LABEL + LEGEND);
-    svg.text(16.0, 20.0, "title", &title(&told));
+    let mut svg = Svg::new(width, bottom + CRASH_LABEL + LEGEND + told.refusals().len() as f64 * LEGEND_ROW);
+    let title = format!("{}, {}", number_of(answers.len(), "event"), trace::fates(history));
+    svg.text(16.0, 20.0, "title", &title);
     axis(&mut svg, &told, &scale);
     bars::draw(&mut svg, &told, &scale, &bars, top_of_bars);
     locks.draw(&mut svg, &scale, top_of_locks);
     crashes(&mut svg, &told, &scale, bottom);
     legend(&mut svg, &told, &scale, bottom + CRASH_LABEL + 12.0);
     svg.finish()
-}
-
-fn title(told: &Told) -> String {
-    let survive = told.history.transactions.iter().filter(|t| t.survives).count();
-    let open = (0..told.history.transactions.len()).filter(|t| told.is_open(*t)).count();
-    let lost = told.history.transactions.len() - survive - open;
-    let open = if open == 0 { String::new() } else { format!(", {open} undecided") };
-    let events = number_of(told.answers.len(), "event");
-    let verb = if survive == 1 { "survives" } else { "survive" };
-    format!("{events}, {} {verb}, {lost} lost{open}", number_of(survive, "transaction"))
 }
 
 /// Event numbers, the numbers of refusals, and a band that is green while the store is up.
@@ -92,18 +103,21 @@ fn axis(svg: &mut Svg, told: &Told, scale: &Scale) {
         if at == 0 || (at + 1) % every == 0 {
             svg.text(scale.middle(at), numbers, "number", &(at + 1).to_string());
         }
+        let tip = told.tip(at);
         if !answer.is_accepted() && scale.has_room_for_text() {
-            svg.text(scale.middle(at), refusals, "refusal", &answer.number.to_string());
+            svg.text_with_tip(scale.middle(at), refusals, "refusal", &answer.number.to_string(), &tip);
         } else if !answer.is_accepted() {
-            svg.rect(scale.left(at), refusals - 8.0, scale.step, 8.0, "refused-tick", "");
+            svg.rect(scale.left(at), refusals - 8.0, scale.step, 8.0, "refused-tick", &tip);
         }
-        up = match told.events[at] {
-            _ if answer.is_cut() => false,
-            Some(Event::Crash) if answer.is_accepted() => false,
-            Some(Event::Recover { .. }) if answer.is_accepted() => true,
-            _ => up,
-        };
-        svg.rect(scale.left(at), band, scale.step, 7.0, if up { "up" } else { "down" }, "");
+        // A crash comes at the right end of its column, a recover in the middle.
+        svg.rect(scale.left(at), band, scale.step, 9.0, if up { "up" } else { "down" }, &tip);
+        let recovers = matches!(told.events[at], Some(Event::Recover { .. })) && answer.is_accepted();
+        up = (up || recovers) && !told.is_crash(at);
+        if recovers {
+            let class = if up { "recover" } else { "recover-cut" };
+            svg.rect(scale.middle(at), band, scale.step / 2.0, 9.0, if up { "up" } else { "down" }, &tip);
+            svg.arrow_up(scale.middle(at), band + 8.5, scale.step.min(8.0), class, &tip);
+        }
     }
 }
 
@@ -111,14 +125,13 @@ fn axis(svg: &mut Svg, told: &Told, scale: &Scale) {
 fn crashes(svg: &mut Svg, told: &Told, scale: &Scale, bottom: f64) {
     let mut lower = false;
     for (at, answer) in told.answers.iter().enumerate() {
-        let plain = matches!(told.events[at], Some(Event::Crash)) && answer.is_accepted();
-        if !plain && !answer.is_cut() {
+        if !told.is_crash(at) {
             continue;
         }
         let x = scale.left(at) + scale.step - 1.0;
         svg.line(x, TITLE + 26.0, x, bottom, "crash");
         if scale.has_room_for_text() {
-            let what = if plain { "crash".to_string() } else { format!("cut at {}", answer.value) };
+            let what = if answer.is_cut() { format!("cut at {}", answer.value) } else { "crash".to_string() };
             svg.text(x, bottom + if lower { 24.0 } else { 11.0 }, "crash-label", &what);
             lower = !lower;
         }
@@ -134,7 +147,7 @@ fn legend(svg: &mut Svg, told: &Told, scale: &Scale, top: f64) {
     };
     entry(svg, "survives", "survives");
     entry(svg, "lost", "lost");
-    if told.kept {
+    if (0..told.history.transactions.len()).any(|place| told.history.is_open(place)) {
         entry(svg, "undecided", "undecided");
     }
     entry(svg, "held", "lock held by");
@@ -145,14 +158,23 @@ fn legend(svg: &mut Svg, told: &Told, scale: &Scale, top: f64) {
     let letters = [
         "L lock, W write, R read, each with its record; L3r: only to read",
         "struck through: refused",
-        "\u{2713} commit",
+        "\u{2713} commit, cut: cut and lost",
+        "\u{25B2} recover",
         "\u{2717} abort, \u{2717}\u{2191} with a report",
     ];
-    let marks = ["black: an event of the transaction", "red: a refused one"];
+    let marks = [
+        "black: an event of the transaction",
+        "red: a refused one",
+        "orange: a commit cut and lost",
+        "\u{25B2} recover",
+    ];
     let crash =
         if scale.has_room_for_text() { "red line: crash; cut at 2: after 2 page writes" } else { "red line: crash" };
     let lines = [crash, "a bar inside a bar is a child", "dashed: still live"];
     let signs = if scale.has_room_for_text() { &letters[..] } else { &marks[..] };
     svg.text(16.0, top + 30.0, "legend", &signs.join(" \u{b7} "));
     svg.text(16.0, top + 46.0, "legend", &lines.join(" \u{b7} "));
+    for (row, (number, reason)) in told.refusals().iter().enumerate() {
+        svg.text(16.0, top + 62.0 + row as f64 * LEGEND_ROW, "refused-legend", &format!("refused {number}: {reason}"));
+    }
 }

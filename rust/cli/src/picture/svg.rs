@@ -13,7 +13,7 @@ text { font-family: sans-serif; font-size: 11px; fill: #222 }
 .label { fill: #555 } .legend { fill: #333 }
 .number { fill: #777; font-size: 9px; text-anchor: middle }
 .refusal { fill: #b3261e; font-weight: bold; font-size: 10px; text-anchor: middle }
-.refused-tick { fill: #b3261e }
+.refused-legend { fill: #b3261e } .refused-tick { fill: #b3261e }
 .survives { fill: #d5efe2; stroke: #1b7f5c; stroke-width: 1.5 }
 .lost { fill: #fae3dc; stroke: #b8482f; stroke-width: 1.5 }
 .undecided { fill: #eef0f3; stroke: #5c6673; stroke-width: 1.5 }
@@ -24,13 +24,15 @@ text { font-family: sans-serif; font-size: 11px; fill: #222 }
 .event { font-size: 10px; text-anchor: middle }
 .no { fill: #b3261e; text-decoration: line-through }
 .end { font-size: 14px; font-weight: bold; text-anchor: middle }
-.up { fill: #7cc6a4 } .down { fill: #cfcfcf }
+.cut { fill: #b3261e; font-weight: bold }
+.recover { fill: #14533d } .recover-cut { fill: #b3261e }
+.up { fill: #7cc6a4 } .down { fill: #cfcfcf } .up, .down, .refused-tick { shape-rendering: crispEdges }
 .held { fill: #2f5fa8 } .held-to-read { fill: #5f93d6 } .held-by { fill: #fff; font-size: 10px; font-weight: bold; text-anchor: middle }
 .retained { fill: #c3d5f2 } .retained-to-read { fill: #e3ecf9 } .retained-by { fill: #23406e; font-size: 9px; text-anchor: middle }
 .grid { stroke: #eee }
 .crash { stroke: #b3261e; stroke-width: 2; stroke-dasharray: 6 3 }
 .crash-label { fill: #b3261e; font-weight: bold; font-size: 10px; text-anchor: middle }
-.tick { fill: #222 } .tick-no { fill: #b3261e }
+.tick { fill: #222 } .tick-no { fill: #b3261e } .tick-cut { fill: #e08a00 }
 ";
 
 impl Svg {
@@ -58,15 +60,28 @@ impl Svg {
         let _ = writeln!(self.text, "<text x=\"{x:.1}\" y=\"{y:.1}\" class=\"{class}\">{text}</text>");
     }
 
+    /// Text with a tip.
+    pub fn text_with_tip(&mut self, x: f64, y: f64, class: &str, text: &str, tip: &str) {
+        self.text(x, y, class, &format!("{text}<title>{tip}</title>"));
+    }
+
+    /// A triangle that points up, with its foot at this height.
+    pub fn arrow_up(&mut self, x: f64, foot: f64, size: f64, class: &str, tip: &str) {
+        let (left, right, top) = (x - size / 2.0, x + size / 2.0, foot - size);
+        let path = format!("M{left:.1} {foot:.1} L{x:.1} {top:.1} L{right:.1} {foot:.1} Z");
+        let _ = writeln!(self.text, "<path d=\"{path}\" class=\"{class}\"><title>{tip}</title></path>");
+    }
+
     /// A line.
     pub fn line(&mut self, x1: f64, y1: f64, x2: f64, y2: f64, class: &str) {
         let ends = format!("x1=\"{x1:.1}\" y1=\"{y1:.1}\" x2=\"{x2:.1}\" y2=\"{y2:.1}\"");
         let _ = writeln!(self.text, "<line {ends} class=\"{class}\"/>");
     }
 
-    /// A filled circle.
-    pub fn circle(&mut self, x: f64, y: f64, radius: f64, class: &str) {
-        let _ = writeln!(self.text, "<circle cx=\"{x:.1}\" cy=\"{y:.1}\" r=\"{radius:.1}\" class=\"{class}\"/>");
+    /// A filled circle with a tip.
+    pub fn circle(&mut self, x: f64, y: f64, radius: f64, class: &str, tip: &str) {
+        let place = format!("cx=\"{x:.1}\" cy=\"{y:.1}\" r=\"{radius:.1}\"");
+        let _ = writeln!(self.text, "<circle {place} class=\"{class}\"><title>{tip}</title></circle>");
     }
 
     /// The whole file.

@@ -1,0 +1,40 @@
+//! `--expect FILE`: the answers that should be given, two bytes each.
+
+use super::Played;
+use crate::failure::{Failure, Outcome, Status};
+use crate::files::{cant_read, read_up_to};
+use nekahuiro::limits::{ANSWER_BYTES, EVENT_BYTES};
+use nekahuiro::{describe, Answer};
+
+/// More than the answers of any list that is read.
+const LIMIT: usize = 1 << 28;
+
+/// Reads the expected answers.
+pub fn read(name: &str) -> Outcome<Vec<Answer>> {
+    let missing = "check the name; it should be a file that --answers wrote";
+    let bytes = read_up_to(name, LIMIT).map_err(|error| cant_read(name, &error, missing))?;
+    if bytes.len() % ANSWER_BYTES != 0 {
+        let reason = format!("{name} has {} bytes, which is no whole number of answers", bytes.len());
+        return Err(Failure::refused(&reason, "name a file that --answers wrote, two bytes each"));
+    }
+    Ok(bytes.chunks_exact(ANSWER_BYTES).map(|pair| Answer::of([pair[0], pair[1]])).collect())
+}
+
+/// Fails at the first answer that isn't the expected one.
+pub fn compare(name: &str, expected: &[Answer], Played { words, answers, .. }: &Played) -> Outcome {
+    let mend = "look at the list, at the store before it, or at the expected answers";
+    let differs = |reason: &str| Err(Failure::with(Status::OtherAnswers, reason, mend));
+    let hex = |answer: &Answer| format!("{:02X}{:02X}", answer.number, answer.value);
+    let pairs = words.chunks_exact(EVENT_BYTES).zip(answers.iter().zip(expected));
+    for (at, (word, (found, due))) in (1..).zip(pairs) {
+        if found != due {
+            let event = describe([word[0], word[1], word[2], word[3]]);
+            let reason = format!("event {at}, {event}: the answer is {}, and {name} has {}", hex(found), hex(due));
+            return differs(&reason);
+        }
+    }
+    if answers.len() != expected.len() {
+        return differs(&format!("there are {} answers, and {name} has {}", answers.len(), expected.len()));
+    }
+    Ok(())
+}

@@ -1,0 +1,163 @@
+//! `play STORE EVENTS`: plays a list on a store file.
+
+mod expected;
+mod options;
+mod report;
+
+use crate::alone::Alone;
+use crate::command::{Command, WAIT};
+use crate::failure::{Failure, Outcome, Status};
+use crate::follow::Follower;
+use crate::output::Output;
+use crate::pair::Pair;
+use crate::state_file::{self, Kept};
+use crate::{list, number_of, picture, say};
+use nekahuiro::limits::{EVENTS, EVENT_BYTES};
+use nekahuiro::{Answer, Refusal, Store};
+use nekahuiro_history::{tell_from, Earlier, History};
+use options::Options;
+
+/// The command.
+pub const COMMAND: Command = Command {
+    name: "play",
+    names: &["STORE", "EVENTS"],
+    options: &[
+        ("--answers", "FILE", "write the answers there, two bytes each"),
+        ("--trace", "", "tell each event in words: who holds, who retains, what crashed"),
+        ("--picture", "FILE.svg", "draw the run as a timeline"),
+        ("--portions", "N", "play N events at a time; the list may then have any length"),
+        ("--state", "FILE", "go on from the state in FILE, and leave the new state there; without it, start down"),
+        ("--strict", "", "end with status 5 if an event is refused; the list is played all the same"),
+        ("--expect", "FILE", "end with status 6 if the answers aren't those in FILE, as --answers writes them"),
+        ("--raw", "", "take EVENTS as raw event words of 4 bytes"),
+        ("--dry", "", "leave store and state file as they are"),
+        WAIT,
+    ],
+    summary: "play a list of events on a store",
+    help: "\
+`./nekahuiro help` says how a list is written. Each event has an answer of two bytes, told in hex: a
+number (00 done, 01 to 0A and 0E refused, 0B cut by a crash), then a value. --trace tells it in words;
+a lock is to write unless it is said to be to read. include/nekahuiro.h has all the numbers.
+
+When the list has been read, the command has the folders of its files for itself until they are
+replaced, and another one waits. Nothing is told as done before it is: first the store is replaced, in one
+step, then the state file, then answers and picture; then the report is printed. If somebody else
+changed store or state file meanwhile, nothing is replaced.
+
+A state file has what is live between two portions: a line that says what it is and of which version,
+a digest of the store left with it and one of what follows, the lent state, the working buffer, and the
+store's place as seen from the state file's folder. It goes with the store of that place and content;
+with another, or if the store was changed since, nothing is played. Store and state file may be moved or
+copied together. A play that is stopped leaves the old pair or the new pair: the new state is first
+written to `.FILE.nekahuiro`, and where the state file doesn't fit the store and that one does, it is
+taken and put in its place. To give up what is live, play a crash and a recover.
+",
+    run,
+};
+
+/// What was played.
+struct Played {
+    /// The store after it.
+    store: Store,
+    /// The state before, in words.
+    start: Follower,
+    /// What is left for the next portion.
+    left: Kept,
+    words: Vec<u8>,
+    answers: Vec<Answer>,
+    history: History,
+}
+
+/// Plays, replaces store and state, hands out what was asked for, and then tells it.
+fn run(words: &[String]) -> Outcome {
+    let options = Options::of(words)?;
+    options.check_files()?;
+    // The list may come slowly, and the files are read when they are needed.
+    let words = list::read(options.events, options.raw)?;
+    if options.portions.is_none() {
+        list::check_length(options.events, &words)?;
+    }
+    let expected = options.expect.map(expected::read).transpose()?;
+    let mut answers_to = options.answers.map(Output::open).transpose()?;
+    let mut picture_to = options.picture.map(Output::open).transpose()?;
+    let files = answers_to.iter().chain(&picture_to).filter_map(Output::file);
+    let files: Vec<&str> = std::iter::once(options.store).chain(options.state).chain(files).collect();
+    let alone = Alone::with(&files, options.wait)?;
+    let (pair, kept) = Pair::read(options.store, options.state, options.dry)?;
+    let played = play(&options, pair.store.clone(), kept, words)?;
+    // All new content is on the disk before any file is replaced.
+    if let Some(output) = &mut answers_to {
+        output.stage(played.answers.iter().flat_map(|answer| answer.bytes()).collect())?;
+    }
+    if let Some(output) = &mut picture_to {
+        let Played { start, words, answers, history, .. } = &played;
+        output.stage(picture::draw(start, words, answers, history).into_bytes())?;
+    }
+    if !options.dry {
+        pair.replace(&played.store, &played.left)?;
+    }
+    let mut outputs: Vec<Output> = answers_to.into_iter().chain(picture_to).collect();
+    let told = outputs.iter_mut().try_for_each(Output::put);
+    // Nobody has to wait for the readers of the outputs.
+    drop(alone);
+    let told = told.and_then(|()| outputs.iter_mut().try_for_each(Output::send));
+    told.and_then(|()| say(&report::text(&options, &played))).map_err(|failure| match options.dry {
+        true => failure,
+        false => failure.after(&format!("the list was played on {}, so don't play it again", options.store)),
+    })?;
+    verdict(&options, &played, expected.as_deref())
+}
+
+/// What --expect and --strict ask for.
+fn verdict(options: &Options, played: &Played, expected: Option<&[Answer]>) -> Outcome {
+    let kept = if options.dry { "nothing was changed" } else { "the list was played all the same" };
+    if let (Some(name), Some(expected)) = (options.expect, expected) {
+        expected::compare(name, expected, played).map_err(|failure| failure.and(kept))?;
+    }
+    let refused = played.answers.iter().filter(|answer| !answer.is_accepted()).count();
+    if options.strict && refused > 0 {
+        let verb = if refused == 1 { "was" } else { "were" };
+        let reason = format!("{} {verb} refused", number_of(refused, "event"));
+        return Err(Failure::with(Status::EventRefused, &reason, "--trace tells why").and(kept));
+    }
+    Ok(())
+}
+
+fn play(options: &Options, mut store: Store, mut left: Kept, words: Vec<u8>) -> Outcome<Played> {
+    let (start, earlier) = (Follower::of(&left.state), left.earlier());
+    let played = if options.portions.is_some() || options.state.is_some() {
+        portions(&mut store, &mut left, &words, options.portions.unwrap_or(EVENTS))
+    } else {
+        store.play_words(&words)
+    };
+    let answers = played.map_err(|refusal| match (options.state, refusal) {
+        (Some(path), Refusal::State) => state_file::unsound(path),
+        _ => Failure::refused(&format!("the run was {refusal}"), "nothing was played, and no file was changed"),
+    })?;
+    let history = history(&earlier, &words, &answers)?;
+    Ok(Played { store, start, left, words, answers, history })
+}
+
+/// Plays the words, at most so many events at a time. No words are one empty portion, so that a state
+/// is looked at in any case.
+fn portions(store: &mut Store, kept: &mut Kept, words: &[u8], events: usize) -> Result<Vec<Answer>, Refusal> {
+    let mut answers = Vec::with_capacity(words.len() / EVENT_BYTES);
+    let mut rest = words;
+    loop {
+        let (portion, later) = rest.split_at(rest.len().min(events * EVENT_BYTES));
+        answers.extend(store.portion_words(&mut kept.state, &mut kept.work, portion)?);
+        if later.is_empty() {
+            return Ok(answers);
+        }
+        rest = later;
+    }
+}
+
+/// What the answers tell; no right engine gives answers that tell nothing.
+fn history(earlier: &[Earlier], words: &[u8], answers: &[Answer]) -> Outcome<History> {
+    let bytes: Vec<u8> = answers.iter().flat_map(|answer| answer.bytes()).collect();
+    tell_from(earlier, words, &bytes).map_err(|absurd| {
+        let reason = format!("event {}: the engine's answer can't be: {}", absurd.at + 1, absurd.what);
+        Failure::new(&reason, "the linked library isn't the proved one; make it again with `rt staticlib nekahuiro`")
+    })
+}

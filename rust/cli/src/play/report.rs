@@ -1,0 +1,48 @@
+//! What `play` tells when all is done.
+
+use super::{Options, Played};
+use crate::failure::visible;
+use crate::{number_of, show, trace};
+use nekahuiro::limits::EVENT_BYTES;
+use nekahuiro::Answer;
+use std::fmt::Write;
+
+/// The answers or the trace, and what came of it.
+pub fn text(options: &Options, played: &Played) -> String {
+    let Played { store, start, left, words, answers, history, .. } = played;
+    let mut text = String::new();
+    if options.trace {
+        text.push_str(&trace::tell(start, words, answers, history));
+    } else if options.answers.is_none() {
+        for (word, answer) in words.chunks_exact(EVENT_BYTES).zip(answers) {
+            let bits = u32::from_be_bytes([word[0], word[1], word[2], word[3]]);
+            let _ = writeln!(text, "{bits:08X} {:02X}{:02X}", answer.number, answer.value);
+        }
+    }
+    let count = |wanted: fn(&Answer) -> bool| answers.iter().filter(|answer| wanted(answer)).count();
+    let (accepted, cut) = (count(|answer| answer.is_accepted()), count(|answer| answer.is_cut()));
+    let _ = writeln!(
+        text,
+        "{}: {} done, {} refused, {cut} cut by a crash; {}",
+        number_of(answers.len(), "event"),
+        accepted - cut,
+        answers.len() - accepted,
+        trace::fates(history),
+    );
+    if accepted < answers.len() && !options.trace {
+        let _ = writeln!(text, "why an event was refused: --trace tells it");
+    }
+    let open = (0..history.transactions.len()).any(|place| history.is_open(place));
+    match options.state {
+        Some(path) => {
+            let _ = writeln!(text, "{}: {}", visible(path), left.in_words());
+        }
+        None if open => text.push_str("what is live at the end isn't kept without --state\n"),
+        None => {}
+    }
+    let _ = writeln!(text, "{}", show::commit_page(store));
+    if options.dry {
+        let _ = writeln!(text, "a dry run: the store is left as it was, and so is the state file");
+    }
+    text
+}

@@ -1,0 +1,67 @@
+//! A play that is killed leaves the old pair of store and state file, or the new one.
+
+use crate::folder::Folder;
+use std::thread::sleep;
+use std::time::{Duration, Instant};
+
+/// Kills of each list.
+const KILLS: usize = 250;
+
+/// A store and a state file.
+type Pair = [Vec<u8>; 2];
+
+fn read(folder: &Folder) -> Pair {
+    [folder.read("store"), folder.read("state")]
+}
+
+fn write(folder: &Folder, [store, state]: &Pair) {
+    folder.write("store", store);
+    folder.write("state", state);
+}
+
+/// Kills plays of a list at random moments.
+fn kill(name: &str, list: &str, changes_store: bool) {
+    const PLAY: &str = "play store list --state state";
+    let folder = Folder::new(&name.replace(' ', "-"));
+    folder.run("fresh store");
+    folder.write("start", "recover 63\nbegin none\nbegin none\nlock 0 3\nwrite 0 3 0 A5\nlock 1 5\nwrite 1 5 0 5A\n");
+    folder.write("list", list);
+    folder.write("nothing", "");
+    folder.run("play store start --state state");
+    let old = read(&folder);
+    let start = Instant::now();
+    folder.run(PLAY);
+    let whole = start.elapsed().as_micros() as u64;
+    let new = read(&folder);
+    assert_eq!(old[0] != new[0], changes_store);
+    let (mut chance, mut renewed, mut halfway) = (1u64, 0, 0);
+    for _ in 0..KILLS {
+        write(&folder, &old);
+        let mut child = folder.start(PLAY);
+        chance = chance.wrapping_mul(6364136223846793005).wrapping_add(1442695040888963407);
+        sleep(Duration::from_micros((chance >> 33) % (whole + whole / 4)));
+        child.kill().expect("a process to kill");
+        let output = child.wait_with_output().expect("an end");
+        halfway += usize::from(changes_store && folder.read("store") == new[0] && folder.read("state") == old[1]);
+        folder.run("play store nothing --state state");
+        let found = read(&folder);
+        assert!(found == old || found == new, "neither the old pair nor the new one");
+        assert!(found == new || output.stdout.is_empty(), "told as done, and not done");
+        renewed += usize::from(found == new);
+    }
+    println!("kills of {name}: {KILLS}, new pair {renewed}, of these halfway {halfway}, old pair {}", KILLS - renewed);
+    // What kills leave over has one name for each file, and goes with the next play.
+    write(&folder, &old);
+    folder.run(PLAY);
+    assert_eq!(folder.names(), ["list", "nothing", "start", "state", "store"]);
+}
+
+#[test]
+fn kills_of_a_play_that_leaves_the_store() {
+    kill("a play that leaves the store", "write 0 3 1 11\nbegin 1\nlock 2 7\n", false);
+}
+
+#[test]
+fn kills_of_a_play_that_changes_the_store() {
+    kill("a play that changes the store", "commit 0 63\nbegin none\nlock 0 7\n", true);
+}
