@@ -69,7 +69,9 @@ impl Follower {
             Event::Abort { transaction, report } => self.abort(transaction.number(), report),
             Event::Crash => *self = Follower::default(),
             Event::Recover { .. } => self.up = true,
-            Event::Write { .. } | Event::Read { .. } => {}
+            // One that prepares leaves its locks: what it changed is locked by page 0 alone.
+            Event::Prepare { transaction, .. } => self.abort(transaction.number(), false),
+            Event::Write { .. } | Event::Read { .. } | Event::Decide { .. } | Event::Query { .. } => {}
         }
         if answer.is_cut() {
             *self = Follower::default();

@@ -77,6 +77,12 @@ fn demand_3_alone_finds_wrong_programs() {
         Bug::AbortRestoresHome,
         Bug::WriteUnderReadLock,
         Bug::ReportKeepsVersions,
+        Bug::CrashFreesPrepared,
+        Bug::CommitBesidePrepared,
+        Bug::DecisionForAnother,
+        Bug::AbortDecisionWritesHome,
+        Bug::CommitDecisionLeavesPage,
+        Bug::RecoverEmptiesPrepared,
     ];
     for bug in wrong {
         let program = Program::Planted(bug);

@@ -24,7 +24,7 @@ fn after(list: &str, change: fn(&mut State)) -> (State, Work) {
 fn judged(state: &State, work: &Work, store: &Bytes) -> Result<(), Unsound> {
     let (mut lent, mut lent_store, mut lent_work) = (state.clone(), *store, work.clone());
     let mut answers = [0x99; 2];
-    let number = raw::portion(&mut lent, &mut lent_store, &[0x90, 0, 0, 0], lent_work.bytes_mut(), &mut answers);
+    let number = raw::portion(&mut lent, &mut lent_store, &[0xC0, 0, 0, 0], lent_work.bytes_mut(), &mut answers);
     let verdict = lent::judge(state, work, store).map(|_| ());
     assert_eq!(number, if verdict.is_ok() { 0 } else { 25 }, "{verdict:?}: {state:?}");
     // The one event is a bad one: it changes nothing but its answer.

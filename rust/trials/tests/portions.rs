@@ -138,6 +138,7 @@ fn a_history_can_begin_anywhere() {
         let lives_on = |told: &&Told| match told.end {
             End::Never => true,
             End::Committed { at: end, .. } | End::Aborted(end) | End::Crashed(end) => end >= at,
+            End::Prepared { at: end, .. } => end >= at,
         };
         let mut due: Vec<_> = whole.transactions.iter().filter(lives_on).map(fate).collect();
         let later = |told: &Told| (told.begun.map(|begun| begun + at), told.number, told.survives);

@@ -35,6 +35,12 @@ fn draw_box(svg: &mut Svg, told: &Told, scale: &Scale, bar: &Bar, y: f64) {
         End::Never => "still live at the end".to_string(),
         End::Committed { at, cut: false, .. } => format!("committed at event {}", at + 1),
         End::Committed { at, .. } => format!("its commit was cut at event {}", at + 1),
+        End::Prepared { at, cut: true, .. } => format!("its prepare was cut at event {}", at + 1),
+        End::Prepared { at, decision: None, .. } => format!("prepared at event {}", at + 1),
+        End::Prepared { at, decision: Some(decision), .. } => {
+            let verb = if decision.commit { "committed" } else { "aborted" };
+            format!("prepared at event {}, {verb} at event {}", at + 1, decision.at + 1)
+        }
         End::Aborted(at) => format!("aborted at event {}", at + 1),
         End::Crashed(at) => format!("crashed at event {}", at + 1),
     };
@@ -85,6 +91,7 @@ fn letters(event: Event) -> Option<(&'static str, String)> {
         Event::Read { record, .. } => ("event", format!("R{record}")),
         Event::Commit { .. } => ("end", "\u{2713}".to_string()),
         Event::Abort { report, .. } => ("end", format!("\u{2717}{}", if report { "\u{2191}" } else { "" })),
-        Event::Crash | Event::Recover { .. } => return None,
+        Event::Prepare { .. } => ("end", "P".to_string()),
+        Event::Crash | Event::Recover { .. } | Event::Decide { .. } | Event::Query { .. } => return None,
     })
 }

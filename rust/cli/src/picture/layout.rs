@@ -144,7 +144,8 @@ impl Builder<'_> {
     fn last(&self, transaction: usize) -> usize {
         match self.history.transactions[transaction].end {
             End::Never => self.events.saturating_sub(1),
-            End::Committed { at, .. } | End::Aborted(at) | End::Crashed(at) => at,
+            End::Prepared { decision: Some(decision), .. } => decision.at,
+            End::Committed { at, .. } | End::Prepared { at, .. } | End::Aborted(at) | End::Crashed(at) => at,
         }
     }
 }
