@@ -2,6 +2,7 @@
 
 pub mod case;
 pub mod check;
+pub mod ends;
 pub mod exhaustive;
 pub mod lent;
 pub mod listed;
