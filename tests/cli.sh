@@ -358,5 +358,7 @@ ok "fresh --force" "a fresh store" "$run" fresh store --force
 ok "and it is fresh" "5  home page 22 +00000000" "$run" show store
 no_leftovers .
 
+. "$root/tests/cli/two_phase.sh"
+
 printf 'command line: %d passed, %d failed\n' "$passed" "$failed"
 [ "$failed" = 0 ]

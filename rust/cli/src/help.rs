@@ -20,6 +20,8 @@ nekahuiro: a record store with nested transactions, proved
       --dry                                 leave store and state file as they are
   ./nekahuiro show STORE                  the commit page in words, each record and where it stands
   ./nekahuiro age STORE RECORD CLOCK LIMIT  how old a record is, in minutes: live, ahead or stale
+  ./nekahuiro depot STATE MESSAGE         the depot's next state and its reply, where two ends commit
+                                          together: idle, asked, committed, aborted; start, yes, no, give-up
   ./nekahuiro encode [EVENT]              words to event words and back; without EVENT each line of
                                           standard input; --raw writes bytes for `play`
   ./nekahuiro bench [--quick]             time against an ordinary program; --quick leaves out the
@@ -39,9 +41,13 @@ one to a line; # starts a comment. What has a byte 0 in it is taken as raw event
   abort TRANSACTION report                its parent retains its locks, since it told what it read
   crash
   recover COUNT                           a run starts down: recover comes first
+  prepare TRANSACTION COUNT IDENTITY      end it, its changes waiting for the decision on an identity
+  decide commit COUNT IDENTITY            the decision; for an identity that isn't prepared it does nothing
+  decide abort COUNT IDENTITY
+  query IDENTITY                          whether it is prepared: 1 or 0; identities are from 0 to 255
 
-Each event has an answer of two bytes, told in hex: a number (00 done, 01 to 0A and 0E refused, 0B cut by
-a crash), then a value. --trace tells it in words, and include/nekahuiro.h has all the numbers.
+Each event has an answer of two bytes, told in hex: a number (00 done, 01 to 0A, 0D, 0E and 1B refused, 0B
+cut by a crash), then a value. --trace tells it in words, and include/nekahuiro.h has all the numbers.
 
 Options may stand anywhere after the command. After -- nothing is an option; a file whose name begins
 with - can also be written ./-name.

@@ -4,6 +4,7 @@ mod age;
 mod arguments;
 mod bench;
 mod demo;
+mod depot;
 mod encode;
 mod failure;
 mod files;
@@ -54,6 +55,7 @@ fn command(words: &[String]) -> Outcome {
         "play" => play::command(rest),
         "show" => show::command(rest).map_err(Failure::of_reader),
         "age" => age::command(rest).map_err(Failure::of_reader),
+        "depot" => depot::command(rest).map_err(Failure::of_reader),
         "encode" => encode::command(rest).map_err(Failure::of_reader),
         "demo" => demo::command(rest).map_err(Failure::of_reader),
         "bench" => bench::command(rest).map_err(Failure::of_reader),

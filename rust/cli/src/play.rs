@@ -126,7 +126,7 @@ fn play(options: &Options) -> Outcome<Played> {
         None => Kept::default(),
     };
     let mut store = before.clone();
-    let (start, earlier) = (Follower::of(&kept.state), kept.earlier());
+    let (start, earlier) = (Follower::of(&kept.state, store.commit_page()), kept.earlier());
     let in_portions = options.portions.is_some() || options.state.is_some();
     let played = if in_portions {
         portions(&mut store, &mut kept, &words, options.portions.unwrap_or(EVENTS))
@@ -236,7 +236,9 @@ fn report(options: &Options, played: &Played) -> String {
     let (accepted, cut) = (count(|answer| answer.is_accepted()), count(|answer| answer.is_cut()));
     let transactions = history.transactions.len();
     let survive = history.transactions.iter().filter(|told| told.survives).count();
-    let open = (0..transactions).filter(|place| options.state.is_some() && history.is_open(*place)).count();
+    let open = (0..transactions)
+        .filter(|place| (options.state.is_some() && history.is_open(*place)) || history.is_waiting(*place))
+        .count();
     let verb = if survive == 1 { "survives" } else { "survive" };
     let _ = write!(
         text,

@@ -49,6 +49,10 @@ pub fn what_happened(event: Option<Event>, word: [u8; EVENT_BYTES], answer: Answ
     if let Some(why) = why_bad(word).filter(|_| answer.number == 1) {
         return format!("refused 1: {why}");
     }
+    if answer.is_cut() && matches!(event, Some(Event::Decide { .. })) {
+        let stored = if answer.value > 0 { "is stored" } else { "isn't stored" };
+        return format!("{answer}; the decision {stored}");
+    }
     if answer.number != 0 {
         return answer.to_string();
     }
@@ -57,6 +61,13 @@ pub fn what_happened(event: Option<Event>, word: [u8; EVENT_BYTES], answer: Answ
         Some(Event::Read { .. }) => format!("the byte is {:02X}", answer.value),
         Some(Event::Commit { .. }) => format!("done, {}", page_writes(answer.value)),
         Some(Event::Recover { .. }) => format!("the store is up, {}", page_writes(answer.value)),
+        Some(Event::Prepare { .. }) if answer.value == 0 => "committed, since it changed nothing".to_string(),
+        Some(Event::Prepare { .. }) => format!("prepared, {}", page_writes(answer.value)),
+        Some(Event::Decide { .. }) if answer.value == 0 => "nothing to do: it isn't prepared".to_string(),
+        Some(Event::Decide { commit: true, .. }) => format!("committed, {}", page_writes(answer.value)),
+        Some(Event::Decide { commit: false, .. }) => format!("aborted, {}", page_writes(answer.value)),
+        Some(Event::Query { .. }) if answer.value == 1 => "it is prepared".to_string(),
+        Some(Event::Query { .. }) => "it isn't prepared".to_string(),
         Some(Event::Abort { report: true, .. }) => "done, with a report".to_string(),
         Some(Event::Crash) => "the store is down".to_string(),
         _ => "done".to_string(),
@@ -81,6 +92,10 @@ pub fn endings(at: usize, history: &History) -> Vec<String> {
             "is lost: the commit page was not written"
         };
         lines.push(format!("the store is down; transaction {} {fate}", told.number));
+    }
+    let prepared = of(|end, at| matches!(end, End::Prepared { at: there, cut: true, .. } if there == at));
+    if !prepared.is_empty() {
+        lines.push(format!("the store is down; transaction {} is lost: it isn't prepared", prepared.join(", ")));
     }
     let crashed = of(|end, at| end == End::Crashed(at));
     if !crashed.is_empty() {

@@ -80,6 +80,11 @@ impl Depot {
         Depot { stage: Stage::Idle }
     }
 
+    /// The depot that is so far.
+    pub const fn at(stage: Stage) -> Depot {
+        Depot { stage }
+    }
+
     /// The depot in this byte, if there is one: 0 idle, 1 asked, 2 committed, 3 aborted.
     pub fn of(byte: u8) -> Option<Depot> {
         Stage::ALL.get(usize::from(byte)).map(|stage| Depot { stage: *stage })

@@ -20,6 +20,12 @@ pub fn draw(svg: &mut Svg, told: &Told, scale: &Scale, layout: &Layout, top: f64
             draw_event(svg, told, scale, at, rows[*owner] + ROW / 2.0);
         }
     }
+    for (told_of, row) in told.history.transactions.iter().zip(&rows) {
+        if let End::Prepared { decision: Some(decision), .. } = told_of.end {
+            let sign = if decision.commit { "\u{2713}" } else { "\u{2717}" };
+            draw_decision(svg, scale, decision.at, row + ROW / 2.0, sign);
+        }
+    }
     for bar in &layout.bars {
         draw_badge(svg, told, scale, bar, rows[bar.transaction] + ROW / 2.0);
     }
@@ -28,7 +34,8 @@ pub fn draw(svg: &mut Svg, told: &Told, scale: &Scale, layout: &Layout, top: f64
 fn draw_box(svg: &mut Svg, told: &Told, scale: &Scale, bar: &Bar, y: f64) {
     let transaction = &told.history.transactions[bar.transaction];
     let fate = told.fate(bar.transaction);
-    let open = if transaction.end == End::Never { " open" } else { "" };
+    let waits = told.history.is_waiting(bar.transaction) && transaction.parent.is_none();
+    let open = if transaction.end == End::Never || waits { " open" } else { "" };
     let x = scale.left(bar.first) + 1.0;
     let width = scale.left(bar.last) + scale.step - 1.0 - x;
     let ending = match transaction.end {
@@ -79,6 +86,15 @@ fn draw_event(svg: &mut Svg, told: &Told, scale: &Scale, at: usize, y: f64) {
         svg.text(x, y + 4.0, class, &letters);
     } else {
         svg.text(x, y + 4.0, "event no", &letters);
+    }
+}
+
+/// The decision on a prepared transaction, where its bar ends.
+fn draw_decision(svg: &mut Svg, scale: &Scale, at: usize, y: f64, sign: &str) {
+    if scale.has_room_for_text() {
+        svg.text(scale.middle(at), y + 4.0, "end", sign);
+    } else {
+        svg.rect(scale.left(at), y - 2.0, scale.step - 1.0, 9.0, "tick", "");
     }
 }
 

@@ -30,7 +30,7 @@ pub struct Told<'t> {
 impl Told<'_> {
     /// Whether it isn't decided yet if a transaction survives.
     pub fn is_open(&self, transaction: usize) -> bool {
-        self.kept && self.history.is_open(transaction)
+        (self.kept && self.history.is_open(transaction)) || self.history.is_waiting(transaction)
     }
 
     /// Whether a transaction survives, in a word.
@@ -134,24 +134,28 @@ fn legend(svg: &mut Svg, told: &Told, scale: &Scale, top: f64) {
     };
     entry(svg, "survives", "survives");
     entry(svg, "lost", "lost");
-    if told.kept {
+    if told.kept || (0..told.history.transactions.len()).any(|t| told.is_open(t)) {
         entry(svg, "undecided", "undecided");
     }
     entry(svg, "held", "lock held by");
     entry(svg, "held-to-read", "0r: to read");
     entry(svg, "retained", "lock retained by");
+    if told.events.iter().flatten().any(|event| matches!(event, Event::Prepare { .. })) || told.start.prepared.is_some()
+    {
+        entry(svg, "prepared", "p7: prepared, identity 7");
+    }
     entry(svg, "up", "store up");
     entry(svg, "down", "store down");
     let letters = [
         "L lock, W write, R read, each with its record; L3r: only to read",
         "struck through: refused",
-        "\u{2713} commit",
+        "P prepare, \u{2713} commit",
         "\u{2717} abort, \u{2717}\u{2191} with a report",
     ];
     let marks = ["black: an event of the transaction", "red: a refused one"];
     let crash =
         if scale.has_room_for_text() { "red line: crash; cut at 2: after 2 page writes" } else { "red line: crash" };
-    let lines = [crash, "a bar inside a bar is a child", "dashed: still live"];
+    let lines = [crash, "a bar inside a bar is a child", "dashed: still live or waiting"];
     let signs = if scale.has_room_for_text() { &letters[..] } else { &marks[..] };
     svg.text(16.0, top + 30.0, "legend", &signs.join(" \u{b7} "));
     svg.text(16.0, top + 46.0, "legend", &lines.join(" \u{b7} "));
