@@ -5,7 +5,7 @@ ok "a decision to a word" "^A0003F00$" "$run" encode decide abort 63 0
 ok "a word to a query" "^query 42$" "$run" encode B000002A
 ok "a decision that there isn't" "bad, answered 1: decide with offset 2" "$run" encode A0008007
 ok "a fresh store to prepare on" "1056 bytes" "$run" fresh prepared
-text 'recover 63\nbegin none\nlock 0 3\nwrite 0 3 2 A5\nprepare 0 63 7\nbegin none\nlock 0 3\n' prepare.txt
+text 'recover 63\nbegin none\nlock 0 3\nwrite 0 3 2 A5\nprepare 0 63 7\nbegin none\nlock 0 3\nabort 0\n' prepare.txt
 ok "a prepare" "prepare 0 63 7: prepared, 2 page writes" "$run" play prepared prepare.txt --trace
 holds "what is prepared is locked" grep -q "record 3 locked until the decision on identity 7" out
 holds "what is prepared is undecided" grep -q "2 transactions: 0 survive, 1 lost, 1 undecided" out
