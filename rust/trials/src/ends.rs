@@ -3,7 +3,7 @@
 
 use nekahuiro::limits::COUNT_LIMIT;
 use nekahuiro::{
-    vote, Answer, CommitPage, Depot, Event, Identity, Message, Order, Record, State, Store, Transaction, Work,
+    vote, Answer, CommitPage, Depot, Event, Identity, Message, Order, Record, Stage, State, Store, Transaction, Work,
 };
 use nekahuiro_lists::{stores, Rng};
 use std::collections::BTreeMap;
@@ -19,6 +19,25 @@ pub struct Premise {
 
 /// Both halves, as the rules ask.
 pub const FULL: Premise = Premise { quiet: true, unused: true };
+
+/// Something that an end does wrong, to show that it is found.
+#[derive(Clone, Copy, Debug, PartialEq, Eq)]
+pub enum Slip {
+    /// The depot aborts on a no although it has committed.
+    DepotChangesItsMind,
+    /// The depot gives up although it has committed.
+    DepotGivesUpLate,
+    /// The gateway aborts what is prepared when it comes up, without an order.
+    GatewayAbortsAlone,
+    /// The gateway takes an order for whatever is prepared.
+    GatewayMixesIdentities,
+}
+
+impl Slip {
+    /// All of them.
+    pub const ALL: [Slip; 4] =
+        [Slip::DepotChangesItsMind, Slip::DepotGivesUpLate, Slip::GatewayAbortsAlone, Slip::GatewayMixesIdentities];
+}
 
 /// What came of a simulation.
 #[derive(Clone, Copy, Debug, Default)]
@@ -67,6 +86,7 @@ struct World<'w> {
     rng: &'w mut Rng,
     weather: Weather,
     premise: Premise,
+    slip: Option<Slip>,
     tally: Tally,
     /// What happened, in words.
     log: Vec<String>,
@@ -91,7 +111,7 @@ struct World<'w> {
 const IDENTITIES: [u8; 3] = [7, 0, 255];
 
 /// Lets both ends work for a while: what came of it, or how they came to hold opposite decisions.
-pub fn simulate(rng: &mut Rng, premise: Premise, steps: usize) -> Result<Tally, String> {
+pub fn simulate(rng: &mut Rng, premise: Premise, slip: Option<Slip>, steps: usize) -> Result<Tally, String> {
     let start = match rng.below(4) {
         0 => stores::prepared(rng, 0x8000, 7),
         1 => stores::committed(rng, 0x9000),
@@ -104,6 +124,7 @@ pub fn simulate(rng: &mut Rng, premise: Premise, steps: usize) -> Result<Tally, 
         rng,
         weather,
         premise,
+        slip,
         tally: Tally::default(),
         log: Vec::new(),
         identities: &IDENTITIES[..identities],
@@ -141,7 +162,7 @@ impl World<'_> {
     /// The depot's board gives an identity, if the premise allows it.
     fn start(&mut self, identity: u8) -> Result<(), String> {
         let quiet = !self.network.iter().any(|(about, _)| *about == identity);
-        let unused = !matches!(self.store.commit_page(), CommitPage::Prepared(_, named) if named == Identity(identity));
+        let unused = self.waiting() != Some(Identity(identity));
         if (self.premise.quiet && !quiet) || (self.premise.unused && !unused) {
             return Ok(());
         }
@@ -151,7 +172,15 @@ impl World<'_> {
     /// A message comes to the depot; what it replies is sent.
     fn depot(&mut self, identity: u8, message: Message) -> Result<(), String> {
         let depot = self.depots.entry(identity).or_default();
-        let Ok(order) = depot.receive(message) else { return Ok(()) };
+        let reply = match (self.slip, depot.stage(), message) {
+            (Some(Slip::DepotChangesItsMind), Stage::Committed, Message::No)
+            | (Some(Slip::DepotGivesUpLate), Stage::Committed, Message::GiveUp) => {
+                *depot = Depot::at(Stage::Aborted);
+                Ok(Order::Abort)
+            }
+            _ => depot.receive(message),
+        };
+        let Ok(order) = reply else { return Ok(()) };
         self.log.push(format!("depot {identity}: {message}, now {}, replies {order}", depot.stage()));
         let round = self.rounds.entry(identity).or_default();
         match order {
@@ -195,7 +224,10 @@ impl World<'_> {
     /// The gateway follows an order: its board chooses the transaction and when the power goes.
     fn ordered(&mut self, identity: u8, order: Order) -> Result<(), String> {
         let (transaction, count) = (self.ready(), self.count(6));
-        let identity = Identity(identity);
+        let identity = match (self.slip, self.waiting()) {
+            (Some(Slip::GatewayMixesIdentities), Some(waiting)) => waiting,
+            _ => Identity(identity),
+        };
         self.gateway(match order {
             Order::Prepare => Event::Prepare { transaction, count, identity },
             Order::Commit => Event::Decide { commit: true, count, identity },
@@ -207,7 +239,13 @@ impl World<'_> {
     fn works(&mut self) -> Result<(), String> {
         if !self.state.is_up() {
             let count = self.count(4);
-            return self.gateway(Event::Recover { count });
+            self.gateway(Event::Recover { count })?;
+            return match (self.slip, self.waiting()) {
+                (Some(Slip::GatewayAbortsAlone), Some(identity)) => {
+                    self.gateway(Event::Decide { commit: false, count, identity })
+                }
+                _ => Ok(()),
+            };
         }
         let (transaction, count) = (self.someone(), self.count(8));
         let Some(record) = Record::new(self.rng.below(3) as u8) else { return Ok(()) };
@@ -272,6 +310,14 @@ impl World<'_> {
             self.tally.aborted += u64::from(!commit);
         }
         Ok(())
+    }
+
+    /// The identity that is prepared at the gateway.
+    fn waiting(&self) -> Option<Identity> {
+        match self.store.commit_page() {
+            CommitPage::Prepared(_, identity) => Some(identity),
+            _ => None,
+        }
     }
 
     fn someone(&mut self) -> Transaction {
