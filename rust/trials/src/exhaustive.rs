@@ -60,7 +60,7 @@ pub const BESIDE_PREFIX: &str = "recover 63, begin none, begin 0";
 pub const STRAY: &str =
     "00000000, C0000000, recover 63, begin none, begin 0, begin 24, 1F800001, lock 0 0, lock 31 0, \
     20004000, 20000002, 30000100, write 0 0 0 11, 40000001, commit 0 63, 50080000, 60000002, 70000001, 80800000, crash, \
-    90004000, A0008000, A0800000, B0000100";
+    90004000, A0008000";
 
 /// How the lists are chosen.
 #[derive(Clone, Copy, PartialEq, Eq)]

@@ -79,7 +79,7 @@ fn aborts_with_a_report() {
 fn prepares_and_decisions() {
     play("preparing, fresh", stores::fresh(), PREPARING, "recover 63", 5, Choice::Every);
     play("preparing, prepared", prepared(0x8001, 7), PREPARING, "", 4, Choice::Every);
-    play("preparing, accepted, fresh", stores::fresh(), PREPARING, "recover 63", 7, Choice::AcceptedButLast);
+    play("preparing, accepted, fresh", stores::fresh(), PREPARING, "recover 63", 6, Choice::AcceptedButLast);
     play("preparing, accepted, prepared", prepared(0x8001, 7), PREPARING, "recover 0", 5, Choice::AcceptedButLast);
     play("beside, prepared", prepared(0x8000, 255), BESIDE, BESIDE_PREFIX, 4, Choice::Every);
     play("beside, accepted", prepared(0x8000, 255), BESIDE, BESIDE_PREFIX, 6, Choice::AcceptedButLast);
