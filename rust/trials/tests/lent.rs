@@ -266,7 +266,7 @@ fn the_library_takes_exactly_what_the_judge_calls_sound_and_plays_on() {
     let sound = verdicts.get("Ok(())").copied().unwrap_or(0);
     println!("lent states: {structs} structs, {sound} sound, the others for {} reasons", verdicts.len() - 1);
     // Every clause was met, and a good part was sound.
-    assert!(structs < 2_000 || verdicts.len() >= 14, "{verdicts:?}");
+    assert!(structs < 4_000 || verdicts.len() >= 15, "{verdicts:?}");
     assert!(structs < 2_000 || sound * 5 > structs, "{verdicts:?}");
 }
 
