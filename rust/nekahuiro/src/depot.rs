@@ -6,7 +6,7 @@ use crate::{raw, Event};
 use std::fmt;
 
 /// How far the depot is with an identity.
-#[derive(Clone, Copy, Debug, PartialEq, Eq)]
+#[derive(Clone, Copy, Debug, PartialEq, Eq, Hash)]
 pub enum Stage {
     /// The identity was never given.
     Idle,
@@ -19,7 +19,7 @@ pub enum Stage {
 }
 
 /// What comes to the depot for an identity: from its own board, or as a vote from the gateway.
-#[derive(Clone, Copy, Debug, PartialEq, Eq)]
+#[derive(Clone, Copy, Debug, PartialEq, Eq, Hash)]
 pub enum Message {
     /// The board gives the identity. None of its messages may be under way any more, and no transaction
     /// may be prepared with it.
@@ -33,7 +33,7 @@ pub enum Message {
 }
 
 /// What the depot replies: an order to the gateway.
-#[derive(Clone, Copy, Debug, PartialEq, Eq)]
+#[derive(Clone, Copy, Debug, PartialEq, Eq, Hash)]
 pub enum Order {
     /// Prepare a transaction with the identity.
     Prepare,
@@ -69,7 +69,7 @@ impl Order {
 /// assert_eq!(depot.receive(Message::Yes), Ok(Order::Abort)); // too late: it keeps to its decision
 /// assert_eq!(depot.stage(), Stage::Aborted);
 /// ```
-#[derive(Clone, Copy, Debug, PartialEq, Eq)]
+#[derive(Clone, Copy, Debug, PartialEq, Eq, Hash)]
 pub struct Depot {
     stage: Stage,
 }

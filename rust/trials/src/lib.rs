@@ -3,6 +3,7 @@
 pub mod case;
 pub mod check;
 pub mod ends;
+pub mod every_order;
 pub mod exhaustive;
 pub mod lent;
 pub mod listed;

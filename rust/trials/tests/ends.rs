@@ -1,6 +1,7 @@
 //! Both ends never hold opposite decisions; and they do, at once, where half of the premise is dropped.
 
 use nekahuiro_trials::ends::{simulate, Premise, Slip, Tally, FULL};
+use nekahuiro_trials::every_order::search;
 use nekahuiro_trials::portions::{rng, share};
 use nekahuiro_trials::settings;
 use std::sync::Mutex;
@@ -47,5 +48,18 @@ fn an_end_that_slips_is_found() {
         let (tally, failure) = play(FULL, Some(slip), 300, 2_000);
         let text = failure.unwrap_or_else(|| panic!("{slip:?} was not found in {tally:?}"));
         println!("{slip:?} was found after {} rounds:\n{text}", tally.rounds);
+    }
+}
+
+#[test]
+fn in_every_order_of_two_rounds() {
+    let found = search(FULL).unwrap_or_else(|text| panic!("{text}"));
+    println!("two ends in every order: {found:?}");
+    assert!(found.committed > 0 && found.aborted > 0);
+    for premise in [Premise { quiet: false, ..FULL }, Premise { unused: false, ..FULL }] {
+        match search(premise) {
+            Ok(found) => panic!("{premise:?}: no opposite decisions in {found:?}"),
+            Err(text) => println!("{premise:?}: the shortest way to opposite decisions:\n{text}"),
+        }
     }
 }
