@@ -1,7 +1,7 @@
 //! Both ends never hold opposite decisions; and they do, at once, where half of the premise is dropped.
 
 use nekahuiro_trials::ends::{simulate, Premise, Slip, Tally, FULL};
-use nekahuiro_trials::every_order::search;
+use nekahuiro_trials::every_order::{search, Found};
 use nekahuiro_trials::portions::{rng, share};
 use nekahuiro_trials::settings;
 use std::sync::Mutex;
@@ -54,8 +54,9 @@ fn an_end_that_slips_is_found() {
 #[test]
 fn in_every_order_of_two_rounds() {
     let found = search(FULL).unwrap_or_else(|text| panic!("{text}"));
-    println!("two ends in every order: {found:?}");
-    assert!(found.committed > 0 && found.aborted > 0);
+    let Found { worlds, gateways, committed, aborted } = found;
+    println!("two ends in every order of two rounds: {worlds} worlds, {gateways} states of the gateway");
+    assert!(committed > 0 && aborted > 0, "{found:?}");
     for premise in [Premise { quiet: false, ..FULL }, Premise { unused: false, ..FULL }] {
         match search(premise) {
             Ok(found) => panic!("{premise:?}: no opposite decisions in {found:?}"),
