@@ -3,7 +3,8 @@
  * Link target/staticlib/libnekahuiro.a, which `rt staticlib nekahuiro` makes. The library is for
  * x86-64. It allocates nothing, keeps nothing between calls, and calls at most memcpy, memmove, memset
  * and memcmp of the C library. `nekahuiro_run` plays a whole list; `nekahuiro_portion` plays events as
- * they come, on a state that the caller keeps.
+ * they come, on a state that the caller keeps. `nekahuiro_depot` and `nekahuiro_vote` are for two ends
+ * that commit together.
  *
  * What a caller owes to every function here:
  *   - Each pointer points to as many bytes as the size after it says. No pointer is null, not even
@@ -56,12 +57,14 @@ extern "C" {
  *   page 1 + r    the intention page of record r
  *   page 17 + r   the home page of record r
  *
- * The commit page, bits most significant first: edition 4 bits, always 1; state 4 bits, 0 empty or
- * 5 committed; map 16 bits, record 0 first; count 5 bits, the ones in the map; 3 zero bits; 28 zero
- * bytes. Empty has map and count 0 (10 00 00 00 ..), committed has a map that isn't 0 (records 0 and
- * 3: 15 90 00 10 ..). Any other page 0 is damaged.
+ * The commit page, bits most significant first: edition 4 bits, always 1; state 4 bits, 0 empty,
+ * 3 prepared or 5 committed; map 16 bits, record 0 first; count 5 bits, the ones in the map; 3 zero
+ * bits; the identity in the fifth byte where the state is prepared, else a zero byte; 27 zero bytes.
+ * Empty has map and count 0 (10 00 00 00 00 ..), prepared and committed have a map that isn't 0
+ * (records 0 and 3: 13 90 00 10 2A .. with identity 2A, 15 90 00 10 00 ..). Any other page 0 is damaged.
  *
- * A record's settled value is its intention page where a committed map names it, else its home page.
+ * A record's settled value is its intention page where a committed map names it, else its home page:
+ * what is only prepared isn't settled.
  * A store can be put away after any call and handed in again at any time.
  */
 
@@ -78,10 +81,16 @@ extern "C" {
  *    6    abort           transaction, value: 0, or 1 with a report
  *    7    crash           none
  *    8    recover         count
+ *    9    prepare         transaction, count, value: the identity
+ *   10    decide          offset: 1 to commit, 0 to abort; count, value: the identity
+ *   11    query           value: the identity
  *
- * The count says when the power goes: a commit or recover makes that many page writes and is then cut
- * by a crash. A count of at least the writes due, such as 63, means no cut. A top transaction that
- * changed n records makes 2n + 2 page writes, or none if n is 0, and survives a cut after n + 1.
+ * This is edition 1, the edition that has kinds 9 to 11 and the state prepared.
+ *
+ * The count says when the power goes: a commit, recover, prepare or decide makes that many page writes
+ * and is then cut by a crash. A count of at least the writes due, such as 63, means no cut. A top
+ * transaction that changed n records makes 2n + 2 page writes, or none if n is 0, and survives a cut
+ * after n + 1.
  *
  * A lock in write mode lets its holder read and write, one in read mode only read, beside other
  * readers. Read mode is granted if no other holds in write mode and every write-mode retainer is the
@@ -94,6 +103,17 @@ extern "C" {
  * discarded. With a report, which may tell the parent what was read, the parent retains each lock that
  * the transaction itself held or retained, in the strongest of these modes and its own; the locks of its
  * descendants are discarded as before, and a top transaction has no parent and discards.
+ *
+ * A prepare ends a top transaction, whose changes then wait for the decision on its identity. Where it
+ * changed n records it makes n + 1 page writes: the intention pages, then the commit page as prepared. The
+ * changed records stay locked for everybody, also through crashes, until the decision; its other locks
+ * are released. One that changed nothing just commits, with no page write. A recover over a prepared page
+ * makes no page write and comes up.
+ *
+ * A decide with the identity that is prepared commits with n + 2 page writes (the commit page as
+ * committed, the home pages, the commit page as empty) or aborts with 1 (the commit page as empty); its
+ * decision is stored with the first of these. With any other identity it does nothing and is answered 0
+ * with value 0. A query is answered 0, with value 1 if its identity is prepared, else 0.
  */
 #define NEKAHUIRO_BEGIN 1
 #define NEKAHUIRO_LOCK 2
@@ -103,31 +123,39 @@ extern "C" {
 #define NEKAHUIRO_ABORT 6
 #define NEKAHUIRO_CRASH 7
 #define NEKAHUIRO_RECOVER 8
+#define NEKAHUIRO_PREPARE 9
+#define NEKAHUIRO_DECIDE 10
+#define NEKAHUIRO_QUERY 11
 #define NEKAHUIRO_NO_PARENT 31
 #define NEKAHUIRO_NO_CUT 63
 #define NEKAHUIRO_WRITE_MODE 0
 #define NEKAHUIRO_READ_MODE 1
 #define NEKAHUIRO_NO_REPORT 0
 #define NEKAHUIRO_WITH_REPORT 1
+#define NEKAHUIRO_DECIDE_ABORT 0
+#define NEKAHUIRO_DECIDE_COMMIT 1
 
 /* The answer to an event: a number, then a value. The value is the new transaction's number for
- * begin, the byte for read, the page writes made for commit and recover (also when cut), else 0.
- * A refused event (1 to 10, and 14) changes nothing but its answer. The first reason that holds is
- * given, in the order of the numbers, but 14 is tried after 5.
+ * begin, the byte for read, the page writes made for commit, recover, prepare and decide (also when
+ * cut), 1 for a query of what is prepared, else 0. A refused event (1 to 10, 13, 14 and 27) changes
+ * nothing but its answer. The first reason that holds is given, in the order of the numbers, but 14 is
+ * tried after 5.
  */
 #define NEKAHUIRO_DONE 0           /* done */
-#define NEKAHUIRO_BAD_EVENT 1      /* kind 0 or 9 to 15, an unused field isn't 0, or no such value */
+#define NEKAHUIRO_BAD_EVENT 1      /* kind 0 or 12 to 15, an unused field isn't 0, or no such value */
 #define NEKAHUIRO_DOWN 2           /* down, and the event is neither recover nor crash */
 #define NEKAHUIRO_UP 3             /* recover while up */
 #define NEKAHUIRO_DAMAGED 4        /* recover or age, and page 0 is damaged */
 #define NEKAHUIRO_NOT_LIVE 5       /* the named transaction isn't live */
 #define NEKAHUIRO_TOO_DEEP 6       /* begin under a parent at the depth limit */
 #define NEKAHUIRO_TOO_MANY 7       /* begin with every transaction number taken */
-#define NEKAHUIRO_NOT_GRANTABLE 8  /* the lock can't be granted in this mode, see above */
+#define NEKAHUIRO_NOT_GRANTABLE 8  /* the lock can't be granted in this mode, or what is prepared has it */
 #define NEKAHUIRO_NOT_HELD 9       /* read without holding the lock, or write without holding it to write */
-#define NEKAHUIRO_LIVE_CHILD 10    /* commit with a live child */
-#define NEKAHUIRO_CUT 11           /* no refusal: cut by a crash during commit or recover */
+#define NEKAHUIRO_LIVE_CHILD 10    /* commit or prepare with a live child */
+#define NEKAHUIRO_CUT 11           /* no refusal: cut by a crash in commit, recover, prepare or decide */
+#define NEKAHUIRO_ONE_PREPARED 13  /* prepare or top commit with a changed record, and one is prepared */
 #define NEKAHUIRO_CHILD_AT_WORK 14 /* lock, read or write by a transaction with a live child */
+#define NEKAHUIRO_NOT_TAKEN 27     /* prepare by a child; in nekahuiro_depot: no such turn */
 
 /* Refusals of a whole call: no buffer is touched. */
 #define NEKAHUIRO_BAD_LIST 20      /* events_size isn't a multiple of 4, or above 16384 */
@@ -167,8 +195,9 @@ uint8_t nekahuiro_run(uint8_t *store, size_t store_size,
  * retain or have versions; who holds or retains in write mode also does in any mode; of a retainer and
  * a write-mode retainer one is the other or its ancestor; each holder is each write-mode retainer or
  * beneath it; a write-mode holder is the only holder, and is each retainer or beneath it; who has a
- * version holds or retains in write mode. While down nothing is live; while up page 0 is empty.
- * Entries of free numbers and the spare bytes are 0.
+ * version holds or retains in write mode. While down nothing is live; while up page 0 is empty, or
+ * prepared and nobody holds or retains the lock of a record in its map. Entries of free numbers and the
+ * spare bytes are 0.
  */
 typedef struct nekahuiro_state {
     uint32_t line[NEKAHUIRO_TRANSACTIONS];    /* of each transaction: itself and its ancestors */
@@ -219,6 +248,48 @@ uint8_t nekahuiro_fresh(uint8_t *store, size_t store_size);
  * Else, tried in this order and with nothing written: 22, 23, 4. */
 uint8_t nekahuiro_age(const uint8_t *store, size_t store_size, uint8_t record,
                       uint32_t clock, uint32_t limit, int64_t *age);
+
+/* Two ends that commit together
+ *
+ * The depot asks the gateway, the end with the store, to prepare a transaction; decides once; and tells
+ * its decision as often as it is asked. Messages between them carry an identity of 8 bits and may be
+ * lost, repeated or late. The depot keeps one byte for each identity, which must outlast power cuts.
+ *
+ *                     start            yes                 no                  give-up
+ *   0 idle            asked, prepare   27                  27                  27
+ *   1 asked           27               committed, commit   aborted, abort      aborted, abort
+ *   2 committed       asked, prepare   committed, commit   committed, commit   27
+ *   3 aborted         asked, prepare   aborted, abort      aborted, abort      27
+ *
+ * Start and give-up come from the depot's own board, yes and no from the gateway; the reply is an order
+ * to the gateway. The gateway plays a prepare or decide only when such an order comes, and a query when
+ * it likes, and sends the vote that nekahuiro_vote gives. Both ends then never hold opposite decisions
+ * for one transaction, as long as no message with an identity is under way, and no transaction is
+ * prepared with it, whenever that identity is started.
+ */
+#define NEKAHUIRO_IDLE 0
+#define NEKAHUIRO_ASKED 1
+#define NEKAHUIRO_COMMITTED 2
+#define NEKAHUIRO_ABORTED 3
+
+#define NEKAHUIRO_START 0
+#define NEKAHUIRO_YES 1
+#define NEKAHUIRO_NO 2
+#define NEKAHUIRO_GIVE_UP 3
+
+#define NEKAHUIRO_ORDER_PREPARE 0
+#define NEKAHUIRO_ORDER_COMMIT 1
+#define NEKAHUIRO_ORDER_ABORT 2
+
+/* Takes one message to the depot: writes the next state and the reply and answers 0; or answers 27 with
+ * nothing written, also for a state or message that isn't one of the four. */
+uint8_t nekahuiro_depot(uint8_t *state, uint8_t message, uint8_t *reply);
+
+/* The gateway's vote after an event of this kind with this answer: NEKAHUIRO_YES if a prepare is answered
+ * 0, or a query is answered 0 with value 1; NEKAHUIRO_NO for any other answer to a prepare or a query;
+ * NEKAHUIRO_NO_VOTE for any other kind. */
+#define NEKAHUIRO_NO_VOTE 0
+uint8_t nekahuiro_vote(uint8_t kind, uint8_t number, uint8_t value);
 
 #ifdef __cplusplus
 }

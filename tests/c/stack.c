@@ -24,7 +24,8 @@ static void put(size_t at, uint32_t bits)
         events[at * NEKAHUIRO_EVENT_BYTES + i] = (uint8_t)(bits >> (24 - 8 * i));
 }
 
-/* Every kind of event with every path of commit and recover: nest, write all records, commit up, cut. */
+/* Every kind of event with every path of commit and recover: nest, write all records, commit up, cut; then
+ * prepare all records, crash, recover, query, and both decisions. */
 static size_t make_list(void)
 {
     size_t at = 0;
@@ -44,6 +45,18 @@ static size_t make_list(void)
     put(at++, 0x80003F00);
     put(at++, 0x1F800000);
     put(at++, 0x60000000);
+    for (uint32_t decision = 0; decision < 2; decision++) {
+        put(at++, 0x1F800000);
+        for (uint32_t r = 0; r < NEKAHUIRO_RECORDS; r++) {
+            put(at++, 0x20000000 | r << 19);
+            put(at++, 0x30000055 | r << 19);
+        }
+        put(at++, 0x90003F07);
+        put(at++, 0x70000000);
+        put(at++, 0x80003F00);
+        put(at++, 0xB0000007);
+        put(at++, 0xA0003F07 | decision << 14);
+    }
     put(at++, 0x70000000);
     return at;
 }
@@ -56,6 +69,7 @@ static void *nothing(void *unused)
 static void *calls(void *unused)
 {
     int64_t age = 0;
+    uint8_t depot = NEKAHUIRO_IDLE, reply = 0;
     size_t length = make_list();
 
     played = nekahuiro_fresh(store, sizeof store) == 0
@@ -63,7 +77,9 @@ static void *calls(void *unused)
                               sizeof answers) == 0
              && nekahuiro_portion(&state, store, sizeof store, events, length * NEKAHUIRO_EVENT_BYTES, work, sizeof work,
                                   answers, sizeof answers) == 0
-             && nekahuiro_age(store, sizeof store, 3, 5, 10, &age) <= NEKAHUIRO_STALE;
+             && nekahuiro_age(store, sizeof store, 3, 5, 10, &age) <= NEKAHUIRO_STALE
+             && nekahuiro_depot(&depot, NEKAHUIRO_START, &reply) == 0
+             && nekahuiro_vote(NEKAHUIRO_QUERY, 0, 1) == NEKAHUIRO_YES;
     return unused;
 }
 

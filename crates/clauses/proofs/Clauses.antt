@@ -1,23 +1,32 @@
 -- The tests of the code decide the clauses.
-use mathlib.Core.Path.{_≡_, refl, sym, ap, _∙_, fun-ext}
-use mathlib.Core.Bool.{Bool, true, not, _&&_, _||_, true≢false}
+use mathlib.Core.Path.{_≡_, refl, sym, ap, ap₂, subst, _∙_, fun-ext}
+use mathlib.Core.Bool.{Bool, true, false, not, _&&_, _||_, true≢false}
 use mathlib.Core.List.{List}
 use mathlib.Core.Option.{Option, none, some}
 use native.Mathlib.Omega.{arith}
-use Prim.Native.Nat.{ℕ, _+_, _<_}
+use Prim.Native.Nat.{ℕ, _+_, _*_, _<_}
 use lib.Dec.{ltb, leb}
 use lib.Bits.{bitOr}
 use lib.ListN.{getD}
 use Rattle.laws.specs.Tests.{same}
 use Rattle.laws.specs.Counting.{all}
 use Rattle.laws.specs.Bits.{bits}
-use Rattle.laws.proofs.Bits.{bits-or}
-use Rattle.rules.specs.Store.{pagesOf, readCommit, isEmptied, emptied}
-use Rattle.rules.specs.Editions.{geometry1, depths}
+use Rattle.laws.proofs.Tests.{same-refl, ne-false}
+use Rattle.laws.proofs.Booleans.{clash}
+use Rattle.laws.proofs.Bits.{bits-zero, bits-or}
+use Rattle.rules.specs.Store.{Page, pagesOf, named, readCommit, isEmptied, emptied, Prepared, readPrepared, identityIn, preparedMap}
+use Rattle.rules.specs.Step.{isBusy}
+use Rattle.rules.specs.Sound.{isCalm}
+use Rattle.rules.specs.Editions.{geometry1, edition1, depths}
+use Rattle.rules.proofs.Map.{named-zero}
+use Rattle.rules.proofs.PreparedPage.{prepared-is}
 use Rattle.sets.specs.Sets.{sets}
-use Rattle.commitpage.specs.Heard.{heard}
+use Rattle.arrays.specs.View.{anyMode}
+use Rattle.commitpage.specs.Heard.{heard, overheard}
+use Rattle.commitpage.specs.declared.CommitMap.{CommitMap}
+use Rattle.commitpage.specs.declared.PreparedMap.{PreparedMap}
 use Rattle.clauses.specs.Decides.{Decides}
-use Rattle.clauses.specs.Clauses.{Vacant, Seated, Entry, Within, Lock, Share, Phase}
+use Rattle.clauses.specs.Clauses.{Vacant, Seated, Entry, Within, Lock, Share, UnlockedOf, Unlocked, Phase}
 use Rattle.clauses.proofs.Decides.{decides-as, decides-by, decides-self, decides-and, decides-or, decides-if, decides-unless, decides-same, decides-less, decides-most, decides-within}
 use Rattle.clauses.proofs.Words.{decides-bits, no-bits}
 
@@ -131,19 +140,64 @@ free-share depth t e = record { yes = λ z h. absurd (omega arith); no = λ z f.
 pub live-share : {b : Bool} {P : Type 0} (depth : List ℕ) (t : ℕ) → 0 < getD depth t 0 → Decides b P → Decides b (0 < getD depth t 0 → P)
 live-share depth t h d = decides-as (λ p z. p) (λ f. f h) d
 
+-- what is read of a page as a map's, and as a prepared transaction's: whether it is empty, whether it is prepared and with which map
 empty-is : (o : Option ℕ) → (heard o .good && same (heard o .map) 0) ≡ isEmptied o
 unfolding heard isEmptied
 empty-is none = refl
 empty-is (some m) = refl
 
-pub phase-decided : (up : ℕ) (depth store : List ℕ) (idle good : Bool) (map : ℕ) → Decides idle ((t : ℕ) → t < 24 → getD depth t 0 ≡ 0)
-    → good ≡ heard (readCommit geometry1 (pagesOf store 0)) .good → map ≡ heard (readCommit geometry1 (pagesOf store 0)) .map
-    → Decides ((leb up 1 && (same up 1 || idle)) && (not (same up 1) || (good && same map 0))) (Phase up depth store)
-unfolding emptied
-phase-decided up depth store idle good map d g m =
+prepared-map-is : (q : Option Prepared) → overheard q .map ≡ preparedMap q
+unfolding overheard preparedMap
+prepared-map-is none = refl
+prepared-map-is (some p) = refl
+
+busy-is : (page : Page) → not (same (preparedMap (readPrepared geometry1 page)) 0) ≡ isBusy (identityIn (readPrepared geometry1 page))
+unfolding preparedMap identityIn isBusy
+busy-is page = go (readPrepared geometry1 page) refl
+  where
+    go : (q : Option Prepared) → readPrepared geometry1 page ≡ q → not (same (preparedMap q) 0) ≡ isBusy (identityIn q)
+    go none e = ap not (same-refl 0)
+    go (some p) e = ap not (ne-false (p .map) 0 (prepared-is geometry1 page p e .1 .some-record))
+
+-- no map, no record
+pub none-unlocked : (map : ℕ) (held retained : List ℕ) → map ≡ 0 → Decides true (Unlocked map held retained)
+none-unlocked map held retained e = record { yes = λ z r h n. clash n (ap (λ (m : ℕ). named geometry1 m r) e ∙ named-zero geometry1 r); no = λ z f. true≢false z }
+
+pub unlocked-decided : (map : ℕ) (held retained : List ℕ) (r : ℕ) {names : Bool} → names ≡ named geometry1 map r
+    → Decides (not names || same (bitOr (getD held (2 * r) 0) (getD retained (2 * r) 0)) 0) (UnlockedOf map held retained r)
+unfolding sets anyMode
+unlocked-decided map held retained r e =
+    rw e
+    (decides-if (named geometry1 map r)
+    (decides-as
+    (λ q u. sym (joined u) ∙ ap (λ (f : ℕ → Bool). f u) q ∙ bits-zero u)
+    (λ f. fun-ext (λ u. joined u ∙ f u ∙ sym (bits-zero u)))
+    (decides-bits (bitOr (getD held (2 * r) 0) (getD retained (2 * r) 0)) 0)))
+  where
+    joined : (u : ℕ) → bits (bitOr (getD held (2 * r) 0) (getD retained (2 * r) 0)) u ≡ (anyMode (sets held) r u || anyMode (sets retained) r u)
+    joined u = bits-or (getD held (2 * r) 0) (getD retained (2 * r) 0) u
+
+pub phase-decided : (up : ℕ) (depth held retained store : List ℕ) (c : CommitMap) (p : PreparedMap) {idle unlocked : Bool}
+    → c ≡ heard (readCommit geometry1 (pagesOf store 0)) → p ≡ overheard (readPrepared geometry1 (pagesOf store 0))
+    → Decides idle ((t : ℕ) → t < 24 → getD depth t 0 ≡ 0) → Decides unlocked (Unlocked (p .map) held retained)
+    → Decides
+    (((leb up 1 && (same up 1 || idle)) && (not (same up 1) || ((c .good && same (c .map) 0) || not (same (p .map) 0)))) && unlocked)
+    (Phase up depth held retained store)
+unfolding isCalm emptied
+phase-decided up depth held retained store c p e f i u =
     decides-as
-    (λ x. record { flag = x .0 .0; idle = x .0 .1; calm = x .1 })
-    (λ p. ((p .flag, p .idle), p .calm))
+    (λ x. record { flag = x .0 .0 .0; idle = x .0 .0 .1; calm = x .0 .1; reserved = subst (λ (m : ℕ). Unlocked m held retained) map-is (x .1) })
+    (λ q. (((q .flag, q .idle), q .calm), subst (λ (m : ℕ). Unlocked m held retained) (sym map-is) (q .reserved)))
     (decides-and
-    (decides-and (decides-most up 1) (decides-unless (same up 1) d))
-    (decides-if (same up 1) (decides-by (rw (g, m) (empty-is (readCommit geometry1 (pagesOf store 0)))) (decides-self (isEmptied (readCommit geometry1 (pagesOf store 0)))))))
+    (decides-and
+    (decides-and (decides-most up 1) (decides-unless (same up 1) i))
+    (decides-if (same up 1) (decides-by calm-is (decides-self (isCalm (edition1 .medium) (pagesOf store))))))
+    u)
+  where
+    map-is : p .map ≡ preparedMap (readPrepared geometry1 (pagesOf store 0))
+    map-is = ap (λ (q : PreparedMap). q .map) f ∙ prepared-map-is (readPrepared geometry1 (pagesOf store 0))
+
+    calm-is : ((c .good && same (c .map) 0) || not (same (p .map) 0)) ≡ (isEmptied (readCommit geometry1 (pagesOf store 0)) || isBusy (identityIn (readPrepared geometry1 (pagesOf store 0))))
+    calm-is = ap₂ _||_
+        (ap (λ (m : CommitMap). m .good && same (m .map) 0) e ∙ empty-is (readCommit geometry1 (pagesOf store 0)))
+        (ap (λ (m : ℕ). not (same m 0)) map-is ∙ busy-is (pagesOf store 0))

@@ -1,5 +1,5 @@
--- The clauses of soundness, said of the arrays themselves: of one transaction number, of one lock, of one transaction and one lock, of the flag
--- and the commit page.
+-- The clauses of soundness, said of the arrays themselves: of one transaction number, of one lock, of one transaction and one lock, of the flag,
+-- the locks and the commit page.
 use mathlib.Core.Path.{_≡_}
 use mathlib.Core.Bool.{Bool, true, false, _||_}
 use mathlib.Core.List.{List}
@@ -8,8 +8,9 @@ use Prim.Native.Nat.{ℕ, suc, _<_, _≤_}
 use lib.ListN.{getD}
 use Rattle.laws.specs.Tests.{same}
 use Rattle.rules.specs.Geometry.{transactions, nobody}
-use Rattle.rules.specs.Store.{pagesOf, emptied}
-use Rattle.rules.specs.Editions.{geometry1}
+use Rattle.rules.specs.Store.{pagesOf, named, readPrepared, preparedMap}
+use Rattle.rules.specs.Sound.{isCalm}
+use Rattle.rules.specs.Editions.{geometry1, edition1}
 use Rattle.sets.specs.Sets.{sets}
 use Rattle.arrays.specs.View.{anyMode, writeMode}
 
@@ -80,8 +81,18 @@ SharesOf line held retained t = (r : ℕ) → r < 16 → ShareOf line held retai
 abbrev pub Shares : List ℕ → List ℕ → List ℕ → List ℕ → Type 0
 Shares depth line held retained = (t : ℕ) → t < transactions → 0 < getD depth t 0 → SharesOf line held retained t
 
--- up is 0 or 1; nothing is live while down; the commit page is empty while up
-pub record Phase (up : ℕ) (depth store : List ℕ) : Type 0 where
+-- nobody has the lock of record r, if a map names it
+abbrev pub UnlockedOf : ℕ → List ℕ → List ℕ → ℕ → Type 0
+UnlockedOf map held retained r = named geometry1 map r ≡ true → (u : ℕ) → (anyMode (sets held) r u || anyMode (sets retained) r u) ≡ false
+
+-- nobody has a lock of the records that a map names
+abbrev pub Unlocked : ℕ → List ℕ → List ℕ → Type 0
+Unlocked map held retained = (r : ℕ) → r < 16 → UnlockedOf map held retained r
+
+-- up is 0 or 1; nothing is live while down; the commit page is empty or prepared while up; nobody has a lock of a record that the prepared
+-- transaction changed
+pub record Phase (up : ℕ) (depth held retained store : List ℕ) : Type 0 where
   pub flag : up ≤ 1
   pub idle : same up 1 ≡ false → (t : ℕ) → t < transactions → getD depth t 0 ≡ 0
-  pub calm : same up 1 ≡ true → emptied geometry1 (pagesOf store) ≡ true
+  pub calm : same up 1 ≡ true → isCalm (edition1 .medium) (pagesOf store) ≡ true
+  pub reserved : Unlocked (preparedMap (readPrepared geometry1 (pagesOf store 0))) held retained

@@ -1,4 +1,4 @@
--- For callers: the map of a test names the versions of the records that it picks, and a commit page that is read as good says its map.
+-- For callers: the map of a test names the versions of the records that it picks.
 use mathlib.Core.Path.{_≡_, refl, sym, ap, ap₂, _∙_, fun-ext}
 use mathlib.Core.Bool.{Bool, true, false, cond, _&&_, true≢false}
 use mathlib.Core.List.{List}
@@ -10,7 +10,6 @@ use Rattle.rules.specs.Geometry.{records}
 use Rattle.rules.specs.Store.{mapOf, named}
 use Rattle.rules.specs.Editions.{geometry1}
 use Rattle.rules.proofs.Map.{named-mapOf}
-use Rattle.commitpage.specs.Heard.{heard}
 use Rattle.commit.specs.Phase.{topSlot, versionsIn}
 
 module _ (p : ℕ → Bool) (work : List ℕ) (ranged : (r : ℕ) → p r ≡ true → r < 16) where
@@ -26,8 +25,3 @@ module _ (p : ℕ → Bool) (work : List ℕ) (ranged : (r : ℕ) → p r ≡ tr
   pub versions-of : versionsIn (mapOf geometry1 p) work ≡ (λ r. cond (p r) (some (topSlot work r)) none)
   unfolding versionsIn
   versions-of = fun-ext (λ r. ap (λ (b : Bool). cond b (some (topSlot work r)) none) (picked r))
-
-pub heard-good : (o : Option ℕ) → heard o .good ≡ true → o ≡ some (heard o .map)
-unfolding heard
-heard-good none e = absurd (true≢false (sym e))
-heard-good (some map) e = refl

@@ -3,3 +3,4 @@ pub mod Phases
 pub mod Sweeps
 pub mod Plans
 pub mod Arguments
+pub mod Prepares

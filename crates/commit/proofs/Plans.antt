@@ -26,7 +26,7 @@ use Rattle.commit.proofs.Phases.{phase-then, phase-last}
 use Rattle.commit.proofs.Sweeps.{sweep-same}
 
 -- nothing to write
-none-left : (k : ℕ) (s : Pages) {ws : List PageWrite} → ws ≡ [] → Leaves (cutAt k ws s) s 0 false
+pub none-left : (k : ℕ) (s : Pages) {ws : List PageWrite} → ws ≡ [] → Leaves (cutAt k ws s) s 0 false
 unfolding cutAt applied
 none-left k s {ws} e =
     let u : under k (length ws) ≡ false = ap (λ (l : List PageWrite). under k (length l)) e ∙ not-lt-under k 0 (omega arith) in
@@ -43,13 +43,13 @@ unfolding commitWrites
 commit-some g new m [] h = absurd (h refl)
 commit-some g new m (r ∷ rs) h = sym (append-assoc (intentions g new (r ∷ rs)) (marks g m ∷ homes g new (r ∷ rs)) (marks g 0 ∷ []))
 
-recover-some : (g : Geometry) (new : ℕ → Page) (rs : List ℕ) → rs ≢ [] → recoverWrites g new rs ≡ homes g new rs ++ (marks g 0 ∷ [])
+pub recover-some : (g : Geometry) (new : ℕ → Page) (rs : List ℕ) → rs ≢ [] → recoverWrites g new rs ≡ homes g new rs ++ (marks g 0 ∷ [])
 unfolding recoverWrites
 recover-some g new [] h = absurd (h refl)
 recover-some g new (r ∷ rs) h = refl
 
 -- a map that isn't 0 names some record
-some-named : (map : ℕ) → map < 2 ^ 16 → map ≢ 0 → those 16 (named geometry1 map) ≢ []
+pub some-named : (map : ℕ) → map < 2 ^ 16 → map ≢ 0 → those 16 (named geometry1 map) ≢ []
 unfolding records mem
 some-named map small h e = h (names-none geometry1 map small (λ r lt. go r lt (is? (named geometry1 map r))))
   where
@@ -76,15 +76,15 @@ module _ (map : ℕ) (work : List ℕ) where
   changed-is : (r : ℕ) → r < 16 → isSome (versionsIn map work r) ≡ named geometry1 map r
   changed-is r lt = is-some map work r lt (named geometry1 map r) refl
 
-  those-is : those (records geometry1) (λ r. isSome (versionsIn map work r)) ≡ those 16 (named geometry1 map)
+  pub those-is : those (records geometry1) (λ r. isSome (versionsIn map work r)) ≡ those 16 (named geometry1 map)
   unfolding records
   those-is = those-same 16 changed-is
 
-  map-is : map < 2 ^ 16 → mapOf geometry1 (λ r. isSome (versionsIn map work r)) ≡ map
+  pub map-is : map < 2 ^ 16 → mapOf geometry1 (λ r. isSome (versionsIn map work r)) ≡ map
   unfolding records
   map-is small = mapOf-same geometry1 (λ r. isSome (versionsIn map work r)) (named geometry1 map) changed-is ∙ mapOf-named geometry1 map small
 
-  intentions-are : intentions geometry1 (pageIn (versionsIn map work)) (those 16 (named geometry1 map)) ≡ sweep (named geometry1 map) (copies 1 (topSlot work)) 16
+  pub intentions-are : intentions geometry1 (pageIn (versionsIn map work)) (those 16 (named geometry1 map)) ≡ sweep (named geometry1 map) (copies 1 (topSlot work)) 16
   unfolding intentions sweep intention copies
   intentions-are = sweep-same 16 (named geometry1 map) _ _ (λ r lt e. ap (sets (1 + r)) (page-is map work r lt e))
 
@@ -117,11 +117,11 @@ module _ (map : ℕ) (work : List ℕ) where
   commit-leaves {s = s} {s₄ = s₄} {k = k} {c = c} {d = d} small h p q r t =
       subst⁻¹ (λ (ws : List PageWrite). Leaves (cutAt k ws s) s₄ (k - d) (same c 0)) (plan-is small h) (phase-last (phase-then p (phase-then q r)) t)
 
--- a recovery over a commit page that says this map
-module _ (map k : ℕ) (s : Pages) (says : readCommit geometry1 (s 0) ≡ some map) where
+-- a recovery over a commit page whose map in force is this
+module _ (map k : ℕ) (s : Pages) (says : mapIn (readCommit geometry1 (s 0)) ≡ map) where
   named-is : (r : ℕ) → r < 16 → isNamed geometry1 s r ≡ named geometry1 map r
-  unfolding isNamed mapIn records
-  named-is r lt = ap₂ (λ (b : Bool) (o : Option ℕ). b && named geometry1 (mapIn o) r) (lt-under r 16 lt) says
+  unfolding isNamed records
+  named-is r lt = ap₂ (λ (b : Bool) (m : ℕ). b && named geometry1 m r) (lt-under r 16 lt) says
 
   names-are : those (records geometry1) (isNamed geometry1 s) ≡ those 16 (named geometry1 map)
   unfolding records

@@ -1,14 +1,30 @@
--- What reading a commit page answers: for a damaged page not good and map 0, else good and the page's map.
-use mathlib.Core.Bool.{true, false}
+-- What reading a commit page answers: for a page without a map not good and map 0, else good and the page's map; of a prepared transaction its map and
+-- its identity.
+use mathlib.Core.Bool.{true, false, not, _&&_}
 use mathlib.Core.Option.{Option, none, some}
 use Prim.Native.Nat.{ℕ}
+use Rattle.rules.specs.Store.{Page, Prepared, readCommit, mapIn, readPrepared, isDamaged, isPrepared}
+use Rattle.rules.specs.Editions.{geometry1}
 use Rattle.commitpage.specs.declared.CommitMap.{CommitMap}
+use Rattle.commitpage.specs.declared.PreparedMap.{PreparedMap}
 
 unfoldable pub heard : Option ℕ → CommitMap
 heard none = record { good = false; map = 0 }
 heard (some map) = record { good = true; map = map }
 
+abbrev pub prepared : ℕ → ℕ → Prepared
+prepared map identity = record { map = map; identity = identity }
+
+-- and of a prepared transaction: map 0 where there is none
+unfoldable pub overheard : Option Prepared → PreparedMap
+overheard none = record { map = 0; identity = 0 }
+overheard (some p) = record { map = p .map; identity = p .identity }
+
+-- of a commit page of any kind: whether it is damaged, and the map in force
+unfoldable pub understood : Page → CommitMap
+understood page = record { good = not (isDamaged (readCommit geometry1 page) && not (isPrepared (readPrepared geometry1 page))); map = mapIn (readCommit geometry1 page) }
+
 -- opens the definitions of this module: for what is proved by computing
 unfoldable pub open-heard : Unit {0}
-unfolding heard
+unfolding heard overheard understood
 open-heard = tt

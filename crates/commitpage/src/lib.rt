@@ -1,4 +1,5 @@
-// The commit page: edition 4 bits, state 4 bits, map 16 bits with record 0 first, count 5 bits, zeros.
+// The commit page: edition 4 bits, state 4 bits, map 16 bits with record 0 first, count 5 bits, zeros; of a prepared transaction with its identity
+// as fifth byte.
 ghost use mathlib.Core.Path.{_≡_};
 ghost use mathlib.Core.Bool.{cond};
 ghost use Prim.Native.Nat.{_+_, _*_, _/_, _%_, _<_, _≤_};
@@ -7,10 +8,10 @@ ghost use Rattle.laws.specs.Tests.{same};
 ghost use Rattle.laws.specs.Counting.{count};
 ghost use Rattle.laws.specs.Bytes.{sameList};
 ghost use Rattle.rules.specs.Geometry.{records};
-ghost use Rattle.rules.specs.Store.{commitPage, readCommit, named, mapOf};
+ghost use Rattle.rules.specs.Store.{commitPage, readCommit, preparedPage, readPrepared, named, mapOf};
 ghost use Rattle.rules.specs.Editions.{geometry1};
 ghost use Rattle.sets.specs.Sets.{sets};
-ghost use Rattle.commitpage.specs.Heard.{heard};
+ghost use Rattle.commitpage.specs.Heard.{heard, overheard, prepared, understood};
 
 // What a page says as a commit page. A damaged page has map 0.
 pub struct CommitMap {
@@ -18,9 +19,17 @@ pub struct CommitMap {
     pub map: u16,
 }
 
+// What a page says of a prepared transaction: its map, which is 0 where there is none, and its identity.
+pub struct PreparedMap {
+    pub map: u16,
+    pub identity: u8,
+}
+
 const EDITION: u8 = 16;
 
 const COMMITTED: u8 = 21;
+
+const PREPARED: u8 = 19;
 
 // How many records a map names.
 pub fn ones(map: u16) -> u8
@@ -76,6 +85,64 @@ pub fn read_commit(page: [u8; 32]) -> CommitMap
     }
 }
 
+// The commit page of a transaction that is prepared.
+pub fn prepared_page(map: u16, identity: u8) -> [u8; 32]
+    ensures { λ r. ⌜ r ≡ preparedPage geometry1 (prepared map identity) ⌝ }
+{
+    let mut held = [0u8; 32];
+    held[0] = PREPARED;
+    held[1] = (map / 256) as u8;
+    held[2] = (map % 256) as u8;
+    held[3] = ones(map) * 8;
+    held[4] = identity;
+    held
+}
+
+// What a page says of a prepared transaction.
+pub fn read_prepared(page: [u8; 32]) -> PreparedMap
+    ensures { λ r. ⌜ r ≡ overheard (readPrepared geometry1 page) ⌝ }
+{
+    let map = wide(page[1]) * 256 + wide(page[2]);
+    let identity = byte(page[4]);
+    if same_page(page, prepared_page(map, identity)) {
+        kept(map, identity)
+    } else {
+        PreparedMap {
+            map: 0,
+            identity: 0,
+        }
+    }
+}
+
+// A map of 0 is none's.
+fn kept(map: u16, identity: u8) -> PreparedMap
+    ensures { λ r. ⌜ r ≡ cond (same map 0) (record { map = 0; identity = 0 }) (record { map = map; identity = identity }) ⌝ }
+{
+    if map == 0 {
+        PreparedMap {
+            map: 0,
+            identity: 0,
+        }
+    } else {
+        PreparedMap { map, identity }
+    }
+}
+
+// What a page says as a commit page of any kind: whether it is damaged, and the map in force, which is 0 for a prepared page.
+pub fn read_page(page: [u8; 32]) -> CommitMap
+    ensures { λ r. ⌜ r ≡ understood page ⌝ }
+{
+    let c = read_commit(page);
+    let p = read_prepared(page);
+    let good = c.good;
+    let map = c.map;
+    let some = p.map != 0;
+    CommitMap {
+        good: good | some,
+        map,
+    }
+}
+
 // The map with a further record at its end.
 fn appended(map: u16, yes: bool) -> u16
     requires { ⌜ map < 32768 ⌝ }
@@ -99,6 +166,12 @@ fn same_page(a: [u8; 32], b: [u8; 32]) -> bool
         equal = equal & (a[i] == b[i]);
     }
     equal
+}
+
+fn byte(x: u8) -> u8
+    ensures { λ r. ⌜ (r ≡ x) × (r < 256) ⌝ }
+{
+    x
 }
 
 fn wide(x: u8) -> u16

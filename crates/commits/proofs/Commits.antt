@@ -1,6 +1,7 @@
--- Commits, in the rules: refused with a live child, of a top transaction over its page writes, of a child into its parent.
+-- Commits and prepares, in the rules: refused with a live child or beside what is prepared, of a top transaction over its page writes, a commit of a
+-- child into its parent.
 use mathlib.Core.Path.{_≡_, refl, sym, ap, ap₂, subst, subst⁻¹, _∙_, fun-ext}
-use mathlib.Core.Bool.{Bool, true, false, not, cond, _&&_, or-false, or-true}
+use mathlib.Core.Bool.{Bool, true, false, not, cond, _&&_, and-false, or-false, or-true}
 use mathlib.Core.List.{List}
 use mathlib.Core.Logic.{_≢_}
 use mathlib.Core.Option.{Option, none, some}
@@ -9,15 +10,15 @@ use native.Mathlib.Omega.{arith}
 use lib.ListN.{length, getD}
 use Rattle.laws.specs.Tests.{same, under}
 use Rattle.laws.specs.Bits.{bits}
-use Rattle.laws.proofs.Tests.{same?, Same, is, isnt, ne-false, Is, is?, yes′, no′, under-lt, not-under}
-use Rattle.laws.proofs.Booleans.{clash, or-cases}
+use Rattle.laws.proofs.Tests.{same?, Same, is, isnt, same-refl, same-eq, ne-false, Is, is?, yes′, no′, under-lt, not-under}
+use Rattle.laws.proofs.Booleans.{clash, or-cases, both, not-true, not-false}
 use Rattle.rules.specs.Geometry.{records}
 use Rattle.rules.specs.Store.{Page, Pages, pagesOf, mapOf, named}
-use Rattle.rules.specs.Event.{commit}
+use Rattle.rules.specs.Event.{Event, commit, prepare}
 use Rattle.rules.specs.State.{Bearers, chain, lineOf, mem, live, down}
 use Rattle.rules.specs.Versions.{also, handedUp, dropped}
-use Rattle.rules.specs.Commit.{Cut, commitAt}
-use Rattle.rules.specs.Step.{done, refused, cut, hasChild, ended, passed, retaining, concluded, numberOf, valueOf, commitsTop, commitsChild, commits, step}
+use Rattle.rules.specs.Commit.{Cut, commitAt, prepareAt}
+use Rattle.rules.specs.Step.{done, refused, cut, hasChild, ended, passed, retaining, concluded, numberOf, valueOf, changes, busy, commitsTop, commitsChild, commits, step}
 use Rattle.rules.specs.Sound.{inLine}
 use Rattle.rules.specs.Editions.{geometry1, edition1, depths, workBytes}
 use Rattle.rules.proofs.Locks.{rooted-of, no-child, versions-in-line, line-apart}
@@ -33,17 +34,48 @@ use Rattle.arrays.proofs.Modes.{leaving-discarded, inheriting-inherited}
 use Rattle.slots.specs.Parts.{lifted}
 use Rattle.slots.proofs.Lifting.{hit, miss-depth, miss-row}
 use Rattle.commit.specs.Phase.{Leaves, topSlot, versionsIn}
-use Rattle.events.specs.Whole.{Arrays, arrays, view, lineIn, Intact, saying, Stepped, Ready}
-use Rattle.events.proofs.Rules.{commit-done, commit-refused}
+use Rattle.events.specs.Whole.{Arrays, arrays, view, lineIn, Intact, saying, Stepped, Ready, Reserves}
+use Rattle.events.proofs.Rules.{commit-done, commit-busy, commit-refused, prepare-children, prepare-busy, prepare-beneath, prepare-done}
 use Rattle.events.proofs.Steps.{answer, stepped, finishes, unmoved, state-eq, up-is, live-is, wrote-is, depth-of, shallow, writer-deep}
 use Rattle.events.proofs.Ends.{bearers-cleared, lines-cleared, tidy-cleared, nested-cleared, rest-is, rest-form}
+use Rattle.rules.proofs.Held.{isPlain}
+use Rattle.events.specs.declared.Answer.{Answer}
+use Rattle.events.proofs.Reserves.{busy-is, changes-are, top-is, reserves-kept}
+use Rattle.commits.specs.Settling.{settling, settlingAt}
 use Rattle.events.proofs.Parents.{parent-there, parent-deep, parent-other, line-up}
 use Rattle.crashes.proofs.Falls.{zeros, zeros-down, zeros-formed, Fallen, fallen}
 
-pub commit-refuses : (x : Arrays) → Intact x → (t k : ℕ) → Ready x t → hasChild (view x) t ≡ true → Stepped x (some (commit t k)) (answer 10 0) x
+prepare-refuses : (x : Arrays) → Intact x → (t k i : ℕ) → Ready x t → hasChild (view x) t ≡ true → Stepped x (some (prepare t k i)) (answer 10 0) x
+prepare-refuses x I t k i R h = unmoved x (some (prepare t k i)) 10 (I .form) (prepare-children edition1 (view x) t (up-is x (R .up)) (live-is x t (R .live)) k i h)
+
+commit-refuses : (x : Arrays) → Intact x → (t k : ℕ) → Ready x t → hasChild (view x) t ≡ true → Stepped x (some (commit t k)) (answer 10 0) x
 commit-refuses x I t k R h = unmoved x (some (commit t k)) 10 (I .form) (commit-refused edition1 (view x) t (up-is x (R .up)) (live-is x t (R .live)) k h)
 
-module _ (x : Arrays) (I : Intact x) (t k : ℕ) (R : Ready x t) (childless : hasChild (view x) t ≡ false) where
+pub settling-refuses : (x : Arrays) → Intact x → (b : Bool) (t k i : ℕ) → Ready x t → hasChild (view x) t ≡ true → Stepped x (some (settling b t k i)) (answer 10 0) x
+unfolding settling
+settling-refuses x I false t k i R h = commit-refuses x I t k R h
+settling-refuses x I true t k i R h = prepare-refuses x I t k i R h
+
+commit-plain : (t k : ℕ) (f : Event) → some (commit t k) ≡ some f → isPlain f ≡ true
+unfolding isPlain
+commit-plain t k f q = let z : commit t k ≡ f = cc in rw (← z)
+
+-- a child's commit, by the code's test
+pub child-settling : (x y : Arrays) (a : Answer) (b : Bool) (t k i : ℕ) → b ≡ false → Stepped x (some (commit t k)) a y → Stepped x (some (settling b t k i)) a y
+unfolding settling
+child-settling x y a b t k i e T = subst⁻¹ (λ (b : Bool). Stepped x (some (settling b t k i)) a y) e T
+
+pub commits-only : (b : Bool) (d : ℕ) → (not b && not (same d 1)) ≡ true → (b ≡ false) × (d ≢ 1)
+commits-only b d e = let h = both (not b) (not (same d 1)) e in (not-true b (h .0), λ q. clash (h .1) (rw (q, same-refl 1)))
+
+pub else-top : (b : Bool) (d : ℕ) → (not b && not (same d 1)) ≡ false → b ≡ false → d ≡ 1
+else-top b d e q = same-eq d 1 (not-false (same d 1) (rw q at e))
+
+-- the same page writes
+pub settled-pages : (b c : Bool) (s t : Pages) (v : ℕ → Option Page) (i k m : ℕ) (d : Bool) → c ≡ b → Leaves (settlingAt b s v i k) t m d → Leaves (settlingAt c s v i k) t m d
+settled-pages b c s t v i k m d e L = subst⁻¹ (λ (b : Bool). Leaves (settlingAt b s v i k) t m d) e L
+
+module _ (x : Arrays) (I : Intact x) (t : ℕ) (R : Ready x t) (childless : hasChild (view x) t ≡ false) where
   abbrev b : Bearers
   b = bearersOf (x .parent) (x .depth)
 
@@ -57,63 +89,112 @@ module _ (x : Arrays) (I : Intact x) (t k : ℕ) (R : Ready x t) (childless : ha
   unfolding view
   closed = alone-closed (I .sound) t (record { up = up-is x (R .up); alive = live-is x t (R .live); childless = childless })
 
-  commits-is : step edition1 (view x) (some (commit t k)) ≡ commits edition1 (view x) t k (lineOf (view x .bearer) t)
-  commits-is = commit-done edition1 (view x) t (up-is x (R .up)) (live-is x t (R .live)) k childless
-
-  -- a top transaction, over what its page writes left
-  module _ (top : d t ≡ 1) (m : ℕ) (mapped : m ≡ mapOf geometry1 (λ r. sets (x .writers) r t)) (store : List ℕ) (made : ℕ) (crashed : Bool) (size : length store ≡ 1056)
-      (L : Leaves (commitAt geometry1 (pagesOf (x .store)) (versionsIn m (x .work)) k) (pagesOf store) made crashed) where
-    abbrev C : Cut Pages
-    C = commitAt geometry1 (pagesOf (x .store)) (versionsIn m (x .work)) k
-
-    version-at : (r : ℕ) → Is (under r 16) → cond (sets (x .writers) r t) (some (pagesOf (x .work) (slot r (d t)))) none ≡ versionsIn m (x .work) r
-    unfolding versionsIn topSlot slot records
-    version-at r (yes′ e) =
-        let s : r * depths + (d t - 1) ≡ r * depths = omega arith in
-        rw e (ap₂ (λ (c : Bool) (n : ℕ). cond c (some (pagesOf (x .work) n)) none)
-        (sym (ap (λ (m : ℕ). named geometry1 m r) mapped ∙ named-mapOf geometry1 (λ r. sets (x .writers) r t) r (under-lt r 16 e))) s)
-    version-at r (no′ e) =
-        rw e (ap (λ (c : Bool). cond c (some (pagesOf (x .work) (slot r (d t)))) none)
-        (sets-past (x .writers) r t (let h = not-under r 16 e in let k = I .form .writerss in omega arith)))
-
-    versions : view x .version t ≡ versionsIn m (x .work)
-    unfolding view versionsOf
-    versions = fun-ext (λ r. version-at r (is? (under r 16)))
-
-    outcome : (c : Bool) → crashed ≡ c → step edition1 (view x) (some (commit t k)) ≡ concluded (ended (view x) alone (pagesOf store)) C c
-    unfolding view lineOf chain commits commitsTop
-    outcome c e =
-        commits-is
-        ∙ ap (λ (n : ℕ). commits edition1 (view x) t k (chain b n t)) (depth-is (x .parent) (x .depth) t ∙ top)
-        ∙ ap (λ (v : ℕ → Option Page). let c = commitAt geometry1 (pagesOf (x .store)) v k in concluded (ended (view x) alone (c .store)) c (c .crashed)) versions
-        ∙ ap₂ (λ (p : Pages) (c : Bool). concluded (ended (view x) alone p) C c) (sym (L .store)) (sym (L .crashed) ∙ e)
+  -- the end of a top transaction, over what its page writes left
+  module _ (e : Event) (C : Cut Pages) (ends : step edition1 (view x) (some e) ≡ commitsTop edition1 (view x) t C) (store : List ℕ) (made : ℕ) (crashed : Bool)
+      (L : Leaves C (pagesOf store) made crashed) (size : length store ≡ 1056) where
+    outcome : (c : Bool) → crashed ≡ c → step edition1 (view x) (some e) ≡ concluded (ended (view x) alone (pagesOf store)) C c
+    unfolding commitsTop
+    outcome c q = ends ∙ ap₂ (λ (p : Pages) (c : Bool). concluded (ended (view x) alone p) C c) (sym (L .store)) (sym (L .crashed) ∙ q)
 
     -- all page writes were made
     pub top-steps : crashed ≡ false → (parent depth line held retained writers : List ℕ) (one : ℕ) → bits one ≡ (λ k. same k t)
         → Cleared (λ k. same k t) (x .parent) parent → Cleared (λ k. same k t) (x .depth) depth → Cleared (λ k. same k t) (x .line) line
         → Rows 32 (leaving (bits one) (sets (x .held))) held → Rows 32 (leaving (bits one) (sets (x .retained))) retained → Rows 16 (leaving (bits one) (sets (x .writers))) writers
-        → Stepped x (some (commit t k)) (answer 0 made) (arrays (x .up) parent depth line held retained writers (x .work) store)
+        → Stepped x (some e) (answer 0 made) (arrays (x .up) parent depth line held retained writers (x .work) store)
     unfolding concluded saying numberOf valueOf view ended retaining
-    top-steps e parent depth line held retained writers one o P D N H M W =
+    top-steps q parent depth line held retained writers one o P D N H M W =
         let turn : (n : ℕ) (l l′ : List ℕ) → Rows n (leaving (bits one) (sets l)) l′ → Rows n (leaving alone (sets l)) l′ = λ n l l′ r. subst (λ (f : ℕ → Bool). Rows n (leaving f (sets l)) l′) o r in
         let H′ = turn 32 (x .held) held H in
         let M′ = turn 32 (x .retained) retained M in
         let W′ = turn 16 (x .writers) writers W in
-        stepped x _ (some (commit t k)) (ended (view x) alone (pagesOf store)) (done (C .made)) (answer 0 made) (outcome false e)
+        stepped x _ (some e) (ended (view x) alone (pagesOf store)) (done (C .made)) (answer 0 made) (outcome false q)
         (rest-is x I alone closed (x .retained) (modesOf (sets (x .retained))) refl parent depth line held retained writers store P D N H′ M′ W′) (ap (answer 0) (L .made))
         (rest-form x I alone closed (x .retained) (modesOf (sets (x .retained))) refl parent depth line held retained writers store P D N H′ M′ W′ (I .form .retained-nested) size)
 
     -- a crash came among them
     pub top-cut : crashed ≡ true → (up : ℕ) (parent depth line held retained writers : List ℕ) → Fallen up parent depth line held retained writers
-        → Stepped x (some (commit t k)) (answer 11 made) (arrays up parent depth line held retained writers (x .work) store)
+        → Stepped x (some e) (answer 11 made) (arrays up parent depth line held retained writers (x .work) store)
     unfolding concluded saying numberOf valueOf
-    top-cut e up parent depth line held retained writers Z =
-        subst⁻¹ (Stepped x (some (commit t k)) (answer 11 made)) (fallen up parent depth line held retained writers (x .work) store Z)
-        (stepped x (zeros (x .work) store) (some (commit t k)) (down (C .store)) (cut (C .made)) (answer 11 made) (outcome true e)
+    top-cut q up parent depth line held retained writers Z =
+        subst⁻¹ (Stepped x (some e) (answer 11 made)) (fallen up parent depth line held retained writers (x .work) store Z)
+        (stepped x (zeros (x .work) store) (some e) (down (C .store)) (cut (C .made)) (answer 11 made) (outcome true q)
         (zeros-down (x .work) store ∙ ap down (L .store)) (ap (answer 11) (L .made)) (zeros-formed (x .work) store (I .form .works) size))
 
+  -- beside what is prepared, by the map of the records that t changed
+  module _ (m n i : ℕ) (mapped : m ≡ mapOf geometry1 (λ r. sets (x .writers) r t)) (H : Reserves (x .store) n i) where
+    both-are : (changes edition1 (view x) t && busy edition1 (view x)) ≡ (not (same m 0) && not (same n 0))
+    both-are = ap₂ _&&_ (changes-are x t m mapped) (busy-is x n i H)
+
+    commit-13 : (k : ℕ) → d t ≡ 1 → (not (same m 0) && not (same n 0)) ≡ true → Stepped x (some (commit t k)) (answer 13 0) x
+    commit-13 k top q =
+        unmoved x (some (commit t k)) 13 (I .form) (commit-busy edition1 (view x) t (up-is x (R .up)) (live-is x t (R .live)) k childless
+        (rw (top-is x t (R .live), top, same-refl 1) (both-are ∙ q)))
+
+    prepare-13 : (k j : ℕ) → (not (same m 0) && not (same n 0)) ≡ true → Stepped x (some (prepare t k j)) (answer 13 0) x
+    prepare-13 k j q = unmoved x (some (prepare t k j)) 13 (I .form) (prepare-busy edition1 (view x) t (up-is x (R .up)) (live-is x t (R .live)) k j childless (both-are ∙ q))
+
+    module _ (q : (not (same m 0) && not (same n 0)) ≡ false) where
+      prepare-27 : (k j : ℕ) → d t ≢ 1 → Stepped x (some (prepare t k j)) (answer 27 0) x
+      prepare-27 k j h =
+          unmoved x (some (prepare t k j)) 27 (I .form) (prepare-beneath edition1 (view x) t (up-is x (R .up)) (live-is x t (R .live)) k j childless (both-are ∙ q)
+          (top-is x t (R .live) ∙ ne-false (d t) 1 h))
+
+      module _ (top : d t ≡ 1) where
+        version-at : (r : ℕ) → Is (under r 16) → cond (sets (x .writers) r t) (some (pagesOf (x .work) (slot r (d t)))) none ≡ versionsIn m (x .work) r
+        unfolding versionsIn topSlot slot records
+        version-at r (yes′ e) =
+            let s : r * depths + (d t - 1) ≡ r * depths = omega arith in
+            rw e (ap₂ (λ (c : Bool) (n : ℕ). cond c (some (pagesOf (x .work) n)) none)
+            (sym (ap (λ (m : ℕ). named geometry1 m r) mapped ∙ named-mapOf geometry1 (λ r. sets (x .writers) r t) r (under-lt r 16 e))) s)
+        version-at r (no′ e) =
+            rw e (ap (λ (c : Bool). cond c (some (pagesOf (x .work) (slot r (d t)))) none)
+            (sets-past (x .writers) r t (let h = not-under r 16 e in let k = I .form .writerss in omega arith)))
+
+        versions : view x .version t ≡ versionsIn m (x .work)
+        unfolding view versionsOf
+        versions = fun-ext (λ r. version-at r (is? (under r 16)))
+
+        -- a commit, and a prepare, of a top transaction
+        commit-ends : (k : ℕ) → step edition1 (view x) (some (commit t k)) ≡ commitsTop edition1 (view x) t (commitAt geometry1 (pagesOf (x .store)) (versionsIn m (x .work)) k)
+        unfolding view lineOf chain commits
+        commit-ends k =
+            commit-done edition1 (view x) t (up-is x (R .up)) (live-is x t (R .live)) k childless (rw (both-are ∙ q, and-false))
+            ∙ ap (λ (n : ℕ). commits edition1 (view x) t k (chain b n t)) (depth-is (x .parent) (x .depth) t ∙ top)
+            ∙ ap (λ (v : ℕ → Option Page). commitsTop edition1 (view x) t (commitAt geometry1 (pagesOf (x .store)) v k)) versions
+
+        prepare-ends : (k j : ℕ) → step edition1 (view x) (some (prepare t k j)) ≡ commitsTop edition1 (view x) t (prepareAt geometry1 (pagesOf (x .store)) (versionsIn m (x .work)) j k)
+        unfolding view
+        prepare-ends k j =
+            prepare-done edition1 (view x) t (up-is x (R .up)) (live-is x t (R .live)) k j childless (both-are ∙ q) (top-is x t (R .live) ∙ rw top (same-refl 1))
+            ∙ ap (λ (v : ℕ → Option Page). commitsTop edition1 (view x) t (prepareAt geometry1 (pagesOf (x .store)) v j k)) versions
+
+    -- either of them, by the code's tests
+    pub settling-13 : (b : Bool) (k j : ℕ) → (b ≡ false → d t ≡ 1) → (not (same m 0) && not (same n 0)) ≡ true → Stepped x (some (settling b t k j)) (answer 13 0) x
+    unfolding settling
+    settling-13 false k j top q = commit-13 k (top refl) q
+    settling-13 true k j top q = prepare-13 k j q
+
+    pub settling-27 : (b : Bool) (k j : ℕ) → (b ≡ false → d t ≡ 1) → (not (same m 0) && not (same n 0)) ≡ false → d t ≢ 1 → Stepped x (some (settling b t k j)) (answer 27 0) x
+    unfolding settling
+    settling-27 false k j top q h = absurd (h (top refl))
+    settling-27 true k j top q h = prepare-27 q k j h
+
+    pub settling-ends : (b : Bool) (k j : ℕ) → (not (same m 0) && not (same n 0)) ≡ false → d t ≡ 1
+        → step edition1 (view x) (some (settling b t k j)) ≡ commitsTop edition1 (view x) t (settlingAt b (pagesOf (x .store)) (versionsIn m (x .work)) j k)
+    unfolding settling settlingAt
+    settling-ends false k j q top = commit-ends q top k
+    settling-ends true k j q top = prepare-ends q top k j
+
+    -- what is prepared after it: read again, or as it was
+    pub settling-reserves : (y : Arrays) (a : Answer) (b : Bool) (k j n′ i′ : ℕ) → Stepped x (some (settling b t k j)) a y → (b ≡ true → Reserves (y .store) n′ i′) → (b ≡ false → (n′ ≡ n) × (i′ ≡ i)) → Reserves (y .store) n′ i′
+    unfolding settling
+    settling-reserves y a true k j n′ i′ T again kept = again refl
+    settling-reserves y a false k j n′ i′ T again kept =
+        let e = kept refl in
+        reserves-kept x y (some (commit t k)) a n i I T H (commit-plain t k) ∙ sym (λ j. record { map = e .0 j; identity = e .1 j })
+
   -- a child
-  module _ (n : ℕ) (deep : d t ≡ suc (suc n)) where
+  module _ (k n : ℕ) (deep : d t ≡ suc (suc n)) where
     abbrev p : ℕ
     p = getD (x .parent) t 0
 
@@ -190,7 +271,8 @@ module _ (x : Arrays) (I : Intact x) (t k : ℕ) (R : Ready x t) (childless : ha
       commit-is : step edition1 (view x) (some (commit t k)) ≡ commitsChild edition1 (view x) t p
       unfolding view lineOf chain commits
       commit-is =
-          commits-is
+          commit-done edition1 (view x) t (up-is x (R .up)) (live-is x t (R .live)) k childless
+          (ap (λ (c : Bool). c && (changes edition1 (view x) t && busy edition1 (view x))) (top-is x t (R .live) ∙ ne-false (d t) 1 (λ e. omega arith)))
           ∙ ap (λ (m : ℕ). commits edition1 (view x) t k (chain b m t)) (depth-is (x .parent) (x .depth) t ∙ deep)
           ∙ ap (commitsChild edition1 (view x) t) (parent-there x I t n deep)
 

@@ -1,24 +1,28 @@
-// A commit: of a top transaction with its page writes, or of a child into its parent.
+// A commit, of a top transaction with its page writes or of a child into its parent; and a prepare.
 ghost use mathlib.Core.Path.{_≡_};
-ghost use mathlib.Core.Bool.{false};
+ghost use mathlib.Core.Bool.{true, false};
 ghost use mathlib.Core.List.{List};
 ghost use mathlib.Core.Option.{Option, none, some};
 ghost use Prim.Native.Nat.{ℕ, _+_, _*_, _/_, _<_, _≤_};
 ghost use lib.ListN.{length, getD, set, replicate};
 ghost use Rattle.laws.specs.Bits.{bits};
-ghost use Rattle.rules.specs.Event.{commit};
-ghost use Rattle.rules.specs.Step.{hasChild};
-ghost use Rattle.rules.specs.Editions.{depths, workBytes};
+ghost use Rattle.rules.specs.Store.{Pages, pagesOf};
+ghost use Rattle.rules.specs.Event.{Event, commit};
+ghost use Rattle.rules.specs.Commit.{Cut};
+ghost use Rattle.rules.specs.Step.{hasChild, commitsTop, step};
+ghost use Rattle.rules.specs.Editions.{edition1, depths, workBytes};
 ghost use Rattle.sets.specs.Sets.{sets};
 ghost use Rattle.arrays.specs.Kin.{Kin};
 ghost use Rattle.slots.specs.Parts.{Sources};
+ghost use Rattle.commit.specs.Phase.{Leaves, versionsIn};
+ghost use Rattle.commits.specs.Settling.{settling, settlingAt};
 ghost use Rattle.numbers.specs.Named.{transactionOf};
-ghost use Rattle.events.specs.Whole.{Arrays, arrays, view, Intact, Stepped, Ready};
+ghost use Rattle.events.specs.Whole.{Arrays, arrays, view, Intact, Stepped, Ready, Reserves};
 use events::Answer;
 use numbers::TransactionNumber;
 
-// A top transaction without a live child commits: its page writes, cut at k, and then it ends.
-fn commit_top(
+// A top transaction without a live child ends, after its page writes: all of them were made, or a crash came.
+fn end_top(
     up: &mut u8,
     parent: &mut [u8; 24],
     depth: &mut [u8; 24],
@@ -28,19 +32,15 @@ fn commit_top(
     held: &mut [u32; 32],
     retained: &mut [u32; 32],
     writers: &mut [u32; 16],
-    work: &[u8],
-    store: &mut [u8],
     t: u8,
-    k: u8,
+    made: u8,
+    crashed: bool,
 ) -> Answer
-    requires { ⌜ (t < 24) × (length (now parent) ≡ 24) × (length (now depth) ≡ 24) × (length (now line) ≡ 24) × (length (now held) ≡ 32) × (length (now retained) ≡ 32) × (length (now writers) ≡ 16) × (length (now work) ≡ workBytes) × (length (now store) ≡ 1056) × Kin (now parent) (now depth) (now live) (now children) ⌝ }
-    ensures { λ a. ⌜ (Intact (arrays (now (up .entry)) (now (parent .entry)) (now (depth .entry)) (now (line .entry)) (now (held .entry)) (now (retained .entry)) (now (writers .entry)) (now (work .entry)) (now (store .entry))) → Ready (arrays (now (up .entry)) (now (parent .entry)) (now (depth .entry)) (now (line .entry)) (now (held .entry)) (now (retained .entry)) (now (writers .entry)) (now (work .entry)) (now (store .entry))) t → hasChild (view (arrays (now (up .entry)) (now (parent .entry)) (now (depth .entry)) (now (line .entry)) (now (held .entry)) (now (retained .entry)) (now (writers .entry)) (now (work .entry)) (now (store .entry)))) t ≡ false → getD (now (depth .entry)) t 0 ≡ 1 → Stepped (arrays (now (up .entry)) (now (parent .entry)) (now (depth .entry)) (now (line .entry)) (now (held .entry)) (now (retained .entry)) (now (writers .entry)) (now (work .entry)) (now (store .entry))) (some (commit t k)) a (arrays (now (up .exit)) (now (parent .exit)) (now (depth .exit)) (now (line .exit)) (now (held .exit)) (now (retained .exit)) (now (writers .exit)) (now (work .entry)) (now (store .exit)))) ⌝ }
+    requires { ⌜ (t < 24) × (length (now parent) ≡ 24) × (length (now depth) ≡ 24) × (length (now line) ≡ 24) × (length (now held) ≡ 32) × (length (now retained) ≡ 32) × (length (now writers) ≡ 16) × Kin (now parent) (now depth) (now live) (now children) ⌝ }
+    ensures { λ a. ⌜ ((e : Event) (c : Cut Pages) (work store store′ : List ℕ) → let before = arrays (now (up .entry)) (now (parent .entry)) (now (depth .entry)) (now (line .entry)) (now (held .entry)) (now (retained .entry)) (now (writers .entry)) work store in let after = arrays (now (up .exit)) (now (parent .exit)) (now (depth .exit)) (now (line .exit)) (now (held .exit)) (now (retained .exit)) (now (writers .exit)) work store′ in Intact before → Ready before t → hasChild (view before) t ≡ false → step edition1 (view before) (some e) ≡ commitsTop edition1 (view before) t c → Leaves c (pagesOf store′) made crashed → length store′ ≡ 1056 → Stepped before (some e) a after) ⌝ }
     ensures { λ _. ⌜ Kin (now (parent .exit)) (now (depth .exit)) (now (live .exit)) (now (children .exit)) ⌝ }
 {
-    let map = commitpage::map_of(writers, t);
-    let m = commit::commit_pages(store, work, map, k);
-    let made = m.made;
-    if m.crashed {
+    if crashed {
         crashes::fall(
             up,
             parent,
@@ -64,6 +64,96 @@ fn commit_top(
         number: 0,
         value: made,
     }
+}
+
+// The page writes of a top transaction that has versions of the records of a map, for its commit or its prepare; the first k of them happen.
+fn write_pages(
+    store: &mut [u8],
+    work: &[u8],
+    map: u16,
+    prepares: bool,
+    k: u8,
+    i: u8,
+) -> commit::Made
+    requires { ⌜ (length (now store) ≡ 1056) × (length (now work) ≡ workBytes) ⌝ }
+    ensures { λ r. ⌜ Leaves (settlingAt prepares (pagesOf (now (store .entry))) (versionsIn map (now (work .entry))) i k) (pagesOf (now (store .exit))) (r .made) (r .crashed) ⌝ }
+{
+    if prepares {
+        return commit::prepare_pages(store, work, map, i, k);
+    }
+    commit::commit_pages(store, work, map, k)
+}
+
+// After a prepare, what is prepared is read again.
+fn reread(store: &[u8], reserved: &mut u16, identity: &mut u8, prepares: bool)
+    requires { ⌜ length (now store) ≡ 1056 ⌝ }
+    ensures { λ _. ⌜ (prepares ≡ true → Reserves (now (store .entry)) (now (reserved .exit)) (now (identity .exit))) × (prepares ≡ false → (now (reserved .exit) ≡ now (reserved .entry)) × (now (identity .exit) ≡ now (identity .entry))) ⌝ }
+{
+    if !prepares {
+        return;
+    }
+    let p = commit::read_held(store);
+    *reserved = p.map;
+    *identity = p.identity;
+}
+
+// A transaction at depth d without a live child is prepared, or commits as a top one: refused with 13 where it changed a record while another is
+// prepared, and with 27 for a child; else its page writes, cut at k, and then it ends.
+fn settle_top(
+    up: &mut u8,
+    parent: &mut [u8; 24],
+    depth: &mut [u8; 24],
+    line: &mut [u32; 24],
+    live: &mut u32,
+    children: &mut [u32; 32],
+    held: &mut [u32; 32],
+    retained: &mut [u32; 32],
+    writers: &mut [u32; 16],
+    work: &[u8],
+    store: &mut [u8],
+    reserved: &mut u16,
+    identity: &mut u8,
+    t: u8,
+    d: u8,
+    prepares: bool,
+    k: u8,
+    i: u8,
+) -> Answer
+    requires { ⌜ (t < 24) × (length (now parent) ≡ 24) × (length (now depth) ≡ 24) × (length (now line) ≡ 24) × (length (now held) ≡ 32) × (length (now retained) ≡ 32) × (length (now writers) ≡ 16) × (length (now work) ≡ workBytes) × (length (now store) ≡ 1056) × (d ≡ getD (now depth) t 0) × (prepares ≡ false → d ≡ 1) × Kin (now parent) (now depth) (now live) (now children) × Reserves (now store) (now reserved) (now identity) ⌝ }
+    ensures { λ a. let before = arrays (now (up .entry)) (now (parent .entry)) (now (depth .entry)) (now (line .entry)) (now (held .entry)) (now (retained .entry)) (now (writers .entry)) (now (work .entry)) (now (store .entry)) in let after = arrays (now (up .exit)) (now (parent .exit)) (now (depth .exit)) (now (line .exit)) (now (held .exit)) (now (retained .exit)) (now (writers .exit)) (now (work .entry)) (now (store .exit)) in ⌜ (Intact before → Ready before t → hasChild (view before) t ≡ false → Stepped before (some (settling prepares t k i)) a after × Reserves (now (store .exit)) (now (reserved .exit)) (now (identity .exit))) ⌝ }
+    ensures { λ _. ⌜ Kin (now (parent .exit)) (now (depth .exit)) (now (live .exit)) (now (children .exit)) ⌝ }
+{
+    let map = commitpage::map_of(writers, t);
+    if (map != 0) & (*reserved != 0) {
+        return Answer {
+            number: 13,
+            value: 0,
+        };
+    }
+    if d != 1 {
+        return Answer {
+            number: 27,
+            value: 0,
+        };
+    }
+    let m = write_pages(store, work, map, prepares, k, i);
+    let made = m.made;
+    let crashed = m.crashed;
+    reread(&store[..], reserved, identity, prepares);
+    end_top(
+        up,
+        parent,
+        depth,
+        line,
+        live,
+        children,
+        held,
+        retained,
+        writers,
+        t,
+        made,
+        crashed,
+    )
 }
 
 // A child at depth d without a live child of its own commits into its parent.
@@ -95,8 +185,9 @@ fn commit_child(
     }
 }
 
-// A commit: refused with 10 while a child lives.
-pub fn commit_event(
+// A commit or a prepare: refused with 10 while a child lives; a child's commit goes into its parent. They share this function, so that there is
+// one place where a top transaction ends.
+pub fn settle_event(
     up: &mut u8,
     parent: &mut [u8; 24],
     depth: &mut [u8; 24],
@@ -108,11 +199,15 @@ pub fn commit_event(
     writers: &mut [u32; 16],
     work: &mut [u8],
     store: &mut [u8],
+    reserved: &mut u16,
+    identity: &mut u8,
     t: TransactionNumber,
+    prepares: bool,
     k: u8,
+    i: u8,
 ) -> Answer
-    requires { ⌜ (length (now parent) ≡ 24) × (length (now depth) ≡ 24) × (length (now line) ≡ 24) × (length (now held) ≡ 32) × (length (now retained) ≡ 32) × (length (now writers) ≡ 16) × (length (now work) ≡ workBytes) × (length (now store) ≡ 1056) × (0 < getD (now depth) (transactionOf t) 0) × Sources (now parent) (now depth) × Kin (now parent) (now depth) (now live) (now children) ⌝ }
-    ensures { λ a. ⌜ (Intact (arrays (now (up .entry)) (now (parent .entry)) (now (depth .entry)) (now (line .entry)) (now (held .entry)) (now (retained .entry)) (now (writers .entry)) (now (work .entry)) (now (store .entry))) → Ready (arrays (now (up .entry)) (now (parent .entry)) (now (depth .entry)) (now (line .entry)) (now (held .entry)) (now (retained .entry)) (now (writers .entry)) (now (work .entry)) (now (store .entry))) (transactionOf t) → Stepped (arrays (now (up .entry)) (now (parent .entry)) (now (depth .entry)) (now (line .entry)) (now (held .entry)) (now (retained .entry)) (now (writers .entry)) (now (work .entry)) (now (store .entry))) (some (commit (transactionOf t) k)) a (arrays (now (up .exit)) (now (parent .exit)) (now (depth .exit)) (now (line .exit)) (now (held .exit)) (now (retained .exit)) (now (writers .exit)) (now (work .exit)) (now (store .exit)))) ⌝ }
+    requires { ⌜ (length (now parent) ≡ 24) × (length (now depth) ≡ 24) × (length (now line) ≡ 24) × (length (now held) ≡ 32) × (length (now retained) ≡ 32) × (length (now writers) ≡ 16) × (length (now work) ≡ workBytes) × (length (now store) ≡ 1056) × (0 < getD (now depth) (transactionOf t) 0) × Sources (now parent) (now depth) × Kin (now parent) (now depth) (now live) (now children) × Reserves (now store) (now reserved) (now identity) ⌝ }
+    ensures { λ a. let before = arrays (now (up .entry)) (now (parent .entry)) (now (depth .entry)) (now (line .entry)) (now (held .entry)) (now (retained .entry)) (now (writers .entry)) (now (work .entry)) (now (store .entry)) in let after = arrays (now (up .exit)) (now (parent .exit)) (now (depth .exit)) (now (line .exit)) (now (held .exit)) (now (retained .exit)) (now (writers .exit)) (now (work .exit)) (now (store .exit)) in ⌜ (Intact before → Ready before (transactionOf t) → Stepped before (some (settling prepares (transactionOf t) k i)) a after × Reserves (now (store .exit)) (now (reserved .exit)) (now (identity .exit))) ⌝ }
     ensures { λ _. ⌜ Kin (now (parent .exit)) (now (depth .exit)) (now (live .exit)) (now (children .exit)) ⌝ }
 {
     let n = t.number();
@@ -123,9 +218,8 @@ pub fn commit_event(
         };
     }
     let d = depth[n as usize];
-    if d == 1 {
-        return commit_top(
-            up,
+    if !prepares & (d != 1) {
+        return commit_child(
             parent,
             depth,
             line,
@@ -134,13 +228,13 @@ pub fn commit_event(
             held,
             retained,
             writers,
-            &work[..],
-            store,
+            work,
             n,
-            k,
+            d,
         );
     }
-    commit_child(
+    settle_top(
+        up,
         parent,
         depth,
         line,
@@ -149,8 +243,14 @@ pub fn commit_event(
         held,
         retained,
         writers,
-        work,
+        &work[..],
+        store,
+        reserved,
+        identity,
         n,
         d,
+        prepares,
+        k,
+        i,
     )
 }

@@ -11,8 +11,8 @@ use Rattle.laws.specs.Tests.{same}
 use Rattle.laws.specs.Bits.{bits}
 use Rattle.laws.proofs.Tests.{same-refl, ne-false}
 use Rattle.laws.proofs.Bits.{bits-zero}
-use Rattle.laws.proofs.Booleans.{refute, clash}
-use Rattle.rules.specs.Store.{Page, Pages, pagesOf, readCommit, isDamaged, damaged}
+use Rattle.laws.proofs.Booleans.{not-false, not-true, refute, clash}
+use Rattle.rules.specs.Store.{Page, Pages, pagesOf, readCommit, mapIn, damaged}
 use Rattle.rules.specs.Event.{Event, crash, recover}
 use Rattle.rules.specs.State.{Bearer, free, active, isActive, depthIn, chain, lineOf, mem, Mode, nothing, reading, writing, isLock, State, live, holds, retains, down}
 use Rattle.rules.specs.Versions.{isSome}
@@ -25,7 +25,7 @@ use Rattle.rules.proofs.Parts.{sound-down}
 use Rattle.rules.proofs.Locks.{no-version}
 use Rattle.sets.specs.Sets.{sets}
 use Rattle.arrays.specs.View.{Owners, bearerAt, bearersOf, anyMode, writeMode, modeOf, modesOf, Nested, slot, versionsOf}
-use Rattle.commitpage.specs.Heard.{heard}
+use Rattle.commitpage.specs.Heard.{understood}
 use Rattle.commitpage.specs.declared.CommitMap.{CommitMap}
 use Rattle.commit.specs.Phase.{Leaves}
 use Rattle.events.specs.Whole.{Arrays, arrays, view, lineIn, Formed, Intact, saying, Stepped}
@@ -131,33 +131,24 @@ module _ {f : Form} {s : StateOf f} (S : Sound f s) (d : s .up ≡ false) where
   }
 
 -- what a commit page says
-damaged-of : (o : Option ℕ) → heard o .good ≡ false → isDamaged o ≡ true
-unfolding heard isDamaged
-damaged-of none e = refl
-damaged-of (some m) e = absurd (true≢false e)
-
-good-of : (o : Option ℕ) → heard o .good ≡ true → (isDamaged o ≡ false) × (o ≡ some (heard o .map))
-unfolding heard isDamaged
-good-of none e = absurd (true≢false (sym e))
-good-of (some m) e = (refl, refl)
-
-module _ (store : List ℕ) (c : CommitMap) (h : c ≡ heard (readCommit geometry1 (pagesOf store 0))) where
+module _ (store : List ℕ) (c : CommitMap) (h : c ≡ understood (pagesOf store 0)) where
   pub damaged-is : c .good ≡ false → damaged geometry1 (pagesOf store) ≡ true
-  unfolding damaged
-  damaged-is e = damaged-of (readCommit geometry1 (pagesOf store 0)) (sym (ap (λ (c : CommitMap). c .good) h) ∙ e)
+  unfolding damaged understood
+  damaged-is e = not-false _ (sym (ap (λ (c : CommitMap). c .good) h) ∙ e)
 
   whole-is : c .good ≡ true → damaged geometry1 (pagesOf store) ≡ false
-  unfolding damaged
-  whole-is e = good-of (readCommit geometry1 (pagesOf store 0)) (sym (ap (λ (c : CommitMap). c .good) h) ∙ e) .0
+  unfolding damaged understood
+  whole-is e = not-true _ (sym (ap (λ (c : CommitMap). c .good) h) ∙ e)
 
-  pub map-is : c .good ≡ true → readCommit geometry1 (pagesOf store 0) ≡ some (c .map)
-  map-is e = good-of (readCommit geometry1 (pagesOf store 0)) (sym (ap (λ (c : CommitMap). c .good) h) ∙ e) .1 ∙ ap some (sym (ap (λ (c : CommitMap). c .map) h))
+  pub map-is : mapIn (readCommit geometry1 (pagesOf store 0)) ≡ c .map
+  unfolding understood
+  map-is = sym (ap (λ (c : CommitMap). c .map) h)
 
 module _ (x : Arrays) (I : Intact x) (k : ℕ) where
   pub recover-refuses-3 : x .up ≡ 1 → Stepped x (some (recover k)) (answer 3 0) x
   recover-refuses-3 e = unmoved x (some (recover k)) 3 (I .form) (recover-up edition1 (view x) k (up-is x e))
 
-  module _ (n : x .up ≢ 1) (c : CommitMap) (h : c ≡ heard (readCommit geometry1 (pagesOf (x .store) 0))) where
+  module _ (n : x .up ≢ 1) (c : CommitMap) (h : c ≡ understood (pagesOf (x .store) 0)) where
     pub recover-refuses-4 : c .good ≡ false → Stepped x (some (recover k)) (answer 4 0) x
     unfolding view
     recover-refuses-4 e =

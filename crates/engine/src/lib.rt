@@ -1,6 +1,7 @@
 // The engine's step: one event at a time, in place.
 ghost use mathlib.Core.Path.{_≡_};
 ghost use mathlib.Core.List.{List};
+ghost use mathlib.Core.Logic.{_≢_};
 ghost use Prim.Native.Nat.{ℕ, _+_, _*_, _<_, _≤_};
 ghost use lib.ListN.{length, getD, set};
 ghost use Rattle.rules.specs.Store.{pagesOf};
@@ -9,7 +10,7 @@ ghost use Rattle.rules.specs.Editions.{workBytes};
 ghost use Rattle.numbers.specs.Named.{transactionOf, recordOf};
 ghost use Rattle.event.specs.Meaning.{meaning, InRange};
 ghost use Rattle.arrays.specs.Kin.{Kin};
-ghost use Rattle.events.specs.Whole.{Arrays, arrays, view, Intact, Stepped, ReadyLeaf};
+ghost use Rattle.events.specs.Whole.{Arrays, arrays, view, Intact, Stepped, ReadyLeaf, Reserves};
 use event::Event;
 use events::Answer;
 use numbers::RecordNamed;
@@ -28,20 +29,80 @@ fn record_event(
     writers: &mut [u32; 16],
     work: &mut [u8],
     store: &[u8],
+    reserved: u16,
     e: Event,
     t: TransactionNumber,
     r: RecordNumber,
 ) -> Answer
     requires { ⌜ (transactionOf t ≡ e .transaction) × (recordOf r ≡ e .rec) × (1 < e .kind) × (e .kind < 5) × InRange e × Intact (arrays (now up) (now parent) (now depth) (now line) (now held) (now retained) (now writers) (now work) (now store)) × ReadyLeaf (arrays (now up) (now parent) (now depth) (now line) (now held) (now retained) (now writers) (now work) (now store)) (transactionOf t) ⌝ }
-    ensures { λ a. ⌜ Stepped (arrays (now (up .entry)) (now (parent .entry)) (now (depth .entry)) (now (line .entry)) (now (held .entry)) (now (retained .entry)) (now (writers .entry)) (now (work .entry)) (now (store .entry))) (meaning e) a (arrays (now (up .entry)) (now (parent .entry)) (now (depth .entry)) (now (line .entry)) (now (held .exit)) (now (retained .entry)) (now (writers .exit)) (now (work .exit)) (now (store .entry))) ⌝ }
+    ensures { λ a. ⌜ ((identity : ℕ) → let before = arrays (now (up .entry)) (now (parent .entry)) (now (depth .entry)) (now (line .entry)) (now (held .entry)) (now (retained .entry)) (now (writers .entry)) (now (work .entry)) (now (store .entry)) in let after = arrays (now (up .entry)) (now (parent .entry)) (now (depth .entry)) (now (line .entry)) (now (held .exit)) (now (retained .entry)) (now (writers .exit)) (now (work .exit)) (now (store .entry)) in Reserves (now (store .entry)) reserved identity → Stepped before (meaning e) a after) ⌝ }
 {
     let o = e.offset as usize;
     let kind = e.kind;
     match kind {
-        2 => events::lock_event(line, held, retained, t, r, e.value != 0),
+        2 => events::lock_event(line, held, retained, reserved, t, r, e.value != 0),
         3 => events::write_event(parent, depth, held, writers, work, store, t, r, o, e.value),
         _ => events::read_event(parent, depth, held, writers, work, store, t, r, o),
     }
+}
+
+// An event by which a live transaction ends: a commit, an abort, a prepare.
+fn end_event(
+    up: &mut u8,
+    parent: &mut [u8; 24],
+    depth: &mut [u8; 24],
+    line: &mut [u32; 24],
+    live: &mut u32,
+    children: &mut [u32; 32],
+    held: &mut [u32; 32],
+    retained: &mut [u32; 32],
+    writers: &mut [u32; 16],
+    work: &mut [u8],
+    store: &mut [u8],
+    reserved: &mut u16,
+    identity: &mut u8,
+    e: Event,
+    t: TransactionNumber,
+) -> Answer
+    requires { ⌜ (transactionOf t ≡ e .transaction) × (4 < e .kind) × (e .kind < 10) × (e .kind ≢ 7) × (e .kind ≢ 8) × (0 < getD (now depth) (e .transaction) 0) × InRange e × Intact (arrays (now up) (now parent) (now depth) (now line) (now held) (now retained) (now writers) (now work) (now store)) × (now up ≡ 1) × Kin (now parent) (now depth) (now live) (now children) × Reserves (now store) (now reserved) (now identity) ⌝ }
+    ensures { λ a. let before = arrays (now (up .entry)) (now (parent .entry)) (now (depth .entry)) (now (line .entry)) (now (held .entry)) (now (retained .entry)) (now (writers .entry)) (now (work .entry)) (now (store .entry)) in let after = arrays (now (up .exit)) (now (parent .exit)) (now (depth .exit)) (now (line .exit)) (now (held .exit)) (now (retained .exit)) (now (writers .exit)) (now (work .exit)) (now (store .exit)) in ⌜ Stepped before (meaning e) a after ⌝ }
+    ensures { λ _. ⌜ Kin (now (parent .exit)) (now (depth .exit)) (now (live .exit)) (now (children .exit)) ⌝ }
+    ensures { λ _. ⌜ Reserves (now (store .exit)) (now (reserved .exit)) (now (identity .exit)) ⌝ }
+{
+    let kind = e.kind;
+    if kind == 6 {
+        return events::abort_event(
+            parent,
+            depth,
+            line,
+            live,
+            children,
+            held,
+            retained,
+            writers,
+            t,
+            e.value != 0,
+        );
+    }
+    commits::settle_event(
+        up,
+        parent,
+        depth,
+        line,
+        live,
+        children,
+        held,
+        retained,
+        writers,
+        work,
+        store,
+        reserved,
+        identity,
+        t,
+        kind == 9,
+        e.count,
+        e.value,
+    )
 }
 
 // An event of a transaction: refused with 5 unless it is live. At a record it is refused with 14 while a child lives.
@@ -57,12 +118,15 @@ fn named_event(
     writers: &mut [u32; 16],
     work: &mut [u8],
     store: &mut [u8],
+    reserved: &mut u16,
+    identity: &mut u8,
     e: Event,
     t: TransactionNumber,
 ) -> Answer
-    requires { ⌜ (transactionOf t ≡ e .transaction) × (1 < e .kind) × (e .kind < 7) × InRange e × Intact (arrays (now up) (now parent) (now depth) (now line) (now held) (now retained) (now writers) (now work) (now store)) × (now up ≡ 1) × Kin (now parent) (now depth) (now live) (now children) ⌝ }
-    ensures { λ a. ⌜ Stepped (arrays (now (up .entry)) (now (parent .entry)) (now (depth .entry)) (now (line .entry)) (now (held .entry)) (now (retained .entry)) (now (writers .entry)) (now (work .entry)) (now (store .entry))) (meaning e) a (arrays (now (up .exit)) (now (parent .exit)) (now (depth .exit)) (now (line .exit)) (now (held .exit)) (now (retained .exit)) (now (writers .exit)) (now (work .exit)) (now (store .exit))) ⌝ }
+    requires { ⌜ (transactionOf t ≡ e .transaction) × (1 < e .kind) × (e .kind < 10) × (e .kind ≢ 7) × (e .kind ≢ 8) × InRange e × Intact (arrays (now up) (now parent) (now depth) (now line) (now held) (now retained) (now writers) (now work) (now store)) × (now up ≡ 1) × Kin (now parent) (now depth) (now live) (now children) × Reserves (now store) (now reserved) (now identity) ⌝ }
+    ensures { λ a. let before = arrays (now (up .entry)) (now (parent .entry)) (now (depth .entry)) (now (line .entry)) (now (held .entry)) (now (retained .entry)) (now (writers .entry)) (now (work .entry)) (now (store .entry)) in let after = arrays (now (up .exit)) (now (parent .exit)) (now (depth .exit)) (now (line .exit)) (now (held .exit)) (now (retained .exit)) (now (writers .exit)) (now (work .exit)) (now (store .exit)) in ⌜ Stepped before (meaning e) a after ⌝ }
     ensures { λ _. ⌜ Kin (now (parent .exit)) (now (depth .exit)) (now (live .exit)) (now (children .exit)) ⌝ }
+    ensures { λ _. ⌜ Reserves (now (store .exit)) (now (reserved .exit)) (now (identity .exit)) ⌝ }
 {
     let kind = e.kind;
     if depth[e.transaction as usize] == 0 {
@@ -71,8 +135,8 @@ fn named_event(
             value: 0,
         };
     }
-    if kind == 5 {
-        return commits::commit_event(
+    if 4 < kind {
+        return end_event(
             up,
             parent,
             depth,
@@ -84,22 +148,10 @@ fn named_event(
             writers,
             work,
             store,
+            reserved,
+            identity,
+            e,
             t,
-            e.count,
-        );
-    }
-    if kind == 6 {
-        return events::abort_event(
-            parent,
-            depth,
-            line,
-            live,
-            children,
-            held,
-            retained,
-            writers,
-            t,
-            e.value != 0,
         );
     }
     if transactions::has_child(children, e.transaction) {
@@ -119,6 +171,7 @@ fn named_event(
             writers,
             work,
             store,
+            *reserved,
             e,
             t,
             r,
@@ -130,7 +183,7 @@ fn named_event(
     }
 }
 
-// One event: the only place where all the arrays meet.
+// One event: the only place where all the arrays meet. A decision has two calls, so that the compiler leaves it out of the loop over the events.
 pub fn step(
     up: &mut u8,
     parent: &mut [u8; 24],
@@ -143,11 +196,14 @@ pub fn step(
     writers: &mut [u32; 16],
     work: &mut [u8],
     store: &mut [u8],
+    reserved: &mut u16,
+    identity: &mut u8,
     e: Event,
 ) -> Answer
-    requires { ⌜ InRange e × Intact (arrays (now up) (now parent) (now depth) (now line) (now held) (now retained) (now writers) (now work) (now store)) × Kin (now parent) (now depth) (now live) (now children) ⌝ }
-    ensures { λ a. ⌜ Stepped (arrays (now (up .entry)) (now (parent .entry)) (now (depth .entry)) (now (line .entry)) (now (held .entry)) (now (retained .entry)) (now (writers .entry)) (now (work .entry)) (now (store .entry))) (meaning e) a (arrays (now (up .exit)) (now (parent .exit)) (now (depth .exit)) (now (line .exit)) (now (held .exit)) (now (retained .exit)) (now (writers .exit)) (now (work .exit)) (now (store .exit))) × Intact (arrays (now (up .exit)) (now (parent .exit)) (now (depth .exit)) (now (line .exit)) (now (held .exit)) (now (retained .exit)) (now (writers .exit)) (now (work .exit)) (now (store .exit))) ⌝ }
+    requires { ⌜ InRange e × Intact (arrays (now up) (now parent) (now depth) (now line) (now held) (now retained) (now writers) (now work) (now store)) × Kin (now parent) (now depth) (now live) (now children) × Reserves (now store) (now reserved) (now identity) ⌝ }
+    ensures { λ a. let before = arrays (now (up .entry)) (now (parent .entry)) (now (depth .entry)) (now (line .entry)) (now (held .entry)) (now (retained .entry)) (now (writers .entry)) (now (work .entry)) (now (store .entry)) in let after = arrays (now (up .exit)) (now (parent .exit)) (now (depth .exit)) (now (line .exit)) (now (held .exit)) (now (retained .exit)) (now (writers .exit)) (now (work .exit)) (now (store .exit)) in ⌜ Stepped before (meaning e) a after × Intact after ⌝ }
     ensures { λ _. ⌜ Kin (now (parent .exit)) (now (depth .exit)) (now (live .exit)) (now (children .exit)) ⌝ }
+    ensures { λ _. ⌜ Reserves (now (store .exit)) (now (reserved .exit)) (now (identity .exit)) ⌝ }
 {
     let kind = e.kind;
     let t = e.transaction;
@@ -182,6 +238,47 @@ pub fn step(
     if kind == 1 {
         return begins::begin_event(parent, depth, line, live, children, t);
     }
+    if 9 < kind {
+        if kind == 10 {
+            if e.offset == 0 {
+                return decisions::decide_event(
+                    up,
+                    parent,
+                    depth,
+                    line,
+                    live,
+                    children,
+                    held,
+                    retained,
+                    writers,
+                    store,
+                    reserved,
+                    identity,
+                    false,
+                    e.count,
+                    e.value,
+                );
+            }
+            return decisions::decide_event(
+                up,
+                parent,
+                depth,
+                line,
+                live,
+                children,
+                held,
+                retained,
+                writers,
+                store,
+                reserved,
+                identity,
+                true,
+                e.count,
+                e.value,
+            );
+        }
+        return decisions::query_event(*reserved, *identity, e.value);
+    }
     match TransactionNumber::checked(t) {
         TransactionNamed::Number(n) => named_event(
             up,
@@ -195,6 +292,8 @@ pub fn step(
             writers,
             work,
             store,
+            reserved,
+            identity,
             e,
             n,
         ),

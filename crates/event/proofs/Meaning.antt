@@ -1,7 +1,7 @@
 -- The event of the rules that an event of each kind stands for.
 use mathlib.Core.Path.{_≡_, refl}
 use mathlib.Core.Option.{none, some}
-use Rattle.rules.specs.Event.{eventOf, accessOf, reportOf, begin, lock, write, read, commit, abort, crash, recover}
+use Rattle.rules.specs.Event.{eventOf, accessOf, reportOf, decisionOf, begin, lock, write, read, commit, abort, crash, recover, prepare, decide, query}
 use Rattle.event.specs.Meaning.{meaning, fieldsOf}
 use Rattle.event.specs.declared.Event.{Event}
 
@@ -40,3 +40,15 @@ means-crash e h = rw h refl
 pub means-recover : (e : Event) → e .kind ≡ 8 → meaning e ≡ some (recover (e .count))
 unfolding meaning fieldsOf eventOf
 means-recover e h = rw h refl
+
+pub means-prepare : (e : Event) → e .kind ≡ 9 → meaning e ≡ some (prepare (e .transaction) (e .count) (e .value))
+unfolding meaning fieldsOf eventOf
+means-prepare e h = rw h refl
+
+pub means-decide : (e : Event) → e .kind ≡ 10 → meaning e ≡ some (decide (decisionOf (e .offset)) (e .count) (e .value))
+unfolding meaning fieldsOf eventOf
+means-decide e h = rw h refl
+
+pub means-query : (e : Event) → e .kind ≡ 11 → meaning e ≡ some (query (e .value))
+unfolding meaning fieldsOf eventOf
+means-query e h = rw h refl

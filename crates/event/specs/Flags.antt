@@ -5,4 +5,4 @@ use Prim.Native.Nat.{ℕ}
 abbrev pub flags : List ℕ
 flags =
     0 ∷ 0xFF800000 ∷ 0xFFF80001 ∷ 0xFFFFC0FF ∷ 0xFFFFC000 ∷ 0xFF803F00 ∷ 0xFF800001 ∷ 0xF0000000 ∷ 0xF0003F00 ∷
-    0 ∷ 0 ∷ 0 ∷ 0 ∷ 0 ∷ 0 ∷ 0 ∷ []
+    0xFF803FFF ∷ 0xF0007FFF ∷ 0xF00000FF ∷ 0 ∷ 0 ∷ 0 ∷ 0 ∷ []

@@ -15,7 +15,7 @@ meaning e = eventOf (fieldsOf (e .kind) (e .transaction) (e .rec) (e .offset) (e
 
 -- the fields of a word that was taken apart
 pub record InRange (e : Event) : Type 0 where
-  pub kind : e .kind < 9
+  pub kind : e .kind < 12
   pub transaction : e .transaction < 32
   pub rec : e .rec < 16
   pub offset : e .offset < 32

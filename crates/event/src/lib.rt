@@ -30,9 +30,9 @@ const USES: [u32; 16] = [
     Event::KIND | Event::TRANSACTION | Event::VALUE_FLAG,
     Event::KIND,
     Event::KIND | Event::COUNT,
-    0,
-    0,
-    0,
+    Event::KIND | Event::TRANSACTION | Event::COUNT | Event::VALUE,
+    Event::KIND | Event::OFFSET_FLAG | Event::COUNT | Event::VALUE,
+    Event::KIND | Event::VALUE,
     0,
     0,
     0,
@@ -88,6 +88,9 @@ impl Event {
     pub const COUNT: u32 = (Self::COUNT_SPAN - 1) * Self::COUNT_PLACE;
 
     pub const OFFSET: u32 = (Self::OFFSET_SPAN - 1) * Self::OFFSET_PLACE;
+
+    // an offset of 0 or 1
+    pub const OFFSET_FLAG: u32 = Self::OFFSET_PLACE;
 
     pub const RECORD: u32 = (Self::RECORD_SPAN - 1) * Self::RECORD_PLACE;
 

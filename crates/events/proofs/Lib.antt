@@ -4,3 +4,4 @@ pub mod Steps
 pub mod Ends
 pub mod Parents
 pub mod Aborts
+pub mod Reserves

@@ -12,11 +12,11 @@ use Rattle.laws.specs.Counting.{all, lowest}
 use Rattle.laws.proofs.Booleans.{not-false, not-true, refute, clash}
 use Rattle.laws.proofs.Counting.{Lowest, found, missing, lowest-is, all-true, all-of}
 use Rattle.rules.specs.Geometry.{transactions, nobody}
-use Rattle.rules.specs.Event.{Event, Access, begin, lock, write, read, commit, abort, crash, recover}
+use Rattle.rules.specs.Event.{Event, Access, begin, lock, write, read, commit, abort, crash, recover, prepare, decide, query}
 use Rattle.rules.specs.State.{State, lineOf, mem, depthIn, live, holds, holdsWriting, down}
 use Rattle.rules.specs.Locks.{grantable}
 use Rattle.rules.specs.Form.{Form, Medium}
-use Rattle.rules.specs.Step.{Answer, done, refused, cut, Outcome, StateOf, OutcomeOf, hasChild, firstFree, begun, locked, wrote, ended, passed, aborted, raised, finished, visible, commits, recovers, firstOf, refusals, refusal, act, judged, step, open-step}
+use Rattle.rules.specs.Step.{Answer, done, refused, cut, Outcome, StateOf, OutcomeOf, hasChild, firstFree, begun, locked, wrote, ended, passed, aborted, raised, finished, visible, isFor, isTop, changes, busy, reserved, commitsTop, commits, recovers, decides, firstOf, refusals, refusal, act, judged, step, open-step}
 
 -- nothing is free where the lowest free number is the bound; else something is
 pub full : (n : ℕ) (p : ℕ → Bool) → lowest n (λ u. not (p u)) ≡ n → all n p ≡ true
@@ -62,6 +62,18 @@ module _ (f : Form) (s : StateOf f) where
     unfolding open-step
     commit-down t k = rw d
 
+    pub prepare-down : (t k i : ℕ) → step f s (some (prepare t k i)) ≡ no 2
+    unfolding open-step
+    prepare-down t k i = rw d
+
+    pub decide-down : (c : Bool) (k i : ℕ) → step f s (some (decide c k i)) ≡ no 2
+    unfolding open-step
+    decide-down c k i = rw d
+
+    pub query-down : (i : ℕ) → step f s (some (query i)) ≡ no 2
+    unfolding open-step
+    query-down i = rw d
+
     pub abort-down : (t : ℕ) (w : Bool) → step f s (some (abort t w)) ≡ no 2
     unfolding open-step
     abort-down t w = rw d
@@ -83,18 +95,27 @@ module _ (f : Form) (s : StateOf f) where
     unfolding open-step
     commit-unknown k = rw (l, u)
 
+    pub prepare-unknown : (k i : ℕ) → step f s (some (prepare t k i)) ≡ no 5
+    unfolding open-step
+    prepare-unknown k i = rw (l, u)
+
     pub abort-unknown : (w : Bool) → step f s (some (abort t w)) ≡ no 5
     unfolding open-step
     abort-unknown w = rw (l, u)
 
   module _ (t : ℕ) (u : s .up ≡ true) (l : live s t ≡ true) (n : hasChild s t ≡ false) where
-    pub lock-done : (r : ℕ) (a : Access) → grantable a (s .held) (s .retained) (lineOf (s .bearer) t) t r ≡ true → step f s (some (lock t r a)) ≡ finished (locked s t r a) 0
+    pub lock-done : (r : ℕ) (a : Access) → reserved f s r ≡ false → grantable a (s .held) (s .retained) (lineOf (s .bearer) t) t r ≡ true → step f s (some (lock t r a)) ≡ finished (locked s t r a) 0
     unfolding step refusal refusals firstOf act judged
-    lock-done r a g = rw (l, n, g, u)
+    lock-done r a open-to g = rw (open-to, l, n, g, u)
 
-    pub lock-refused : (r : ℕ) (a : Access) → grantable a (s .held) (s .retained) (lineOf (s .bearer) t) t r ≡ false → step f s (some (lock t r a)) ≡ no 8
+    pub lock-refused : (r : ℕ) (a : Access) → reserved f s r ≡ false → grantable a (s .held) (s .retained) (lineOf (s .bearer) t) t r ≡ false → step f s (some (lock t r a)) ≡ no 8
     unfolding step refusal refusals firstOf act judged
-    lock-refused r a g = rw (l, n, g, u)
+    lock-refused r a open-to g = rw (open-to, l, n, g, u)
+
+    -- a record that the prepared transaction changed
+    pub lock-reserved : (r : ℕ) (a : Access) → reserved f s r ≡ true → step f s (some (lock t r a)) ≡ no 8
+    unfolding step refusal refusals firstOf act judged
+    lock-reserved r a e = rw (e, l, n, u)
 
     pub read-done : (r o : ℕ) → holds s r t ≡ true → step f s (some (read t r o)) ≡ finished s (getD (visible f s t r) o 0)
     unfolding step refusal refusals firstOf act judged
@@ -113,9 +134,30 @@ module _ (f : Form) (s : StateOf f) where
     write-refused r o v h = rw (l, n, h, u)
 
   module _ (t : ℕ) (u : s .up ≡ true) (l : live s t ≡ true) where
-    pub commit-done : (k : ℕ) → hasChild s t ≡ false → step f s (some (commit t k)) ≡ commits f s t k (lineOf (s .bearer) t)
+    pub commit-done : (k : ℕ) → hasChild s t ≡ false → (isTop (lineOf (s .bearer) t) && (changes f s t && busy f s)) ≡ false → step f s (some (commit t k)) ≡ commits f s t k (lineOf (s .bearer) t)
     unfolding step refusal refusals firstOf act judged
-    commit-done k h = rw (l, h, u)
+    commit-done k h c = rw (l, h, c, u)
+
+    pub commit-busy : (k : ℕ) → hasChild s t ≡ false → (isTop (lineOf (s .bearer) t) && (changes f s t && busy f s)) ≡ true → step f s (some (commit t k)) ≡ no 13
+    unfolding step refusal refusals firstOf act judged
+    commit-busy k h c = rw (l, h, c, u)
+
+    pub prepare-children : (k i : ℕ) → hasChild s t ≡ true → step f s (some (prepare t k i)) ≡ no 10
+    unfolding step refusal refusals firstOf act judged
+    prepare-children k i h = rw (l, h, u)
+
+    pub prepare-busy : (k i : ℕ) → hasChild s t ≡ false → (changes f s t && busy f s) ≡ true → step f s (some (prepare t k i)) ≡ no 13
+    unfolding step refusal refusals firstOf act judged
+    prepare-busy k i h c = rw (l, h, c, u)
+
+    pub prepare-beneath : (k i : ℕ) → hasChild s t ≡ false → (changes f s t && busy f s) ≡ false → isTop (lineOf (s .bearer) t) ≡ false → step f s (some (prepare t k i)) ≡ no 27
+    unfolding step refusal refusals firstOf act judged
+    prepare-beneath k i h c b = rw (l, h, c, b, u)
+
+    pub prepare-done : (k i : ℕ) → hasChild s t ≡ false → (changes f s t && busy f s) ≡ false → isTop (lineOf (s .bearer) t) ≡ true
+        → step f s (some (prepare t k i)) ≡ commitsTop f s t (f .medium .prepare (s .store) (s .version t) i k)
+    unfolding step refusal refusals firstOf act judged
+    prepare-done k i h c b = rw (l, h, c, b, u)
 
     pub commit-refused : (k : ℕ) → hasChild s t ≡ true → step f s (some (commit t k)) ≡ no 10
     unfolding step refusal refusals firstOf act judged
@@ -142,6 +184,14 @@ module _ (f : Form) (s : StateOf f) where
       pub begin-done : all transactions (live s) ≡ false → step f s (some (begin p)) ≡ finished (begun s (firstFree s) p) (firstFree s)
       unfolding step refusal refusals firstOf act judged
       begin-done h = rw (a, d, h, u)
+
+  pub decide-done : (d : Bool) (k i : ℕ) → s .up ≡ true → step f s (some (decide d k i)) ≡ decides f s d k (isFor i (f .medium .prepared (s .store)))
+  unfolding step refusal refusals firstOf act judged
+  decide-done d k i u = rw u
+
+  pub query-done : (i : ℕ) → s .up ≡ true → step f s (some (query i)) ≡ finished s (cond (isFor i (f .medium .prepared (s .store))) 1 0)
+  unfolding step refusal refusals firstOf act judged
+  query-done i u = rw u
 
   pub crash-done : step f s (some crash) ≡ finished (down (s .store)) 0
   unfolding open-step

@@ -18,7 +18,7 @@ use Rattle.rules.specs.State.{Bearers, isActive, depthIn, lineOf, mem, isLock, 
 use Rattle.rules.specs.Locks.{grantable, granted}
 use Rattle.rules.specs.Versions.{isSome, withVersion}
 use Rattle.rules.specs.Step as rules
-use Rattle.rules.specs.Step.{done, refused, StateOf, OutcomeOf, numberOf, valueOf, locked, wrote, finished, visible, step}
+use Rattle.rules.specs.Step.{done, refused, reserved, StateOf, OutcomeOf, numberOf, valueOf, locked, wrote, finished, visible, step}
 use Rattle.rules.specs.Sound.{Sound}
 use Rattle.rules.specs.Editions.{edition1, depths, workBytes}
 use Rattle.rules.proofs.Locks.{rooted-of, version-live, line-apart}
@@ -127,7 +127,7 @@ module _ (x : Arrays) (I : Intact x) where
       go m (isnt q _ _) = let k = line-apart (I .sound) u t m q in let a = depth-of x u in let b = depth-of x t in absurd (omega arith)
 
   -- Locks.
-  module _ (q : Access) (t r : ℕ) (R : ReadyLeaf x t) (a : Bool) (held : List ℕ) (G : Granting q (sets (x .line) t) (x .held) (x .retained) t r a held) where
+  module _ (q : Access) (t r : ℕ) (R : ReadyLeaf x t) (open-to : reserved edition1 (view x) r ≡ false) (a : Bool) (held : List ℕ) (G : Granting q (sets (x .line) t) (x .held) (x .retained) t r a held) where
     abbrev y : Arrays
     y = record { up = x .up; parent = x .parent; depth = x .depth; line = x .line; held = held; retained = x .retained; writers = x .writers; work = x .work; store = x .store }
 
@@ -162,7 +162,7 @@ module _ (x : Arrays) (I : Intact x) where
     unfolding view locked
     lock-steps e =
         finishes x y (some (lock t r q)) (locked (view x) t r q) 0
-        (lock-done edition1 (view x) t (up-is x (R .ready .up)) (live-is x t (R .ready .live)) (R .childless) r q (sym grants ∙ e))
+        (lock-done edition1 (view x) t (up-is x (R .ready .up)) (live-is x t (R .ready .live)) (R .childless) r q open-to (sym grants ∙ e))
         (state-eq refl refl
         (ap modesOf (G .does ∙ ap (λ (b : Bool). cond b (joinedFor q t r (sets (x .held))) (sets (x .held))) e) ∙ joined-granted q (sets (x .held)) t r)
         refl refl refl) y-form
@@ -171,7 +171,7 @@ module _ (x : Arrays) (I : Intact x) where
     unfolding view saying numberOf valueOf
     lock-refuses e =
         stepped x y (some (lock t r q)) (view x) (refused 8) (answer 8 0)
-        (lock-refused edition1 (view x) t (up-is x (R .ready .up)) (live-is x t (R .ready .live)) (R .childless) r q (sym grants ∙ e))
+        (lock-refused edition1 (view x) t (up-is x (R .ready .up)) (live-is x t (R .ready .live)) (R .childless) r q open-to (sym grants ∙ e))
         (state-eq refl refl (ap modesOf (G .does ∙ ap (λ (b : Bool). cond b (joinedFor q t r (sets (x .held))) (sets (x .held))) e)) refl refl refl) refl y-form
 
   -- Reads.

@@ -6,15 +6,16 @@ use mathlib.Core.Option.{Option}
 use Prim.Native.Nat.{ℕ, _<_, _≤_}
 use lib.ListN.{getD, length}
 use Rattle.laws.specs.Tests.{same}
-use Rattle.rules.specs.Store.{pagesOf}
+use Rattle.rules.specs.Store.{pagesOf, readPrepared}
 use Rattle.rules.specs.Event.{Event}
 use Rattle.rules.specs.State.{Bearers, State, lineOf, mem}
 use Rattle.rules.specs.Step as rules
 use Rattle.rules.specs.Step.{Outcome, StateOf, hasChild, numberOf, valueOf, step}
 use Rattle.rules.specs.Sound.{Sound}
-use Rattle.rules.specs.Editions.{edition1, depths, workBytes}
+use Rattle.rules.specs.Editions.{geometry1, edition1, depths, workBytes}
 use Rattle.sets.specs.Sets.{sets}
 use Rattle.arrays.specs.View.{bearersOf, modesOf, Nested, versionsOf}
+use Rattle.commitpage.specs.Heard.{overheard}
 use Rattle.events.specs.declared.Answer.{Answer}
 
 -- up is 1, else the engine is down
@@ -89,3 +90,8 @@ pub record Ready (x : Arrays) (t : ℕ) : Type 0 where
 pub record ReadyLeaf (x : Arrays) (t : ℕ) : Type 0 where
   pub ready : Ready x t
   pub childless : hasChild (view x) t ≡ false
+
+-- What the store says of a prepared transaction, kept beside the arrays: the map of the records that it changed, 0 where none is prepared, and its
+-- identity.
+abbrev pub Reserves : List ℕ → ℕ → ℕ → Type 0
+Reserves store map identity = overheard (readPrepared geometry1 (pagesOf store 0)) ≡ record { map = map; identity = identity }

@@ -22,7 +22,7 @@ ghost use Rattle.arrays.specs.Changes.{accessWhen};
 ghost use Rattle.arrays.specs.Kin.{Kin};
 ghost use Rattle.slots.specs.Parts.{Sources};
 ghost use Rattle.numbers.specs.Named.{transactionOf, recordOf};
-ghost use Rattle.events.specs.Whole.{Arrays, arrays, view, Intact, Stepped, Ready, ReadyLeaf};
+ghost use Rattle.events.specs.Whole.{Arrays, arrays, view, Intact, Stepped, Ready, ReadyLeaf, Reserves};
 use numbers::RecordNumber;
 use numbers::TransactionNumber;
 
@@ -35,20 +35,27 @@ pub struct Answer {
 // Each event takes the arrays that it needs. It promises, for all content of the others, what the rules say. Locks, reads and writes are those of
 // a transaction without a live child.
 
-// A lock is asked for, to read beside others or to write: granted, or refused with 8.
+// A lock is asked for, to read beside others or to write: granted, or refused with 8, also where a prepared transaction changed the record.
 pub fn lock_event(
     line: &[u32; 24],
     held: &mut [u32; 32],
     retained: &[u32; 32],
+    reserved: u16,
     t: TransactionNumber,
     r: RecordNumber,
     reading: bool,
 ) -> Answer
     requires { ⌜ (length (now held) ≡ 32) ⌝ }
-    ensures { λ a. ⌜ ((up : ℕ) (parent depth writers work store : List ℕ) → Intact (arrays up parent depth (now (line .entry)) (now (held .entry)) (now (retained .entry)) writers work store) → ReadyLeaf (arrays up parent depth (now (line .entry)) (now (held .entry)) (now (retained .entry)) writers work store) (transactionOf t) → Stepped (arrays up parent depth (now (line .entry)) (now (held .entry)) (now (retained .entry)) writers work store) (some (lock (transactionOf t) (recordOf r) (accessWhen reading))) a (arrays up parent depth (now (line .entry)) (now (held .exit)) (now (retained .entry)) writers work store)) ⌝ }
+    ensures { λ a. ⌜ ((up identity : ℕ) (parent depth writers work store : List ℕ) → let before = arrays up parent depth (now (line .entry)) (now (held .entry)) (now (retained .entry)) writers work store in let after = arrays up parent depth (now (line .entry)) (now (held .exit)) (now (retained .entry)) writers work store in Intact before → ReadyLeaf before (transactionOf t) → Reserves store reserved identity → Stepped before (some (lock (transactionOf t) (recordOf r) (accessWhen reading))) a after) ⌝ }
 {
     let n = t.number();
     let q = r.index();
+    if commitpage::names(reserved, r.number()) {
+        return Answer {
+            number: 8,
+            value: 0,
+        };
+    }
     let ok = locks::lock(line, held, retained, n, q, reading);
     if ok {
         return Answer {

@@ -11,16 +11,16 @@ use Rattle.rules.specs.Calls.{Call, lents, left, AllPromised}
 use Rattle.rules.proofs.Medium.{MediumLaws}
 use Rattle.rules.proofs.Portions.{Carried, carried-start}
 use Rattle.rules.proofs.Calls.{AsChain, calls-chain}
-use Rattle.history.specs.History.{nothingYet, survives, overlaid}
-use Rattle.history.specs.Demand3.{Row, rows, history, Along, SameEvent, SameAnswer, settledIn}
+use Rattle.history.specs.History.{History, survives, overlaid}
+use Rattle.history.specs.Demand3.{Row, rows, history, Along, SameEvent, SameAnswer, settledIn, startOf}
 use Rattle.history.specs.Joined.{rowsJoined, historyJoined, Demand-3-joined-holds}
 use Rattle.history.specs.Called.{rowsCalled, historyCalled, Starts, Demand-3-called-holds}
 use Rattle.history.proofs.Joined.{demand-3-joined}
 
 -- of two lists of rows: like events have like answers, and then Z
-abbrev TwoRows : Geometry → List Row → List Row → Type 0 → Type 0
-TwoRows g a b Z = let final = survives (history g nothingYet a) in
-    Along g (SameEvent g final) nothingYet a b → Along g (SameAnswer g final) nothingYet a b × Z
+abbrev TwoRows : Geometry → History → List Row → List Row → Type 0 → Type 0
+TwoRows g h a b Z = let final = survives (history g h a) in
+    Along g (SameEvent g final) h a b → Along g (SameAnswer g final) h a b × Z
 
 module _ (f : Form) (M : MediumLaws (f .geometry) (f .medium)) {X : Type 0} (view : X → StateOf f) (bytes : X → List ℕ) (proper : X → Type 0) where
   abbrev found : StateOf f → Bool
@@ -44,22 +44,22 @@ module _ (f : Form) (M : MediumLaws (f .geometry) (f .medium)) {X : Type 0} (vie
   unfolding Demand-3-called-holds Demand-3-joined-holds historyCalled historyJoined
   demand-3-called x cs S P = record { surviving-writes = first; two-chains = second }
     where
-      first : (r : ℕ) → let h = historyCalled f cs in settledIn f (bytes (left x cs)) r ≡ overlaid (survives h) r (h .writes) (settledIn f (bytes x) r)
+      first : (r : ℕ) → let h = historyCalled f (bytes x) cs in settledIn f (bytes (left x cs)) r ≡ overlaid (survives h) r (h .writes) (settledIn f (bytes x) r)
       first r =
           settled-called x cs S P r
-          ∙ subst⁻¹ (λ (a : List Row). let h = history (f .geometry) nothingYet a in
+          ∙ subst⁻¹ (λ (a : List Row). let h = history (f .geometry) (startOf f (bytes x)) a in
           settledIn f (chainFrom f found (bytes x) (lents cs) .store) r ≡ overlaid (survives h) r (h .writes) (settledIn f (bytes x) r))
           (rows-called x cs S P) (demand-3-joined f M found (bytes x) (lents cs) (S .sized) .surviving-writes r)
 
       second : (y : X) (ds : List (Call X)) → Starts f view bytes proper y → bytes y ≡ bytes x → AllPromised f view bytes proper y ds
-          → let final = survives (historyCalled f cs) in
-          Along (f .geometry) (SameEvent (f .geometry) final) nothingYet (rowsCalled f cs) (rowsCalled f ds)
-          → Along (f .geometry) (SameAnswer (f .geometry) final) nothingYet (rowsCalled f cs) (rowsCalled f ds)
+          → let final = survives (historyCalled f (bytes x) cs) in
+          Along (f .geometry) (SameEvent (f .geometry) final) (startOf f (bytes x)) (rowsCalled f cs) (rowsCalled f ds)
+          → Along (f .geometry) (SameAnswer (f .geometry) final) (startOf f (bytes x)) (rowsCalled f cs) (rowsCalled f ds)
           × ((r : ℕ) → settledIn f (bytes (left y ds)) r ≡ settledIn f (bytes (left x cs)) r)
       second y ds T e Q E =
           let a = rows-called x cs S P in
           let b : rowsCalled f ds ≡ rowsJoined f found (bytes x) (lents ds) = rows-called y ds T Q ∙ ap (λ (bs : List ℕ). rowsJoined f found bs (lents ds)) e in
           let Z : Type 0 = (r : ℕ) → settledIn f (chainFrom f found (bytes x) (lents ds) .store) r ≡ settledIn f (chainFrom f found (bytes x) (lents cs) .store) r in
-          let R = subst⁻¹ (λ (a′ : List Row). TwoRows (f .geometry) a′ (rowsCalled f ds) Z) a
-          (subst⁻¹ (λ (b′ : List Row). TwoRows (f .geometry) (rowsJoined f found (bytes x) (lents cs)) b′ Z) b (demand-3-joined f M found (bytes x) (lents cs) (S .sized) .two-chains (lents ds))) E in
+          let R = subst⁻¹ (λ (a′ : List Row). TwoRows (f .geometry) (startOf f (bytes x)) a′ (rowsCalled f ds) Z) a
+          (subst⁻¹ (λ (b′ : List Row). TwoRows (f .geometry) (startOf f (bytes x)) (rowsJoined f found (bytes x) (lents cs)) b′ Z) b (demand-3-joined f M found (bytes x) (lents cs) (S .sized) .two-chains (lents ds))) E in
           (R .0, λ r. settled-called y ds T Q r ∙ ap (λ (bs : List ℕ). settledIn f (chainFrom f found bs (lents ds) .store) r) e ∙ R .1 r ∙ sym (settled-called x cs S P r))

@@ -8,8 +8,9 @@ use lib.ListN.{length}
 use Rattle.laws.specs.Tests.{same}
 use Rattle.laws.proofs.Booleans.{and-left, and-right, clash}
 use Rattle.laws.proofs.Tests.{Is, is?, yes′, no′}
+use Rattle.rules.specs.Geometry.{records}
 use Rattle.rules.specs.Store.{Page}
-use Rattle.rules.specs.Event.{Event, begin, lock, write, read, commit, abort, crash, recover, decode}
+use Rattle.rules.specs.Event.{Event, begin, lock, write, read, commit, abort, crash, recover, prepare, decide, query, decode}
 use Rattle.rules.specs.State.{lineOf, live, down}
 use Rattle.rules.specs.Versions.{isSome}
 use Rattle.rules.specs.Commit.{Cut}
@@ -21,15 +22,16 @@ use Rattle.rules.proofs.Acceptance.{Judged, acts, refuses, judge?}
 use Rattle.rules.proofs.Locks.{rooted-of, tree-of}
 use Rattle.rules.proofs.Soundness.{Reached, reached-start, reached-play}
 use Rattle.rules.proofs.Portions.{play-append}
-use Rattle.history.specs.History.{History, nothingYet, standsWith, writesTo, overlaid}
-use Rattle.history.specs.Demand3.{rows, settledIn}
+use Rattle.history.specs.History.{History, standsWith, writesTo, overlaid}
+use Rattle.history.specs.Demand3.{rows, settledIn, startOf}
 use Rattle.history.specs.Claims.{seenBy, isRestart, restarts, stateAfter, historyAfter, Reads-overlay, Commit-survives}
 use Rattle.history.proofs.Overlay.{overlaid-pick, writesTo-pick}
-use Rattle.history.proofs.Roots.{Root, lost}
+use Rattle.history.proofs.Roots.{Root}
 use Rattle.history.proofs.Data.{reads-is}
 use Rattle.history.proofs.Table.{stands-is, seen-is}
 use Rattle.history.proofs.Invariant.{now, Holds, After}
-use Rattle.history.proofs.Runs.{stepOf, rowsFrom, rows-are, future, run-after, start-holds, settled-is}
+use Rattle.history.proofs.Runs.{stepOf, rowsFrom, rows-are, future, run-after, settled-is}
+use Rattle.history.proofs.Starts.{startRoot, start-holds}
 
 -- the rows of a list, from its answers
 pub rows-played : (f : Form) (s : StateOf f) (ws : List ℕ) → rows ws (answerBytes (play f s ws .answers)) ≡ rowsFrom f s ws
@@ -64,8 +66,8 @@ module _ (f : Form) (M : MediumLaws (f .geometry) (f .medium)) where
     abbrev s₀ : StateOf f
     s₀ = down (f .medium .fromBytes store)
 
-    ran : After f (settledIn f store) (stateAfter f store ws) nothingYet (historyAfter f store ws) (λ i. lost) (future f s₀ ws)
-    unfolding settledIn stateAfter historyAfter
+    ran : After f (settledIn f store) (stateAfter f store ws) (startOf f store) (historyAfter f store ws) (startRoot (records (f .geometry)) (f .medium .pending (f .medium .fromBytes store))) (future f s₀ ws)
+    unfolding settledIn stateAfter historyAfter startOf
     ran = rw (rows-played f s₀ ws) (run-after f M ws (reached-start f M store sized) (start-holds f M (f .medium .fromBytes store)))
 
     reached : Reached f M (stateAfter f store ws)
@@ -89,6 +91,9 @@ module _ (f : Form) (M : MediumLaws (f .geometry) (f .medium)) where
   act-settled s (read t q o) k r = absurd (false≢true k)
   act-settled s (commit t n) k r = absurd (false≢true k)
   act-settled s (abort t w) k r = absurd (false≢true k)
+  act-settled s (prepare t n i) k r = absurd (false≢true k)
+  act-settled s (decide d n i) k r = absurd (false≢true k)
+  act-settled s (query i) k r = absurd (false≢true k)
   act-settled s crash k r = refl
   act-settled s (recover n) k r = go (f .medium .recover (s .store) n .crashed)
     where

@@ -16,7 +16,7 @@ use Rattle.rules.proofs.Tree.{Good, Lines}
 use Rattle.rules.proofs.Owners.{is-also}
 use Rattle.history.specs.History.{Write, writesTo, overlaid}
 use Rattle.history.proofs.Overlay.{overlaid-or, writesTo-or, writesTo-none, overlaid-pick, writesTo-pick, overlaid-fresh, writesTo-fresh}
-use Rattle.history.proofs.Roots.{Root, settled, lost, at, isSettled, isAt, sees, move, lose, sees-nil, sees-cons, gains, stays, moved-away, moved-to, moved-past}
+use Rattle.history.proofs.Roots.{Root, settled, lost, waiting, at, isSettled, isAt, sees, move, lose, sees-nil, sees-cons, gains, stays, moved-away, moved-to, moved-past}
 
 pub record Data (line : Lines) (ver : Versions) (now : ℕ → Page) (start : ℕ → Page) (root : ℕ → Root) (ws : List Write) : Type 0 where
   pub on-store : (r : ℕ) → now r ≡ overlaid (λ i. isSettled (root i)) r ws (start r)
@@ -56,7 +56,7 @@ module _ {line : Lines} {ver : Versions} {now start : ℕ → Page} {root : ℕ 
   new = set (nearest ver (now x) x (line a)) o v
 
   abbrev w : Write
-  w = record { transaction = i; rec = x; offset = o; value = v }
+  w = record { transaction = i; rec = x; laid = λ page. set page o v }
 
   write-version : (j r : ℕ) (p : Page) → Same j a → Same r x → withVersion a x new ver j r ≡ some p → p ≡ overlaid (λ k. sees (line j) (root k)) r (w ∷ ws) (start r)
   unfolding open-state open-versions writesTo overlaid
@@ -125,6 +125,7 @@ module _ {line : Lines} {ver : Versions} {now start : ℕ → Page} {root : ℕ 
   unfolding open-state open-versions writesTo overlaid
   store-same settled = refl
   store-same lost = refl
+  store-same waiting = refl
   store-same (at a) = go (same a x)
     where
       go : (b : Bool) → false ≡ isSettled (cond b (at y) (at a))
@@ -158,6 +159,14 @@ module _ {line : Lines} {ver : Versions} {now start : ℕ → Page} {root : ℕ 
     on-wrote = λ j r. child-wrote j r (same? j x) (same? j y);
   }
 
+-- the version of another than x, which ends, where the writes of x go to t
+pub kept-version : {line : Lines} {ver : Versions} {now start : ℕ → Page} {root : ℕ → Root} {ws : List Write} (D : Data line ver now start root ws)
+    (x : ℕ) (t : Root) (leaf : (z : ℕ) → z ≢ x → mem x (line z) ≡ false) (j r : ℕ) (p : Page) → Same j x → gone x ver j r ≡ some p
+    → (isSome (ver x r) ≡ true → j ≢ x → sees (line j) t ≡ false) → p ≡ overlaid (λ i. sees (ends x line j) (move x t (root i))) r ws (start r)
+unfolding open-state open-versions writesTo overlaid
+kept-version D x t leaf j r p (is e s _) h apart = none-some (rw s at h)
+kept-version {ver = ver} D x t leaf j r p (isnt e s _) h apart = rw s (let k : ver j r ≡ some p = rw s at h in other D x t leaf j r p e k (λ v. apart v e))
+
 -- a top transaction x commits, and its commit record is stored
 module _ {line : Lines} {ver : Versions} {now start : ℕ → Page} {root : ℕ → Root} {ws : List Write} (D : Data line ver now start root ws)
     (x : ℕ) (leaf : (z : ℕ) → z ≢ x → mem x (line z) ≡ false) (top : line x ≡ x ∷ [])
@@ -166,6 +175,7 @@ module _ {line : Lines} {ver : Versions} {now start : ℕ → Page} {root : ℕ 
   unfolding open-state open-versions writesTo overlaid
   store-gains settled = refl
   store-gains lost = refl
+  store-gains waiting = refl
   store-gains (at a) = go (same a x)
     where
       go : (b : Bool) → (b || false) ≡ isSettled (cond b settled (at a))
@@ -180,11 +190,13 @@ module _ {line : Lines} {ver : Versions} {now start : ℕ → Page} {root : ℕ 
       go none e = D .on-store r ∙ sym (quiet D x r (λ i. isSettled (root i)) e)
       go (some u) e = D .on-version x r u e ∙ overlaid-pick r ws (start r) (λ i. rw top (sym (sees-cons x [] (root i)) ∙ ap (λ b. isAt x (root i) || b) (sym (sees-nil (root i)))))
 
-  top-version : (j r : ℕ) (p : Page) → Same j x → gone x ver j r ≡ some p → p ≡ overlaid (λ i. sees (ends x line j) (root′ D x settled leaf i)) r ws (start r)
-  unfolding open-state open-versions writesTo overlaid
-  top-version j r p (is e s _) h = none-some (rw s at h)
-  top-version j r p (isnt e s _) h = rw s (let k : ver j r ≡ some p = rw s at h in
-      other D x settled leaf j r p e k (λ v. absurd (apart j r e v (ap isSome k))))
+  top-version : (j r : ℕ) (p : Page) → gone x ver j r ≡ some p → p ≡ overlaid (λ i. sees (ends x line j) (move x settled (root i))) r ws (start r)
+  unfolding open-state open-versions
+  top-version j r p h = kept-version D x settled leaf j r p (same? j x) h (λ v n. absurd (apart j r n v (had (same? j x))))
+    where
+      had : Same j x → isSome (ver j r) ≡ true
+      had (is e s _) = none-some (rw s at h)
+      had (isnt e s _) = ap isSome (rw s at h)
 
   top-wrote : (j r : ℕ) → Same j x → isSome (gone x ver j r) ≡ writesTo (λ i. isAt j (root′ D x settled leaf i)) r ws
   unfolding open-state open-versions writesTo overlaid
@@ -193,7 +205,7 @@ module _ {line : Lines} {ver : Versions} {now start : ℕ → Page} {root : ℕ 
 
   pub top-data : Data (ends x line) (gone x ver) (λ r. else (ver x r) (now r)) start (λ i. move x settled (root i)) ws
   unfolding open-state open-versions writesTo overlaid
-  top-data = record { on-store = top-store; on-version = λ j r p h. top-version j r p (same? j x) h; on-wrote = λ j r. top-wrote j r (same? j x) }
+  top-data = record { on-store = top-store; on-version = top-version; on-wrote = λ j r. top-wrote j r (same? j x) }
 
 -- those that `dead` picks end, and their writes are lost
 module _ {line : Lines} {ver : Versions} {now start : ℕ → Page} {root : ℕ → Root} {ws : List Write} (D : Data line ver now start root ws)
@@ -205,6 +217,7 @@ module _ {line : Lines} {ver : Versions} {now start : ℕ → Page} {root : ℕ 
   unfolding open-state open-versions writesTo overlaid
   lose-store settled = refl
   lose-store lost = refl
+  lose-store waiting = refl
   lose-store (at a) = go (dead a)
     where
       go : (b : Bool) → false ≡ isSettled (cond b lost (at a))
@@ -215,6 +228,7 @@ module _ {line : Lines} {ver : Versions} {now start : ℕ → Page} {root : ℕ 
   unfolding open-state open-versions writesTo overlaid
   lose-sees z settled n = refl
   lose-sees z lost n = refl
+  lose-sees z waiting n = refl
   lose-sees z (at a) n = go (is? (dead a))
     where
       go : Is (dead a) → mem a (line z) ≡ sees (line z) (lose dead (at a))
@@ -227,6 +241,8 @@ module _ {line : Lines} {ver : Versions} {now start : ℕ → Page} {root : ℕ 
   lose-at z settled (no′ d) = rw d
   lose-at z lost (yes′ d) = rw d
   lose-at z lost (no′ d) = rw d
+  lose-at z waiting (yes′ d) = rw d
+  lose-at z waiting (no′ d) = rw d
   lose-at z (at a) d = go (same? a z) d (is? (dead a))
     where
       go : Same a z → Is (dead z) → Is (dead a) → cond (dead z) false (same a z) ≡ isAt z (lose dead (at a))

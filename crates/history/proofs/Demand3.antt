@@ -10,7 +10,7 @@ use lib.ListN.{length, drop}
 use Rattle.laws.specs.Tests.{same}
 use Rattle.laws.proofs.Tests.{same-eq}
 use Rattle.laws.proofs.Booleans.{not-false}
-use Rattle.rules.specs.Geometry.{Geometry}
+use Rattle.rules.specs.Geometry.{Geometry, records}
 use Rattle.rules.specs.State.{down}
 use Rattle.rules.specs.Form.{Form}
 use Rattle.rules.specs.Step.{StateOf, firstOf}
@@ -23,10 +23,10 @@ use Rattle.rules.proofs.Acceptance.{pass}
 use Rattle.rules.proofs.Portions.{first-lacks}
 use Rattle.rules.proofs.Soundness.{Reached, reached-start, reached-play}
 use Rattle.history.specs.History.{History, nothingYet, survives, overlaid}
-use Rattle.history.specs.Demand3.{Row, history, Along, SameEvent, SameAnswer, settledIn, Plays, rowsOf, historyOf, Demand-3-holds}
-use Rattle.history.proofs.Roots.{lost}
+use Rattle.history.specs.Demand3.{Row, history, Along, SameEvent, SameAnswer, settledIn, startOf, Plays, rowsOf, historyOf, Demand-3-holds}
 use Rattle.history.proofs.Invariant.{now, After}
-use Rattle.history.proofs.Runs.{rowsFrom, rows-are, future, run-after, start-holds, settled-is}
+use Rattle.history.proofs.Runs.{rowsFrom, rows-are, future, run-after, settled-is}
+use Rattle.history.proofs.Starts.{startRoot, start-holds, plain-start}
 use Rattle.history.proofs.TwoRuns.{twice}
 
 module _ (f : Form) where
@@ -49,6 +49,11 @@ module _ (f : Form) where
       go none q h = (ap (runBy f store events answers) q, none-sized store events work answers q)
       go (some n) q h = absurd (not-zero store events work answers (q ∙ ap some h))
 
+-- where none is prepared in the start store the history begins with nothing, and demand 3 says what it says without prepared transactions
+pub plain-store : (f : Form) → MediumLaws (f .geometry) (f .medium) → (store : List ℕ) → f .medium .prepared (f .medium .fromBytes store) ≡ none → startOf f store ≡ nothingYet
+unfolding startOf
+plain-store f M store e = plain-start (records (f .geometry)) (f .medium .pending (f .medium .fromBytes store)) (λ r. M .free-pending (f .medium .fromBytes store) r e)
+
 module _ (f : Form) (M : MediumLaws (f .geometry) (f .medium)) where
   abbrev g : Geometry
   g = f .geometry
@@ -68,7 +73,7 @@ module _ (f : Form) (M : MediumLaws (f .geometry) (f .medium)) where
     unfolding rowsOf runAll
     rows-of = rw (plays-all f store events work answers P .0) (rows-are f (start store) (wordsOf events) (drop (2 * eventsIn f events) answers))
 
-    history-of : historyOf f store events work answers ≡ history g nothingYet (rowsFrom f (start store) (wordsOf events))
+    history-of : historyOf f store events work answers ≡ history g (startOf f store) (rowsFrom f (start store) (wordsOf events))
     unfolding historyOf
     history-of = rw rows-of
 
@@ -77,28 +82,29 @@ module _ (f : Form) (M : MediumLaws (f .geometry) (f .medium)) where
     settled-at-end r = rw (plays-all f store events work answers P .0)
         (ap (λ (s : f .medium .Store). f .medium .settled s r) (M .from-to _ (reached-play f M (start store) reached (wordsOf events) .shaped)))
 
-    ran : After f (f .medium .settled (f .medium .fromBytes store)) (play f (start store) (wordsOf events) .state) nothingYet (history g nothingYet (rowsFrom f (start store) (wordsOf events))) (λ i. lost) (future f (start store) (wordsOf events))
+    ran : After f (f .medium .settled (f .medium .fromBytes store)) (play f (start store) (wordsOf events) .state) (startOf f store) (history g (startOf f store) (rowsFrom f (start store) (wordsOf events))) (startRoot (records g) (f .medium .pending (f .medium .fromBytes store))) (future f (start store) (wordsOf events))
+    unfolding startOf
     ran = run-after f M (wordsOf events) reached (start-holds f M (f .medium .fromBytes store))
 
   -- two lists of words from one start
-  words-twice : (final : ℕ → Bool) (store ws us : List ℕ) → Reached f M (start store) → ((i : ℕ) → final i ≡ survives (history g nothingYet (rowsFrom f (start store) ws)) i)
-      → Along g (SameEvent g final) nothingYet (rowsFrom f (start store) ws) (rowsFrom f (start store) us)
-      → Along g (SameAnswer g final) nothingYet (rowsFrom f (start store) ws) (rowsFrom f (start store) us) × M .Agree (play f (start store) ws .state .store) (play f (start store) us .state .store)
-  unfolding down
+  words-twice : (final : ℕ → Bool) (store ws us : List ℕ) → Reached f M (start store) → ((i : ℕ) → final i ≡ survives (history g (startOf f store) (rowsFrom f (start store) ws)) i)
+      → Along g (SameEvent g final) (startOf f store) (rowsFrom f (start store) ws) (rowsFrom f (start store) us)
+      → Along g (SameAnswer g final) (startOf f store) (rowsFrom f (start store) ws) (rowsFrom f (start store) us) × M .Agree (play f (start store) ws .state .store) (play f (start store) us .state .store)
+  unfolding down startOf
   words-twice final store ws us R K E =
       let d = f .medium .fromBytes store in
-      twice f M final R (start-holds f M d) (λ j r. none) d ws us K (record { shape = λ j r. refl; alike = λ j r e. refl; stores = M .agree-refl d }) E
+      twice f M final R (start-holds f M d) (λ j r. none) d ws us K (record { shape = λ j r. refl; alike = λ j r e. refl; stores = M .agree-refl d; waits = λ z r. refl }) E
 
   -- the same, of any rows that are theirs: of a whole run, and of portions
   pub list-runs : (store ws us : List ℕ) → Reached f M (start store) → {a b : List Row} → a ≡ rowsFrom f (start store) ws → b ≡ rowsFrom f (start store) us
-      → let final = survives (history g nothingYet a) in Along g (SameEvent g final) nothingYet a b
-      → Along g (SameAnswer g final) nothingYet a b × ((r : ℕ) → now f (play f (start store) us .state) r ≡ now f (play f (start store) ws .state) r)
+      → let final = survives (history g (startOf f store) a) in Along g (SameEvent g final) (startOf f store) a b
+      → Along g (SameAnswer g final) (startOf f store) a b × ((r : ℕ) → now f (play f (start store) us .state) r ≡ now f (play f (start store) ws .state) r)
   list-runs store ws us R {a} {b} p q E =
-      let final = survives (history g nothingYet a) in
-      let T = words-twice final store ws us R (λ i. ap (λ (x : List Row). survives (history g nothingYet x) i) p)
-      (subst (λ (y : List Row). Along g (SameEvent g final) nothingYet (rowsFrom f (start store) ws) y) q (subst (λ (x : List Row). Along g (SameEvent g final) nothingYet x b) p E)) in (
-        subst⁻¹ (λ (x : List Row). Along g (SameAnswer g final) nothingYet x b) p
-            (subst⁻¹ (λ (y : List Row). Along g (SameAnswer g final) nothingYet (rowsFrom f (start store) ws) y) q (T .0)),
+      let final = survives (history g (startOf f store) a) in
+      let T = words-twice final store ws us R (λ i. ap (λ (x : List Row). survives (history g (startOf f store) x) i) p)
+      (subst (λ (y : List Row). Along g (SameEvent g final) (startOf f store) (rowsFrom f (start store) ws) y) q (subst (λ (x : List Row). Along g (SameEvent g final) (startOf f store) x b) p E)) in (
+        subst⁻¹ (λ (x : List Row). Along g (SameAnswer g final) (startOf f store) x b) p
+            (subst⁻¹ (λ (y : List Row). Along g (SameAnswer g final) (startOf f store) (rowsFrom f (start store) ws) y) q (T .0)),
         λ r. M .agree-settled _ _ (T .1) r,
       )
 
@@ -121,8 +127,8 @@ module _ (f : Form) (M : MediumLaws (f .geometry) (f .medium)) where
           → let final = survives (historyOf f store events work answers) in
           let a = rowsOf f store events work answers in
           let b = rowsOf f store events′ work′ answers′ in
-          Along g (SameEvent g final) nothingYet a b
-          → Along g (SameAnswer g final) nothingYet a b
+          Along g (SameEvent g final) (startOf f store) a b
+          → Along g (SameAnswer g final) (startOf f store) a b
           × ((r : ℕ) → settledIn f (run f store events′ work′ answers′ .store) r ≡ settledIn f (run f store events work answers .store) r)
       second events′ work′ answers′ P′ E =
           let T = list-runs store (wordsOf events) (wordsOf events′) (reached store events work answers P) (rows-of store events work answers P) (rows-of store events′ work′ answers′ P′) E in

@@ -19,8 +19,8 @@ use Rattle.rules.specs.Step.{open-step}
 use Rattle.rules.specs.Run.{open-run}
 use Rattle.rules.specs.Portion.{Lent, open-portion}
 use Rattle.rules.specs.Editions.{geometry1, edition1, workBytes}
-use Rattle.history.specs.History.{nothingYet, survives, open-history}
-use Rattle.history.specs.Demand3.{Along, SameEvent, same-word, other-value, Plays, rowsOf, historyOf, open-demand}
+use Rattle.history.specs.History.{survives, open-history}
+use Rattle.history.specs.Demand3.{Along, SameEvent, same-word, other-value, startOf, Plays, rowsOf, historyOf, open-demand}
 use Rattle.history.specs.Joined.{rowsJoined, historyJoined, open-joined}
 
 abbrev spelled : List ℕ → List ℕ
@@ -36,7 +36,7 @@ events v = spelled (
 abbrev store : List ℕ
 store = edition1 .medium .toBytes (edition1 .medium .fresh)
 
-pub example : Along geometry1 (SameEvent geometry1 (survives (historyOf edition1 store (events 0x30988011) (replicate workBytes 0) (replicate 32 0)))) nothingYet
+pub example : Along geometry1 (SameEvent geometry1 (survives (historyOf edition1 store (events 0x30988011) (replicate workBytes 0) (replicate 32 0)))) (startOf edition1 store)
     (rowsOf edition1 store (events 0x30988011) (replicate workBytes 0) (replicate 32 0)) (rowsOf edition1 store (events 0x309880EE) (replicate workBytes 0) (replicate 32 0))
 unfolding open-tests open-counting open-functions open-bytes open-geometry open-store open-event open-state open-locks open-versions open-commit open-step open-run open-history open-demand
 example = (
@@ -83,7 +83,7 @@ inTwo = lent (0x80003F00 ∷ 0x1F800000 ∷ []) ∷ lent (0x20180000 ∷ 0x30188
 abbrev inOne : List Lent
 inOne = lent (0x80003F00 ∷ 0x1F800000 ∷ 0x20180000 ∷ 0x301880EE ∷ []) ∷ []
 
-pub joined-example : Along geometry1 (SameEvent geometry1 (survives (historyJoined edition1 (λ s. true) store inTwo))) nothingYet
+pub joined-example : Along geometry1 (SameEvent geometry1 (survives (historyJoined edition1 (λ s. true) store inTwo))) (startOf edition1 store)
     (rowsJoined edition1 (λ s. true) store inTwo) (rowsJoined edition1 (λ s. true) store inOne)
 unfolding open-tests open-counting open-functions open-bytes open-geometry open-store open-event open-state open-locks open-versions open-commit open-step open-run open-history open-demand open-portion open-joined
 joined-example = (same-word refl, (same-word refl, (same-word refl, (other-value 0 3 2 17 238 refl refl refl refl, tt))))

@@ -9,22 +9,22 @@ use Prim.Native.Nat.{ℕ}
 use Rattle.laws.specs.Tests.{same, under}
 use Rattle.laws.proofs.Tests.{same?, Same, is, isnt, ne-false, Is, is?, yes′, no′}
 use Rattle.laws.proofs.Booleans.{clash}
-use Rattle.rules.specs.Event.{Event, begin, lock, write, read, commit, abort, crash, recover, decode}
+use Rattle.rules.specs.Event.{Event, begin, lock, write, read, commit, abort, crash, recover, prepare, decide, query, decode}
 use Rattle.rules.specs.State.{free, lineOf, mem, live, down, open-state}
 use Rattle.rules.specs.Commit.{Cut}
 use Rattle.rules.specs.Form.{Form}
-use Rattle.rules.specs.Step.{StateOf, OutcomeOf, firstFree, begun, locked, wrote, ended as endedState, passed, retaining, aborted, raised, concluded, finished, refusal, commitsTop, commitsChild, commits, recovers, act, step}
+use Rattle.rules.specs.Step.{isFor, isTop, valueOf, decides, StateOf, OutcomeOf, firstFree, begun, locked, wrote, ended as endedState, passed, retaining, aborted, raised, concluded, finished, refusal, commitsTop, commitsChild, commits, recovers, act, step}
 use Rattle.rules.specs.Sound.{Sound}
 use Rattle.rules.proofs.Tree.{Lines, isCons, mem-cons}
 use Rattle.rules.proofs.Bearers.{endedIn, begun-line, ended-line}
 use Rattle.rules.proofs.Medium.{MediumLaws}
-use Rattle.rules.proofs.Acceptance.{CommitOk, begin-ok, commit-ok, Judged, acts, refuses, judge?}
+use Rattle.rules.proofs.Acceptance.{CommitOk, PrepareOk, begin-ok, commit-ok, prepare-ok, Judged, acts, refuses, judge?}
 use Rattle.rules.proofs.Locks.{ChildOf, rooted-of, beneath-closed, live-line, no-child, top-line, child-line}
 use Rattle.rules.proofs.Soundness.{Reached, reached-word, alone-closed}
-use Rattle.history.specs.History.{suffices}
-use Rattle.history.proofs.Roots.{Root, settled, lost, at, move, lose, allLost, lost≢settled, at≢settled}
+use Rattle.history.specs.History.{suffices, isWhole}
+use Rattle.history.proofs.Roots.{Root, settled, lost, waiting, at, move, lose, allLost, resolve, lost≢settled, at≢settled}
 use Rattle.history.proofs.Tells.{topTurn}
-use Rattle.history.proofs.Invariant.{commitTurn, answered, turn, changedOf}
+use Rattle.history.proofs.Invariant.{commitTurn, prepareTurn, decideTurn, answered, turn, changedOf}
 use Rattle.history.proofs.Runs.{stepOf, future}
 
 -- φ tells of each label what it becomes
@@ -58,6 +58,14 @@ fair-move {line} {φ} x t leaf onward F = record { on-settled = F .on-settled; o
     go j y m e (is p s _) (isnt q k _) = rw k (onward y q (rw p at m) (rw s at e))
     go j y m e (isnt p s _) (is q k _) = clash (rw q at m) (leaf j p)
     go j y m e (isnt p s _) (isnt q k _) = rw k (F .upward j y (rw s m) (rw s at e))
+
+-- a decision
+fair-resolve : {line : Lines} {φ : Root → Root} (d : Bool) → Fair line φ → Fair line (λ c. φ (resolve d c))
+fair-resolve d F = record { on-settled = F .on-settled; on-lost = F .on-lost; upward = F .upward }
+
+fair-decided : {line : Lines} {φ : Root → Root} (d none-made : Bool) → Fair line φ → Fair line (λ c. φ (decideTurn d none-made c))
+fair-decided d true F = F
+fair-decided d false F = fair-resolve d F
 
 module _ (f : Form) {s : StateOf f} (S : Sound f s) (φ : Root → Root) where
   abbrev line : Lines
@@ -128,6 +136,39 @@ module _ (f : Form) {s : StateOf f} (S : Sound f s) (φ : Root → Root) where
     fair-commit k (a ∷ []) q F = fair-top a (f .medium .commit (s .store) (s .version x) k) (top-line S x a q) F
     fair-commit k (a ∷ y ∷ l) q F = fair-child a y l q F
 
+  -- a prepare of x
+  fair-prepare : (x k i : ℕ) (ok : PrepareOk f s x) (c : Cut (f .medium .Store)) → Keeps (prepare x k i) (commitsTop f s x c)
+  unfolding commitsTop concluded endedState down isWhole isTop
+  fair-prepare x k i ok c F = go (c .crashed) F
+    where
+      C : CommitOk s x
+      C = ok .as-commit
+
+      top : (l : List ℕ) → line x ≡ l → isTop l ≡ true → line x ≡ x ∷ []
+      top [] q h = clash (C .alive) (live-line S x ∙ ap isCons q)
+      top (a ∷ []) q h = top-line S x a q
+      top (a ∷ y ∷ l) q h = absurd (true≢false (sym h))
+
+      whole : (unchanged : Bool) → Fair (λ j. cond (same j x) [] (line j)) φ → Fair line (λ r. φ (prepareTurn x true unchanged r))
+      whole true F′ = fair-move x settled (leaf x C) (λ y n m e. absurd (alone x C (top (line x) refl (ok .top)) y n m)) F′
+      whole false F′ = fair-move x waiting (leaf x C) (λ y n m e. absurd (alone x C (top (line x) refl (ok .top)) y n m)) F′
+
+      go : (b : Bool) → Keeps (prepare x k i) (concluded (endedState s (λ j. same j x) (c .store)) c b)
+      go true F = fair-cut x C false (top (line x) refl (ok .top)) F
+      go false F = whole (same (changedOf f s x) 0) (fair-ended (λ j. same j x) (alone-closed S x C) F)
+
+  fair-decide : (d : Bool) (k i : ℕ) (b : Bool) → Keeps (decide d k i) (decides f s d k b)
+  unfolding decides finished recovers concluded raised down valueOf
+  fair-decide d k i false F = fair-decided d (same 0 0) F
+  fair-decide d k i true F = go (c .crashed) F
+    where
+      c : Cut (f .medium .Store)
+      c = f .medium .decide (s .store) d k
+
+      go : (b : Bool) → Keeps (decide d k i) (concluded (raised s (c .store)) c b)
+      go true F = fair-decided {φ = λ r. φ (allLost r)} d (same (c .made) 0) (fair-down F)
+      go false F = fair-decided d (same (c .made) 0) F
+
   fair-act : (e : Event) → refusal f s e ≡ none → Keeps e (act f s e)
   unfolding act finished locked wrote endedState retaining aborted down firstFree
   fair-act (begin p) q F = fair-begin p (firstFree s) (begin-ok f s p q .unborne) F
@@ -138,6 +179,9 @@ module _ (f : Form) {s : StateOf f} (S : Sound f s) (φ : Root → Root) where
   fair-act (abort x w) q F = fair-lose (λ j. mem x (line j)) (beneath-closed S x) (fair-ended (λ j. mem x (line j)) (beneath-closed S x) F)
   fair-act crash q F = fair-down F
   fair-act (recover k) q F = fair-recover k F
+  fair-act (prepare x k i) q F = fair-prepare x k i (prepare-ok f s x k i q) (f .medium .prepare (s .store) (s .version x) i k) F
+  fair-act (decide d k i) q F = fair-decide d k i (isFor i (f .medium .prepared (s .store))) F
+  fair-act (query i) q F = F
 
   pub fair-step : (e : Option Event) → Fair (lineOf (step f s e .state .bearer)) φ → Fair line (λ c. φ (turn f s e (step f s e .answer) c))
   unfolding step

@@ -1,6 +1,6 @@
 -- The invariant of a run: what the history tells holds of the state. Every event keeps it, and turns the labels as it turns the transactions.
 use mathlib.Core.Path.{_≡_, refl, sym, ap, subst⁻¹, _∙_, fun-ext}
-use mathlib.Core.Bool.{Bool, true, false, cond, true≢false}
+use mathlib.Core.Bool.{Bool, true, false, cond, _&&_, true≢false, false≢true}
 use mathlib.Core.List.{List, [], _∷_}
 use mathlib.Core.Logic.{_≢_}
 use mathlib.Core.Option.{Option, none, some}
@@ -10,35 +10,62 @@ use lib.ListN.{set}
 use Rattle.laws.specs.Tests.{same, under}
 use Rattle.laws.specs.Counting.{count}
 use Rattle.laws.specs.Functions.{updated}
-use Rattle.laws.proofs.Tests.{same-refl, ne-false}
-use Rattle.laws.proofs.Booleans.{or-right, refute, clash}
-use Rattle.rules.specs.Geometry.{records, transactions, nobody}
+use Rattle.laws.proofs.Tests.{same?, Same, is, isnt, same-eq, same-refl, ne-false}
+use Rattle.laws.proofs.Booleans.{or-cases, or-right, refute, clash}
+use Rattle.laws.proofs.Those.{count-zero}
+use Rattle.rules.specs.Geometry.{Geometry, records, transactions, nobody}
 use Rattle.rules.specs.Store.{Page}
-use Rattle.rules.specs.Event.{Event, begin, lock, write, read, commit, abort, crash, recover}
+use Rattle.rules.specs.Event.{Event, begin, lock, write, read, commit, abort, crash, recover, prepare, decide, query, decode, fits}
 use Rattle.rules.specs.State.{isActive, lineOf, mem, live, down}
-use Rattle.rules.specs.Versions.{isSome}
+use Rattle.rules.specs.Versions.{isSome, else}
 use Rattle.rules.specs.Commit.{Cut}
 use Rattle.rules.specs.Form.{Form}
-use Rattle.rules.specs.Step.{Answer, done, refused, cut, valueOf, StateOf, OutcomeOf, firstFree, begun, locked, wrote, ended as endedState, passed, retaining, aborted, raised, concluded, finished, visible, refusal, commitsTop, commitsChild, commits, recovers, act, step}
+use Rattle.rules.specs.Step.{Answer, done, refused, cut, valueOf, isFor, isTop, StateOf, changes, busy, decides, OutcomeOf, firstFree, begun, locked, wrote, ended as endedState, passed, retaining, aborted, raised, concluded, finished, visible, refusal, commitsTop, commitsChild, commits, recovers, act, step}
 use Rattle.rules.specs.Sound.{Sound}
 use Rattle.rules.proofs.Tree.{Lines, isCons}
 use Rattle.rules.proofs.Bearers.{begun-line, ended-rooted}
-use Rattle.rules.proofs.Medium.{MediumLaws, changedIn, stored as storedBy}
-use Rattle.rules.proofs.Acceptance.{BeginOk, WriteOk, CommitOk, begin-ok, write-ok, commit-ok, abort-ok, Judged, acts, refuses, judge?}
+use Rattle.rules.proofs.Event.{decode-fits}
+use Rattle.rules.proofs.Medium.{MediumLaws, changedIn, stored as storedBy, isClear}
+use Rattle.rules.proofs.Acceptance.{BeginOk, WriteOk, CommitOk, PrepareOk, begin-ok, write-ok, commit-ok, commit-clear, abort-ok, prepare-ok, Judged, acts, refuses, judge?}
 use Rattle.rules.proofs.Locks.{rooted-of, tree-of, live-line, own-line, member-live, beneath-closed, no-child, version-live, write-apart, top-apart, child-apart, top-line, child-line}
+use Rattle.rules.proofs.Reserved.{clear-of, for-some, pending-apart, version-apart, prepare-fits}
 use Rattle.rules.proofs.Soundness.{alone-closed}
-use Rattle.history.specs.History.{Fate, stored, ended, committed, History, isWithin, changedBy, suffices, ending, allEnding, effect, effectOf, commitFate, after, begins, writes as writesBy, told}
-use Rattle.history.proofs.Roots.{Root, settled, at, move, lose, allLost}
+use Rattle.history.specs.History.{Fate, stored, ended, committed, History, isWithin, changedBy, suffices, ending, allEnding, isWhole, decided, effect, effectOf, commitFate, prepareFate, after, begins, writes as writesBy, decides as decidesBy, told}
+use Rattle.history.proofs.Roots.{Root, settled, waiting, at, move, lose, allLost, resolve}
 use Rattle.history.proofs.Data.{Data, write-data, begin-data}
+use Rattle.history.proofs.Waits.{waits-begun, waits-write}
 use Rattle.history.proofs.Table.{bearer-some, root-bearer, changed-is, within-is}
 use Rattle.history.proofs.TableKept.{begin-table, write-table}
-use Rattle.history.proofs.Tells.{Tells, renow, topTurn, lost-tells, down-tells, top-tells, child-tells, top-parent, child-parent}
+use Rattle.history.proofs.Tells.{Tells, renow, restored, topTurn, lost-tells, down-tells, decide-tells, prepare-tells, top-tells, child-tells, top-parent, child-parent}
+
+-- an event that a word can hold, or a bad one
+abbrev pub Held : Geometry → Option Event → Type 0
+Held g none = Unit {0}
+Held g (some e) = fits g e ≡ true
+
+pub held-word : (g : Geometry) (w : ℕ) → Held g (decode g w)
+held-word g w = go (decode g w) refl
+  where
+    go : (o : Option Event) → decode g w ≡ o → Held g o
+    go none q = tt
+    go (some e) q = decode-fits g w e q
 
 -- a transaction that commits: into its parent, or as a top one
 abbrev pub commitTurn : ℕ → List ℕ → Bool → Root → Root
 commitTurn x [] enough c = topTurn x enough c
 commitTurn x (a ∷ []) enough c = topTurn x enough c
 commitTurn x (a ∷ y ∷ l) enough c = move x (at y) c
+
+-- a prepare: what is whole, and changed something, waits
+abbrev pub prepareTurn : ℕ → Bool → Bool → Root → Root
+prepareTurn x true true c = move x settled c
+prepareTurn x true false c = move x waiting c
+prepareTurn x false unchanged c = lose (λ j. same j x) c
+
+-- a decision: without a page write it is none
+abbrev pub decideTurn : Bool → Bool → Root → Root
+decideTurn d true c = c
+decideTurn d false c = resolve d c
 
 -- an accepted event turns the labels; one that is cut loses all that is left
 abbrev pub answered : Answer → (Root → Root) → Root → Root
@@ -64,6 +91,9 @@ module _ (f : Form) where
   turnBy s (abort x w) a c = lose (λ j. mem x (lineOf (s .bearer) j)) c
   turnBy s crash a c = allLost c
   turnBy s (recover k) a c = c
+  turnBy s (prepare x k i) a c = prepareTurn x (isWhole a) (same (changedOf s x) 0) c
+  turnBy s (decide d k i) a c = decideTurn d (same (valueOf a) 0) c
+  turnBy s (query i) a c = c
 
   abbrev pub turnOf : StateOf f → Option Event → Answer → Root → Root
   turnOf s none a c = c
@@ -73,7 +103,7 @@ module _ (f : Form) where
   turn s e a c = answered a (turnOf s e a) c
 
   abbrev pub Holds : (ℕ → Page) → StateOf f → History → (ℕ → Root) → Type 0
-  Holds start s h root = Tells start (s .bearer) (s .version) (now s) h root
+  Holds start s h root = Tells start (s .bearer) (s .version) (now s) (f .medium .pending (s .store)) h root
 
   -- after an event: the labels have turned, and what the history tells holds again
   pub record After (start : ℕ → Page) (s : StateOf f) (h h′ : History) (root : ℕ → Root) (φ : Root → Root) : Type 0 where
@@ -101,6 +131,7 @@ module _ (f : Form) (M : MediumLaws (f .geometry) (f .medium)) {start : ℕ → 
       table = begin-table (rooted-of S) (H .table) (records (f .geometry)) (firstFree s) p (ok .unborne)
           (λ q. let k : firstFree s < transactions = ok .small in omega arith) (ok .parent)
           (refute (isActive (s .bearer nobody)) (λ d. let k : nobody < transactions = S .numbered nobody d in omega arith));
+      waits = waits-begun (H .waits) (firstFree s) (suc (h .begun)) (λ r. H .table .fresh (suc (h .begun)) r (omega arith));
     };
   }
 
@@ -114,6 +145,7 @@ module _ (f : Form) (M : MediumLaws (f .geometry) (f .medium)) {start : ℕ → 
       data′ = rw (M .home-settled (s .store) r (S .calm (ok .up)))
           (write-data (H .data′) (h .bearer t) t r o v (root-bearer (H .table) t (ok .alive)) (own-line S t (ok .alive)) (tree-of S .good t) (write-apart S t r (ok .held)));
       table = write-table (rooted-of S) (H .table) (records (f .geometry)) t r o v (ok .alive);
+      waits = waits-write (H .waits) (record { transaction = h .bearer t; rec = r; laid = λ page. set page o v }) t (root-bearer (H .table) t (ok .alive));
     };
   }
 
@@ -127,12 +159,11 @@ module _ (f : Form) (M : MediumLaws (f .geometry) (f .medium)) {start : ℕ → 
   act-abort t w alive = by-ending _ _ (lose (λ j. mem t (lineOf (s .bearer) j))) refl
       (lost-tells (rooted-of S) H (λ j. mem t (lineOf (s .bearer) j)) (isWithin h (h .bearer t)) (beneath-closed S t) (λ u e. within-is (rooted-of S) (H .table) t u alive e))
 
-  -- all end over a store with these settled records
-  act-down : (store : f .medium .Store) → ((r : ℕ) → f .medium .settled store r ≡ now f s r) → After f start (down store) h (allEnding h) root allLost
+  -- all end over a store with these settled records, where the same is pending
+  act-down : (store : f .medium .Store) → ((r : ℕ) → f .medium .settled store r ≡ now f s r) → ((r : ℕ) → f .medium .pending store r ≡ f .medium .pending (s .store) r)
+      → After f start (down store) h (allEnding h) root allLost
   unfolding down allEnding ending
-  act-down store e =
-      let D = down-tells (rooted-of S) H in
-      by-ending _ _ allLost refl (record { data′ = renow (D .data′) e; table = D .table })
+  act-down store e k = by-ending _ _ allLost refl (restored (down-tells (rooted-of S) H) e k)
 
   -- what an outcome of an event has to hold; of a commit, by the line of x
   abbrev Acted : Event → OutcomeOf f → Type 0
@@ -149,8 +180,8 @@ module _ (f : Form) (M : MediumLaws (f .geometry) (f .medium)) {start : ℕ → 
       kept r = M .recover-settled (s .store) k r
 
       go : (b : Bool) → Acted (recover k) (concluded (raised s (f .medium .recover (s .store) k .store)) (f .medium .recover (s .store) k) b)
-      go true = act-down (f .medium .recover (s .store) k .store) kept
-      go false = by-ending _ h (λ c. c) refl (record { data′ = renow (H .data′) kept; table = H .table })
+      go true = act-down (f .medium .recover (s .store) k .store) kept (M .recover-unmoved (s .store) k .same-pending)
+      go false = by-ending _ h (λ c. c) refl (restored H kept (M .recover-unmoved (s .store) k .same-pending))
 
   -- a commit with no live child
   module _ (x : ℕ) (ok : CommitOk s x) where
@@ -166,29 +197,32 @@ module _ (f : Form) (M : MediumLaws (f .geometry) (f .medium)) {start : ℕ → 
     unfolding live commitFate
     top-fate top enough = rw (top-parent (rooted-of S) H x (ok .alive) leaf top, same-refl 0, changed-count)
 
-    act-top : (k : ℕ) (a : ℕ) → lineOf (s .bearer) x ≡ x ∷ [] → Commits x k (a ∷ []) (commitsTop f s x (f .medium .commit (s .store) (s .version x) k))
+    act-top : (k : ℕ) (a : ℕ) → lineOf (s .bearer) x ≡ x ∷ [] → (changes f s x && busy f s) ≡ false → Commits x k (a ∷ []) (commitsTop f s x (f .medium .commit (s .store) (s .version x) k))
     unfolding live commitsTop concluded endedState down told effectOf effect after suffices allEnding ending storedBy
-    act-top k a top = go (f .medium .commit (s .store) (s .version x) k .crashed) refl
+    act-top k a top free = go (f .medium .commit (s .store) (s .version x) k .crashed) refl
       where
         c : Cut (f .medium .Store)
         c = f .medium .commit (s .store) (s .version x) k
 
-        calm : f .medium .emptied (s .store) ≡ true
-        calm = S .calm (ok .up)
+        clear : isClear (f .geometry) (f .medium) (s .store) (s .version x) ≡ true
+        clear = clear-of f s x (S .calm (ok .up)) free
+
+        same-pending : (r : ℕ) → f .medium .pending (c .store) r ≡ f .medium .pending (s .store) r
+        same-pending = M .commit-unmoved (s .store) (s .version x) k clear .same-pending
 
         go : (b : Bool) → c .crashed ≡ b → Commits x k (a ∷ []) (concluded (endedState s (λ j. same j x) (c .store)) c b)
         go false e =
             subst⁻¹ (λ (u : Fate). After f start (endedState s (λ j. same j x) (c .store)) h (ending (λ i. same i (h .bearer x)) u h) root (move x settled)) (top-fate top (suffices (done (c .made))))
             (by-ending _ _ (move x settled) refl
-            (top-tells (rooted-of S) H x (ok .alive) leaf true (f .medium .settled (c .store)) top (top-apart S x leaf top)
-            (λ w r. M .commit-kept (s .store) (s .version x) k r calm (S .ranged x) (M .commit-whole (s .store) (s .version x) k calm e .1)) (λ w. absurd (true≢false w))))
+            (restored (top-tells (rooted-of S) H x (ok .alive) leaf true (f .medium .settled (c .store)) top (pending-apart S x) (top-apart S x leaf top)
+            (λ w r. M .commit-kept (s .store) (s .version x) k r clear (S .ranged x) (M .commit-whole (s .store) (s .version x) k (S .calm (ok .up)) clear e .1)) (λ w. absurd (true≢false w))) (λ r. refl) same-pending))
         go true e =
             subst⁻¹ (λ (u : Fate). After f start (down (c .store)) h (allEnding (ending (λ i. same i (h .bearer x)) u h)) root (λ d. allLost (topTurn x (under (changedOf f s x) (c .made)) d))) (top-fate top (suffices (cut (c .made))))
             (by-ending _ _ (λ d. allLost (topTurn x (under (changedOf f s x) (c .made)) d)) refl
-            (down-tells (ended-rooted (rooted-of S) (λ j. same j x) (alone-closed S x ok))
-            (top-tells (rooted-of S) H x (ok .alive) leaf (under (changedOf f s x) (c .made)) (f .medium .settled (c .store)) top (top-apart S x leaf top)
-            (λ w r. M .commit-kept (s .store) (s .version x) k r calm (S .ranged x) (or-right (same (changedOf f s x) 0) _ w))
-            (λ w r. M .commit-lost (s .store) (s .version x) k r calm (rw (ne-false (changedOf f s x) 0 (λ z. let n : 0 < changedOf f s x = M .commit-cut (s .store) (s .version x) k e in omega arith), w))))))
+            (restored (down-tells (ended-rooted (rooted-of S) (λ j. same j x) (alone-closed S x ok))
+            (top-tells (rooted-of S) H x (ok .alive) leaf (under (changedOf f s x) (c .made)) (f .medium .settled (c .store)) top (pending-apart S x) (top-apart S x leaf top)
+            (λ w r. M .commit-kept (s .store) (s .version x) k r clear (S .ranged x) (or-right (same (changedOf f s x) 0) _ w))
+            (λ w r. M .commit-lost (s .store) (s .version x) k r clear (rw (ne-false (changedOf f s x) 0 (λ z. let n : 0 < changedOf f s x = M .commit-cut (s .store) (s .version x) k e in omega arith), w))))) (λ r. refl) same-pending))
 
     child-fate : (y : ℕ) → lineOf (s .bearer) x ≡ x ∷ lineOf (s .bearer) y → mem y (lineOf (s .bearer) y) ≡ true → live s y ≡ true
         → (enough : ℕ → Bool) → commitFate (records (f .geometry)) h (h .bearer x) enough ≡ committed
@@ -204,29 +238,131 @@ module _ (f : Form) (M : MediumLaws (f .geometry) (f .medium)) {start : ℕ → 
         (child-fate y (C .under) (C .own-line) on (suffices (done 0)))
         (by-ending _ _ (move x (at y)) refl (child-tells (rooted-of S) H x (ok .alive) leaf y (C .under) (C .own-line) (C .two) on (child-apart S x y leaf (C .under))))
 
-    act-commit : (k : ℕ) (l : List ℕ) → lineOf (s .bearer) x ≡ l → Commits x k l (commits f s x k l)
-    unfolding commits
-    act-commit k [] q = clash (ok .alive) (live-line S x ∙ ap isCons q)
-    act-commit k (a ∷ []) q = act-top k a (top-line S x a q)
-    act-commit k (a ∷ y ∷ l) q = act-child k a y l q
+    act-commit : (k : ℕ) (l : List ℕ) → lineOf (s .bearer) x ≡ l → (isTop l ≡ true → (changes f s x && busy f s) ≡ false) → Commits x k l (commits f s x k l)
+    unfolding commits isTop
+    act-commit k [] q free = clash (ok .alive) (live-line S x ∙ ap isCons q)
+    act-commit k (a ∷ []) q free = act-top k a (top-line S x a q) (free refl)
+    act-commit k (a ∷ y ∷ l) q free = act-child k a y l q
 
-  act-any : (e : Event) → refusal f s e ≡ none → Acted e (act f s e)
+  -- a prepare
+  module _ (x i : ℕ) (ok : PrepareOk f s x) (on : f .geometry .joint ≡ true) (short : i < 256) where
+    clear : isClear (f .geometry) (f .medium) (s .store) (s .version x) ≡ true
+    clear = clear-of f s x (S .calm (ok .as-commit .up)) (ok .clear)
+
+    alone : lineOf (s .bearer) x ≡ x ∷ []
+    unfolding isTop
+    alone = go (lineOf (s .bearer) x) refl (ok .top)
+      where
+        go : (l : List ℕ) → lineOf (s .bearer) x ≡ l → isTop l ≡ true → lineOf (s .bearer) x ≡ x ∷ []
+        go [] q h = clash (ok .as-commit .alive) (live-line S x ∙ ap isCons q)
+        go (a ∷ []) q h = top-line S x a q
+        go (a ∷ y ∷ l) q h = absurd (false≢true h)
+
+    -- where something is changed nothing was pending
+    was-idle : changedOf f s x ≢ 0 → (r : ℕ) → isSome (f .medium .pending (s .store) r) ≡ false
+    unfolding isClear isSome
+    was-idle n r = ap isSome (M .free-pending (s .store) r (M .emptied-free (s .store)
+        (or-cases (f .medium .emptied (s .store)) (same (changedOf f s x) 0) clear (λ e. e) (λ e. absurd (n (same-eq (changedOf f s x) 0 e))))))
+
+    -- where nothing is changed nothing is new
+    nothing-new : changedOf f s x ≡ 0 → (r : ℕ) → now f s r ≡ else (s .version x r) (now f s r)
+    unfolding changedIn
+    nothing-new e r = go (s .version x r) refl
+      where
+        go : (o : Option Page) → s .version x r ≡ o → now f s r ≡ else o (now f s r)
+        go none q = unfold else in refl
+        go (some p) q =
+            let v : isSome (s .version x r) ≡ true = unfold isSome in ap isSome q in
+            clash v (count-zero (records (f .geometry)) (λ q. isSome (s .version x q)) e r (S .ranged x r v))
+
+    abbrev Prepares : ℕ → OutcomeOf f → Type 0
+    Prepares k o = After f start (o .state) h (told (records (f .geometry)) h (some (prepare x k i)) (o .answer)) root (λ c. answered (o .answer) (prepareTurn x (isWhole (o .answer)) (same (changedOf f s x) 0)) c)
+
+    act-prepare : (k : ℕ) → Prepares k (commitsTop f s x (f .medium .prepare (s .store) (s .version x) i k))
+    unfolding live commitsTop concluded endedState down told effectOf effect after isWhole prepareFate allEnding ending
+    act-prepare k = go (c .crashed) refl (same? (changedOf f s x) 0)
+      where
+        c : Cut (f .medium .Store)
+        c = f .medium .prepare (s .store) (s .version x) i k
+
+        leaf′ : (z : ℕ) → z ≢ x → mem x (lineOf (s .bearer) z) ≡ false
+        leaf′ = no-child S x (ok .as-commit .childless)
+
+        counts : changedBy (records (f .geometry)) h (h .bearer x) ≡ changedOf f s x
+        counts = changed-count x (ok .as-commit)
+
+        kept : (r : ℕ) → f .medium .settled (c .store) r ≡ now f s r
+        kept r = M .prepare-settled (s .store) (s .version x) i k r clear on short
+
+        go : (b : Bool) → c .crashed ≡ b → Same (changedOf f s x) 0 → Prepares k (concluded (endedState s (λ j. same j x) (c .store)) c b)
+        go true e n =
+            by-ending _ _ (λ d. allLost (lose (λ j. same j x) d)) refl
+            (restored (down-tells (ended-rooted (rooted-of S) (λ j. same j x) (alone-closed S x (ok .as-commit)))
+            (top-tells (rooted-of S) H x (ok .as-commit .alive) leaf′ false (f .medium .settled (c .store)) alone (pending-apart S x) (top-apart S x leaf′ alone) (λ w. absurd (false≢true w)) (λ w. kept)))
+            (λ r. refl) (M .prepare-cut (s .store) (s .version x) i k clear e .same-pending))
+        go false e (is n z _) =
+            let N = M .prepare-none (s .store) (s .version x) i k n in
+            rw (counts, z)
+            (by-ending _ _ (move x settled) refl
+            (restored (top-tells (rooted-of S) H x (ok .as-commit .alive) leaf′ true (f .medium .settled (c .store)) alone (pending-apart S x) (top-apart S x leaf′ alone)
+            (λ w r. kept r ∙ nothing-new n r) (λ w. absurd (true≢false w)))
+            (λ r. refl) (λ r. ap (λ (d : f .medium .Store). f .medium .pending d r) (N .0))))
+        go false e (isnt n z _) =
+            let T = M .prepare-taken (s .store) (s .version x) i k (S .ranged x) on short (omega (arith, n)) e in
+            rw (counts, z)
+            (by-ending _ _ (move x waiting) refl
+            (restored (prepare-tells (rooted-of S) H x (ok .as-commit .alive) leaf′ (f .medium .settled (c .store)) alone (was-idle n) kept) (λ r. refl) (T .1)))
+
+  -- a decision on what is prepared, or on another
+  abbrev Decides : Bool → ℕ → ℕ → OutcomeOf f → Type 0
+  Decides d k i o = After f start (o .state) h (told (records (f .geometry)) h (some (decide d k i)) (o .answer)) root (λ c. answered (o .answer) (decideTurn d (same (valueOf (o .answer)) 0)) c)
+
+  act-decide : (d : Bool) (k i : ℕ) (b : Bool) → isFor i (f .medium .prepared (s .store)) ≡ b → Decides d k i (decides f s d k b)
+  unfolding decides finished recovers concluded raised down told effectOf effect after decided valueOf allEnding ending
+  act-decide d k i false q = rw (same-refl 0) (nothing-done (λ c. refl))
+  act-decide d k i true q = go (c .crashed) refl (same? (c .made) 0)
+    where
+      here : f .medium .prepared (s .store) ≡ some i
+      here = for-some i (f .medium .prepared (s .store)) q
+
+      c : Cut (f .medium .Store)
+      c = f .medium .decide (s .store) d k
+
+      -- the decision is stored
+      ruled : c .made ≢ 0 → Tells start (s .bearer) (s .version) (f .medium .settled (c .store)) (f .medium .pending (c .store)) (after (records (f .geometry)) (decidesBy d) h) (λ j. resolve d (root j))
+      ruled n =
+          let made : 0 < c .made = omega (arith, n) in
+          restored (decide-tells (rooted-of S) H (records (f .geometry)) d (λ j r v. version-apart S j r v)) (λ r. M .decide-settled (s .store) d k i r here made)
+          (λ r. M .free-pending (c .store) r (M .decide-ended (s .store) d k i here made))
+
+      go : (b : Bool) → c .crashed ≡ b → Same (c .made) 0 → Decides d k i (concluded (raised s (c .store)) c b)
+      go false e (is n z _) = absurd (omega (arith, n, M .decide-whole (s .store) d k i here e .1))
+      go false e (isnt n z _) = rw z (by-ending _ _ (resolve d) refl (ruled n))
+      go true e (is n z _) =
+          let same-store : c .store ≡ s .store = M .decide-first (s .store) d k i here n in
+          rw z (act-down (c .store) (λ r. ap (λ (x : f .medium .Store). f .medium .settled x r) same-store) (λ r. ap (λ (x : f .medium .Store). f .medium .pending x r) same-store))
+      go true e (isnt n z _) = rw z (by-ending _ _ (λ x. allLost (resolve d x)) refl (down-tells (rooted-of S) (ruled n)))
+
+  act-any : (e : Event) → fits (f .geometry) e ≡ true → refusal f s e ≡ none → Acted e (act f s e)
   unfolding act finished told effectOf effect after locked down valueOf firstFree
-  act-any (begin p) q = act-begin p (begin-ok f s p q)
-  act-any (lock t r a) q = record { root′ = root; turned = λ i k. refl; grown = omega arith; tells = H }
-  act-any (write t r o v) q = act-write t r o v (write-ok f s t r o v q)
-  act-any (read t r o) q = nothing-done (λ c. refl)
-  act-any (commit x k) q = act-commit x (commit-ok f s x k q) k (lineOf (s .bearer) x) refl
-  act-any (abort t w) q = act-abort t w (abort-ok f s t w q .alive)
-  act-any crash q = act-down (s .store) (λ r. refl)
-  act-any (recover k) q = act-recover k
+  act-any (begin p) g q = act-begin p (begin-ok f s p q)
+  act-any (lock t r a) g q = record { root′ = root; turned = λ i k. refl; grown = omega arith; tells = H }
+  act-any (write t r o v) g q = act-write t r o v (write-ok f s t r o v q)
+  act-any (read t r o) g q = nothing-done (λ c. refl)
+  act-any (commit x k) g q = act-commit x (commit-ok f s x k q) k (lineOf (s .bearer) x) refl (commit-clear f s x k q)
+  act-any (abort t w) g q = act-abort t w (abort-ok f s t w q .alive)
+  act-any crash g q = act-down (s .store) (λ r. refl) (λ r. refl)
+  act-any (recover k) g q = act-recover k
+  act-any (prepare x k i) g q = let a = prepare-fits (f .geometry) x k i g in act-prepare x i (prepare-ok f s x k i q) (a .0) (a .1) k
+  act-any (decide d k i) g q = act-decide d k i (isFor i (f .medium .prepared (s .store))) refl
+  act-any (query i) g q = nothing-done (λ c. refl)
 
-  -- every event, and a bad one
-  pub step-after : (e : Option Event) → let o = step f s e in After f start (o .state) h (told (records (f .geometry)) h e (o .answer)) root (turn f s e (o .answer))
+  -- every event that a word can hold, and a bad one
+  pub step-after : (e : Option Event) → Held (f .geometry) e → let o = step f s e in After f start (o .state) h (told (records (f .geometry)) h e (o .answer)) root (turn f s e (o .answer))
   unfolding step told
-  step-after none = nothing-done (λ c. refl)
-  step-after (some e) = go (judge? f s e)
+  step-after none g = nothing-done (λ c. refl)
+  step-after (some e) g = go (judge? f s e)
     where
       go : Judged f s e → Acted e (step f s (some e))
-      go (acts q k) = subst⁻¹ (λ (o : OutcomeOf f). Acted e o) k (act-any e q)
+      go (acts q k) = subst⁻¹ (λ (o : OutcomeOf f). Acted e o) k (act-any e g q)
       go (refuses n q k) = subst⁻¹ (λ (o : OutcomeOf f). Acted e o) k (nothing-done (λ c. refl))

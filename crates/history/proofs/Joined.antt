@@ -16,8 +16,8 @@ use Rattle.rules.proofs.Editions.{proper1}
 use Rattle.rules.proofs.AtomicPages.{atomic-laws}
 use Rattle.rules.proofs.Soundness.{reached-start}
 use Rattle.rules.proofs.Portions.{play-append, Carried, carried-start, Whole, chain-whole}
-use Rattle.history.specs.History.{History, nothingYet, survives, overlaid}
-use Rattle.history.specs.Demand3.{rows, history, Along, SameEvent, SameAnswer, settledIn}
+use Rattle.history.specs.History.{History, survives, overlaid}
+use Rattle.history.specs.Demand3.{rows, history, Along, SameEvent, SameAnswer, settledIn, startOf}
 use Rattle.history.specs.Claims.{stateAfter, historyAfter, Commit-survives}
 use Rattle.history.specs.Joined.{rowsJoined, historyJoined, Reads-joined, Commit-survives-joined, Demand-3-joined-holds}
 use Rattle.history.proofs.Runs.{rowsFrom}
@@ -50,7 +50,7 @@ module _ (f : Form) (M : MediumLaws (f .geometry) (f .medium)) (sound : StateOf 
 
       history-joined : historyJoined f sound store ls ≡ historyAfter f store (c .joined)
       unfolding historyJoined rowsJoined chainFrom historyAfter
-      history-joined = ap (λ (bs : List ℕ). history g nothingYet (rows (c .joined) bs)) (whole ls .answers)
+      history-joined = ap (λ (bs : List ℕ). history g (startOf f store) (rows (c .joined) bs)) (whole ls .answers)
 
       state-joined : c .state ≡ stateAfter f store (c .joined)
       unfolding chainFrom stateAfter
@@ -75,8 +75,8 @@ module _ (f : Form) (M : MediumLaws (f .geometry) (f .medium)) (sound : StateOf 
         (history-joined ls) (reads-overlay f M store (c ls .joined) sized .settles r)
 
     second : (ls ls′ : List Lent) → let final = survives (historyJoined f sound store ls) in
-        Along g (SameEvent g final) nothingYet (rowsJoined f sound store ls) (rowsJoined f sound store ls′)
-        → Along g (SameAnswer g final) nothingYet (rowsJoined f sound store ls) (rowsJoined f sound store ls′)
+        Along g (SameEvent g final) (startOf f store) (rowsJoined f sound store ls) (rowsJoined f sound store ls′)
+        → Along g (SameAnswer g final) (startOf f store) (rowsJoined f sound store ls) (rowsJoined f sound store ls′)
         × ((r : ℕ) → settledIn f (c ls′ .store) r ≡ settledIn f (c ls .store) r)
     unfolding historyJoined stateAfter
     second ls ls′ E =

@@ -2,10 +2,12 @@
 pub mod Overlay
 pub mod Roots
 pub mod Data
+pub mod Waits
 pub mod Table
 pub mod TableKept
 pub mod Tells
 pub mod Invariant
+pub mod Starts
 pub mod Runs
 pub mod Fair
 pub mod Twins

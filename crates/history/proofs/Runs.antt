@@ -23,21 +23,17 @@ use Rattle.history.specs.Demand3.{Row, answerOf, rows, heard, history}
 use Rattle.history.proofs.Overlay.{overlaid-pick}
 use Rattle.history.proofs.Roots.{Root, settled, lost, at, isSettled}
 use Rattle.history.proofs.Table.{bearer-known, root-bearer, survives-is}
-use Rattle.history.proofs.Invariant.{now, turn, Holds, After, step-after}
+use Rattle.history.proofs.Invariant.{now, held-word, turn, Holds, After, step-after}
 
 abbrev pub rowBy : ℕ → Answer → Row
 rowBy w a = record { word = w; number = numberOf a; value = valueOf a }
 
--- an answer that is a refusal has a number from 1 to 10, or 14: it is read back from its bytes
-read-back : (w : ℕ) (a : Answer) → ((n : ℕ) → a ≡ refused n → ((1 ≤ n) × (n ≤ 10)) ⊎ (n ≡ 14)) → answerOf (rowBy w a) ≡ a
+-- an answer that is a refusal has a number from 1, and not 11: it is read back from its bytes
+read-back : (w : ℕ) (a : Answer) → ((n : ℕ) → a ≡ refused n → (1 ≤ n) × (n ≤ 27) × (n ≢ 11)) → answerOf (rowBy w a) ≡ a
 unfolding answerOf numberOf valueOf open-tests
 read-back w (done v) h = refl
 read-back w (cut v) h = refl
-read-back w (refused n) h = go (h n refl)
-  where
-    go : ((1 ≤ n) × (n ≤ 10)) ⊎ (n ≡ 14) → answerOf (rowBy w (refused n)) ≡ refused n
-    go (inl k) = rw (ne-false n 0 (λ q. omega (arith, k .0)), ne-false n 11 (λ q. omega (arith, k .1)))
-    go (inr k) = rw (ne-false n 0 (λ q. omega (arith, k)), ne-false n 11 (λ q. omega (arith, k)))
+read-back w (refused n) h = let k = h n refl in rw (ne-false n 0 (λ q. omega (arith, k .0)), ne-false n 11 (k .2))
 
 module _ (f : Form) where
   abbrev pub stepOf : StateOf f → ℕ → OutcomeOf f
@@ -78,7 +74,7 @@ module _ (f : Form) (M : MediumLaws (f .geometry) (f .medium)) where
   unfolding play history rowsFrom future
   run-after {root = root} [] R H = record { root′ = root; turned = λ i k. refl; grown = omega arith; tells = H }
   run-after {start} {s} {h} {root} (w ∷ ws) R H =
-      let A = step-after f M (R .sound) H (decode (f .geometry) w) in
+      let A = step-after f M (R .sound) H (decode (f .geometry) w) (held-word (f .geometry) w) in
       let B = run-after ws (reached-word f M R w) (A .tells) in
       let le : h .begun ≤ toldOf f h s w .begun = A .grown in
       subst⁻¹ (λ (h′ : History). After f start (play f (stepOf f s w .state) ws .state) h (history (f .geometry) h′ (rowsFrom f (stepOf f s w .state) ws)) root (λ c. future f (stepOf f s w .state) ws (turn f s (decode (f .geometry) w) (stepOf f s w .answer) c)))
@@ -89,25 +85,6 @@ module _ (f : Form) (M : MediumLaws (f .geometry) (f .medium)) where
         grown = (let more : toldOf f h s w .begun ≤ history (f .geometry) (toldOf f h s w) (rowsFrom f (stepOf f s w .state) ws) .begun = B .grown in omega arith);
         tells = B .tells;
       })
-
-  -- a start
-  pub start-holds : (d : f .medium .Store) → Holds f (f .medium .settled d) (down d) nothingYet (λ i. lost)
-  unfolding down nothingYet open-state open-versions open-history
-  start-holds d = record {
-    data′ = record { on-store = λ r. refl; on-version = λ j r p e. (let z : true ≡ false = cc in absurd (true≢false z)); on-wrote = λ j r. refl };
-    table = record {
-      one = λ i. refl;
-      earlier = λ i k. k;
-      origin = refl;
-      bears = λ t e. absurd (false≢true e);
-      who = λ i t e. (let z : true ≡ false = cc in absurd (true≢false z));
-      vacant = λ t e. refl;
-      above = λ t p n e. refl;
-      none-ended = refl;
-      unborn = λ i k. refl;
-      fresh = λ i r k. refl;
-    };
-  }
 
   -- what the settled records are after a list, by what the history tells then
   pub settled-is : {start : ℕ → Page} (s : StateOf f) {h : History} {root : ℕ → Root} → Holds f start s h root → (r : ℕ) → now f s r ≡ overlaid (survives h) r (h .writes) (start r)

@@ -11,14 +11,15 @@ use Rattle.laws.specs.Counting.{count}
 use Rattle.laws.proofs.Tests.{same?, Same, is, isnt, same-refl, ne-false, Is, is?, yes′, no′, under-lt, not-under}
 use Rattle.rules.specs.State.{Bearer, Bearers, free, active, isActive, lineOf, mem, open-state}
 use Rattle.rules.proofs.Bearers.{Rooted, parent-line}
-use Rattle.history.specs.History.{Fate, bearing, committed, stored, ended, History, isCommitted, isStored, isBearing, climbs, isWithin, follows, standsWith, survives, writesTo, changedBy, writes}
-use Rattle.history.proofs.Roots.{Root, settled, lost, at, isSettled, isAt, sees}
+use Rattle.history.specs.History.{Fate, bearing, committed, stored, waiting, ended, History, isCommitted, isStored, isBearing, climbs, isWithin, follows, standsWith, survives, writesTo, changedBy, writes}
+use Rattle.history.proofs.Roots.{Root, settled, lost, waiting as awaiting, at, isSettled, isAt, sees}
 
 -- the label of a transaction that stands so, from its parent's
 abbrev pub entry : (ℕ → Root) → ℕ → Fate → Root
 entry root p (bearing t) = at t
 entry root p committed = root p
 entry root p stored = settled
+entry root p waiting = awaiting
 entry root p ended = lost
 
 pub record Table (b : Bearers) (h : History) (root : ℕ → Root) : Type 0 where
@@ -32,7 +33,8 @@ pub record Table (b : Bearers) (h : History) (root : ℕ → Root) : Type 0 wher
   pub vacant : (t : ℕ) → isActive (b t) ≡ false → h .bearer t ≡ 0
   pub above : (t p d : ℕ) → b t ≡ active p d → h .parent (h .bearer t) ≡ h .bearer p
   -- what is no transaction, or not begun yet, bears nothing and has written nothing
-  pub none-ended : h .fate 0 ≡ ended
+  pub none-bears : isBearing (h .fate 0) ≡ false
+  pub none-commits : isCommitted (h .fate 0) ≡ false
   pub unborn : (i : ℕ) → h .begun < i → h .fate i ≡ ended
   pub fresh : (i r : ℕ) → h .begun < i → writesTo (λ k. same k i) r (h .writes) ≡ false
 
@@ -51,7 +53,7 @@ module _ {b : Bearers} {h : History} {root : ℕ → Root} (T : Table b h root) 
   -- a live number is borne by a transaction that was begun
   pub bearer-some : (t : ℕ) → isActive (b t) ≡ true → h .bearer t ≢ 0
   unfolding isBearing
-  bearer-some t e q = bearing≢ {c = ended} refl (sym (T .none-ended) ∙ ap (h .fate) (sym q) ∙ T .bears t e)
+  bearer-some t e q = bearing≢ (T .none-bears) (ap (h .fate) (sym q) ∙ T .bears t e)
 
   pub bearer-known : (t : ℕ) → isActive (b t) ≡ true → h .bearer t ≤ h .begun
   unfolding isBearing
@@ -80,7 +82,7 @@ module _ {b : Bearers} {h : History} {root : ℕ → Root} (T : Table b h root) 
   committed-begun i e = (some (same? i 0), most (is? (under (h .begun) i)))
     where
       some : Same i 0 → 0 < i
-      some (is q _ _) = committed≢ {c = ended} refl (sym (T .none-ended) ∙ ap (h .fate) (sym q) ∙ e)
+      some (is q _ _) = committed≢ (T .none-commits) (ap (h .fate) (sym q) ∙ e)
       some (isnt q _ _) = omega arith
 
       most : Is (under (h .begun) i) → i ≤ h .begun
@@ -90,7 +92,14 @@ module _ {b : Bearers} {h : History} {root : ℕ → Root} (T : Table b h root) 
   -- the label is how the transaction stands with which the writes stand
   table-by : (n i : ℕ) → i ≤ n → root i ≡ entry (λ k. lost) 0 (h .fate (follows h n i))
   unfolding follows isCommitted
-  table-by zero i le = let q : i ≡ 0 = omega arith in rw q (T .one 0 ∙ rw (T .none-ended))
+  table-by zero i le = let q : i ≡ 0 = omega arith in rw q (T .one 0 ∙ go (h .fate 0) refl)
+    where
+      go : (c : Fate) → h .fate 0 ≡ c → entry root (h .parent 0) c ≡ entry (λ k. lost) 0 c
+      go (bearing t) e = refl
+      go committed e = committed≢ (T .none-commits) e
+      go stored e = refl
+      go waiting e = refl
+      go ended e = refl
   table-by (suc n) i le = T .one i ∙ go (h .fate i) refl (λ p k. table-by n p k)
     where
       go : (c : Fate) → h .fate i ≡ c → ((p : ℕ) → p ≤ n → root p ≡ entry (λ k. lost) 0 (h .fate (follows h n p)))
@@ -98,6 +107,7 @@ module _ {b : Bearers} {h : History} {root : ℕ → Root} (T : Table b h root) 
       go (bearing t) e ih = rw e
       go committed e ih = let k : h .parent i < i = T .earlier i (committed-begun i e .0) in ih (h .parent i) (omega arith)
       go stored e ih = rw e
+      go waiting e ih = rw e
       go ended e ih = rw e
 
   pub table-is : (i : ℕ) → root i ≡ entry (λ k. lost) 0 (h .fate (standsWith h i))
@@ -109,6 +119,7 @@ module _ {b : Bearers} {h : History} {root : ℕ → Root} (T : Table b h root) 
   entry-settled (bearing t) = refl
   entry-settled committed = refl
   entry-settled stored = refl
+  entry-settled waiting = refl
   entry-settled ended = refl
 
   pub survives-is : (i : ℕ) → survives h i ≡ isSettled (root i)
@@ -125,6 +136,7 @@ module _ {b : Bearers} {h : History} {root : ℕ → Root} (T : Table b h root) 
       off (bearing t) q n = ne-false t x (λ z. n (sym (T .who (standsWith h k) t q .0) ∙ ap (h .bearer) z))
       off committed q n = refl
       off stored q n = refl
+      off waiting q n = refl
       off ended q n = refl
 
       go : (c : Fate) → h .fate (standsWith h k) ≡ c → Same (standsWith h k) (h .bearer x) → same (standsWith h k) (h .bearer x) ≡ isAt x (entry (λ k. lost) 0 c)
@@ -225,4 +237,5 @@ module _ {limit nobody : ℕ} {b : Bearers} (S : Rooted limit nobody b) {h : His
       go (bearing t) q = let w = T .who (standsWith h i) t q in rw (← (w .0)) (sym (within-is t j (w .1) e))
       go committed q = sym (ended-off (standsWith h i) j e (ap isBearing q))
       go stored q = refl
+      go waiting q = sym (ended-off (standsWith h i) j e (ap isBearing q))
       go ended q = sym (ended-off (standsWith h i) j e (ap isBearing q))

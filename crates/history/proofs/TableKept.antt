@@ -11,8 +11,8 @@ use Rattle.rules.specs.Geometry.{nobody}
 use Rattle.rules.specs.State.{Bearer, Bearers, free, active, isActive, depthIn, lineOf, mem, open-state}
 use Rattle.rules.proofs.Tree.{own}
 use Rattle.rules.proofs.Bearers.{Rooted, rooted-tree, active-line, parent-line, begunIn, endedIn}
-use Rattle.history.specs.History.{Fate, bearing, committed, stored, ended, History, isBearing, writesTo, turned, ending, after, begins, writes}
-use Rattle.history.proofs.Roots.{Root, settled, lost, at}
+use Rattle.history.specs.History.{Fate, bearing, committed, stored, waiting, ended, History, isCommitted, isBearing, writesTo, turned, ending, resolved, after, begins, writes, decides}
+use Rattle.history.proofs.Roots.{Root, settled, lost, waiting as awaiting, at, resolve}
 use Rattle.history.proofs.Table.{entry, Table, bearing≢, bearing-inj, bearer-known, bearer-most, committed-begun}
 
 module _ {limit : ℕ} {b : Bearers} (S : Rooted limit nobody b) {h : History} {root : ℕ → Root} (T : Table b h root) where
@@ -20,7 +20,7 @@ module _ {limit : ℕ} {b : Bearers} (S : Rooted limit nobody b) {h : History} {
   module _ (dead who : ℕ → Bool) (new : Fate) (f : Root → Root)
       (closed : (z a : ℕ) → dead z ≡ false → dead a ≡ true → mem a (lineOf b z) ≡ false)
       (picks : (t : ℕ) → isActive (b t) ≡ true → who (h .bearer t) ≡ dead t)
-      (over : isBearing new ≡ false) (on-settled : f settled ≡ settled) (on-lost : f lost ≡ lost)
+      (over : isBearing new ≡ false) (on-settled : f settled ≡ settled) (on-lost : f lost ≡ lost) (on-waiting : f awaiting ≡ awaiting)
       (stays : (t : ℕ) → dead t ≡ false → f (at t) ≡ at t)
       (goes : (t : ℕ) → isActive (b t) ≡ true → dead t ≡ true → f (at t) ≡ entry (λ i. f (root i)) (h .parent (h .bearer t)) new) where
     abbrev h′ : History
@@ -43,7 +43,11 @@ module _ {limit : ℕ} {b : Bearers} (S : Rooted limit nobody b) {h : History} {
 
     bearer-gone : (t : ℕ) → Is (isActive (b t)) → isActive (b′ t) ≡ false → h′ .bearer t ≡ 0
     unfolding ending turned isBearing isActive
-    bearer-gone t (no′ e) k = rw (T .vacant t e, T .none-ended)
+    bearer-gone t (no′ e) k = rw (T .vacant t e) (either (isBearing (turned (who 0) new (h .fate 0))))
+      where
+        either : (b : Bool) → cond {A = ℕ} b 0 0 ≡ 0
+        either true = refl
+        either false = refl
     bearer-gone t (yes′ e) k = go (is? (dead t))
       where
         go : Is (dead t) → h′ .bearer t ≡ 0
@@ -65,6 +69,7 @@ module _ {limit : ℕ} {b : Bearers} (S : Rooted limit nobody b) {h : History} {
         go (no′ d) = let z : v ≡ t = bearing-inj (rw d at k) in rw (← z) (bearer-left v d (w .1) ∙ w .0, rw d (w .1))
     ended-who i t committed q e = bearing≢ refl e
     ended-who i t stored q e = bearing≢ refl e
+    ended-who i t waiting q e = bearing≢ refl e
     ended-who i t ended q e = bearing≢ refl e
 
     ended-one : (i : ℕ) (c : Fate) → h .fate i ≡ c → f (entry root (h .parent i) c) ≡ entry (λ k. f (root k)) (h .parent i) (turned (who i) new c)
@@ -79,6 +84,7 @@ module _ {limit : ℕ} {b : Bearers} (S : Rooted limit nobody b) {h : History} {
         go (no′ d) = rw (← (w .0), picks t (w .1), d) (stays t d)
     ended-one i committed q = refl
     ended-one i stored q = on-settled
+    ended-one i waiting q = on-waiting
     ended-one i ended q = on-lost
 
     -- the parent of one that is left is left
@@ -102,6 +108,22 @@ module _ {limit : ℕ} {b : Bearers} (S : Rooted limit nobody b) {h : History} {
         let q : b t ≡ active p d = rw (l .0) at e in
         ap (h .parent) (bearer-left t (l .0) (l .1)) ∙ T .above t p d q ∙ ended-above t p d q (l .0) (is? (isActive (b p)))
 
+    no-bearer : (c : Fate) → isBearing c ≡ false → isBearing (turned (who 0) new c) ≡ false
+    unfolding turned isBearing
+    no-bearer (bearing t) e = absurd (true≢false e)
+    no-bearer committed e = refl
+    no-bearer stored e = refl
+    no-bearer waiting e = refl
+    no-bearer ended e = refl
+
+    no-commit : (c : Fate) → isBearing c ≡ false → isCommitted c ≡ false → isCommitted (turned (who 0) new c) ≡ false
+    unfolding turned isBearing isCommitted
+    no-commit (bearing t) e q = absurd (true≢false e)
+    no-commit committed e q = absurd (true≢false q)
+    no-commit stored e q = refl
+    no-commit waiting e q = refl
+    no-commit ended e q = refl
+
     pub ended-table : Table b′ h′ (λ i. f (root i))
     unfolding ending turned isBearing
     ended-table = record {
@@ -112,7 +134,8 @@ module _ {limit : ℕ} {b : Bearers} (S : Rooted limit nobody b) {h : History} {
       who = λ i t e. ended-who i t (h .fate i) refl e;
       vacant = λ t e. bearer-gone t (is? (isActive (b t))) e;
       above = λ t p d e. above-kept t p d e;
-      none-ended = rw (T .none-ended);
+      none-bears = no-bearer (h .fate 0) (T .none-bears);
+      none-commits = no-commit (h .fate 0) (T .none-bears) (T .none-commits);
       unborn = λ i k. rw (T .unborn i k);
       fresh = T .fresh;
     }
@@ -170,6 +193,7 @@ module _ {limit : ℕ} {b : Bearers} (S : Rooted limit nobody b) {h : History} {
             let l : h .parent i < i = T .earlier i (k .0) in
             rw (old (h .parent i) (omega (arith, k .1)))
         go stored e = refl
+        go waiting e = refl
         go ended e = refl
 
     begin-earlier : (i : ℕ) → 0 < i → Same i new → h″ .parent i < i
@@ -212,7 +236,8 @@ module _ {limit : ℕ} {b : Bearers} (S : Rooted limit nobody b) {h : History} {
       who = λ i u e. begin-who i u e (same? i new);
       vacant = λ u e. begin-vacant u e (same? u t);
       above = λ u q d e. begin-above u q d e (same? u t);
-      none-ended = rw (old 0 (omega arith)) (T .none-ended);
+      none-bears = rw (old 0 (omega arith)) (T .none-bears);
+      none-commits = rw (old 0 (omega arith)) (T .none-commits);
       unborn = λ i k. rw (ne-false i new (λ q. omega arith)) (T .unborn i (omega arith));
       fresh = λ i r k. T .fresh i r (omega arith);
     }
@@ -228,7 +253,69 @@ module _ {limit : ℕ} {b : Bearers} (S : Rooted limit nobody b) {h : History} {
     who = T .who;
     vacant = T .vacant;
     above = T .above;
-    none-ended = T .none-ended;
+    none-bears = T .none-bears;
+    none-commits = T .none-commits;
     unborn = T .unborn;
     fresh = λ i q k. let m : h .bearer t ≤ h .begun = bearer-known T t e in rw (ne-false (h .bearer t) i (λ z. omega arith)) (T .fresh i q k);
   }
+
+  -- the decision on the one that waits
+  pub decide-table : (records : ℕ) (d : Bool) → Table b (after records (decides d) h) (λ i. resolve d (root i))
+  unfolding after resolved isBearing isCommitted
+  decide-table records d = record {
+    one = λ i. ap (resolve d) (T .one i) ∙ turns (h .parent i) (h .fate i);
+    earlier = T .earlier;
+    origin = T .origin;
+    bears = λ t e. rw (T .bears t e);
+    who = λ i t e. T .who i t (bore (h .fate i) t e);
+    vacant = T .vacant;
+    above = T .above;
+    none-bears = idle (h .fate 0) (T .none-bears);
+    none-commits = same-commit (h .fate 0) (T .none-commits);
+    unborn = λ i k. rw (T .unborn i k);
+    fresh = T .fresh;
+  }
+    where
+      turns : (p : ℕ) (c : Fate) → resolve d (entry root p c) ≡ entry (λ k. resolve d (root k)) p (resolved d c)
+      turns p (bearing t) = refl
+      turns p committed = refl
+      turns p stored = refl
+      turns p waiting = go d
+        where
+          go : (b : Bool) → cond b settled lost ≡ entry (λ k. resolve d (root k)) p (cond b stored ended)
+          go true = refl
+          go false = refl
+      turns p ended = refl
+
+      rules-none : (b : Bool) {A : Type 0} {t : ℕ} → cond b stored ended ≡ bearing t → A
+      rules-none true e = bearing≢ refl e
+      rules-none false e = bearing≢ refl e
+
+      bore : (c : Fate) (t : ℕ) → resolved d c ≡ bearing t → c ≡ bearing t
+      bore (bearing u) t e = e
+      bore committed t e = e
+      bore stored t e = e
+      bore waiting t e = rules-none d e
+      bore ended t e = e
+
+      idle : (c : Fate) → isBearing c ≡ false → isBearing (resolved d c) ≡ false
+      idle (bearing t) e = e
+      idle committed e = refl
+      idle stored e = refl
+      idle waiting e = go d
+        where
+          go : (b : Bool) → isBearing (cond b stored ended) ≡ false
+          go true = refl
+          go false = refl
+      idle ended e = refl
+
+      same-commit : (c : Fate) → isCommitted c ≡ false → isCommitted (resolved d c) ≡ false
+      same-commit (bearing t) e = refl
+      same-commit committed e = e
+      same-commit stored e = refl
+      same-commit waiting e = go d
+        where
+          go : (b : Bool) → isCommitted (cond b stored ended) ≡ false
+          go true = refl
+          go false = refl
+      same-commit ended e = refl

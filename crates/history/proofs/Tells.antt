@@ -3,7 +3,7 @@ use mathlib.Core.Path.{_≡_, refl, sym, ap, subst⁻¹, _∙_, fun-ext}
 use mathlib.Core.Bool.{Bool, true, false, cond, true≢false, false≢true}
 use mathlib.Core.List.{List, [], _∷_}
 use mathlib.Core.Logic.{_≢_}
-use mathlib.Core.Option.{none}
+use mathlib.Core.Option.{Option, none}
 use Prim.Native.Nat.{ℕ}
 use Rattle.laws.specs.Tests.{same}
 use Rattle.laws.proofs.Tests.{same?, Same, is, isnt, same-eq, same-refl, ne-false}
@@ -14,27 +14,34 @@ use Rattle.rules.specs.State.{Bearer, Bearers, free, active, isActive, lineOf, 
 use Rattle.rules.specs.Versions.{isSome, else, dropped}
 use Rattle.rules.proofs.Tree.{Lines, isCons}
 use Rattle.rules.proofs.Bearers.{Rooted, rooted-tree, active-line, parent-line, endedIn, ended-line}
-use Rattle.history.specs.History.{committed, stored, ended, Write, History, isBearing, ending, allEnding}
-use Rattle.history.proofs.Roots.{Root, settled, at, move, lose, allLost}
+use Rattle.history.specs.History.{committed, stored, waiting, ended, Write, History, isBearing, ending, allEnding, after, decides}
+use Rattle.history.proofs.Roots.{Root, settled, waiting as awaiting, at, move, lose, allLost, resolve}
 use Rattle.history.proofs.Data.{Data, gone, lift, child-data, top-data, lose-data}
+use Rattle.history.proofs.Waits.{Waits, repend, waits-lost, waits-child, waits-top, prepare-data, prepare-waits, decided-data, decided-waits}
 use Rattle.history.proofs.Table.{Table, bearer-one, root-bearer}
-use Rattle.history.proofs.TableKept.{ended-table}
+use Rattle.history.proofs.TableKept.{ended-table, decide-table}
 
-pub record Tells (start : ℕ → Page) (b : Bearers) (ver : Versions) (now : ℕ → Page) (h : History) (root : ℕ → Root) : Type 0 where
+pub record Tells (start : ℕ → Page) (b : Bearers) (ver : Versions) (now : ℕ → Page) (pend : ℕ → Option Page) (h : History) (root : ℕ → Root) : Type 0 where
   pub data′ : Data (lineOf b) ver now start root (h .writes)
   pub table : Table b h root
+  pub waits : Waits pend start root (h .writes)
 
 pub renow : {line : Lines} {ver : Versions} {now now′ start : ℕ → Page} {root : ℕ → Root} {ws : List Write}
     → Data line ver now start root ws → ((r : ℕ) → now′ r ≡ now r) → Data line ver now′ start root ws
 renow D k = record { on-store = λ r. k r ∙ D .on-store r; on-version = D .on-version; on-wrote = D .on-wrote }
+
+-- over a store with the same settled records, where the same is pending
+pub restored : {start : ℕ → Page} {b : Bearers} {ver : Versions} {now now′ : ℕ → Page} {pend pend′ : ℕ → Option Page} {h : History} {root : ℕ → Root}
+    → Tells start b ver now pend h root → ((r : ℕ) → now′ r ≡ now r) → ((r : ℕ) → pend′ r ≡ pend r) → Tells start b ver now′ pend′ h root
+restored H k e = record { data′ = renow (H .data′) k; table = H .table; waits = repend (H .waits) e }
 
 -- the label of a top transaction's writes after its commit: settled where it survives
 abbrev pub topTurn : ℕ → Bool → Root → Root
 topTurn x true c = move x settled c
 topTurn x false c = lose (λ j. same j x) c
 
-module _ {limit : ℕ} {b : Bearers} (S : Rooted limit nobody b) {start : ℕ → Page} {ver : Versions} {now : ℕ → Page} {h : History} {root : ℕ → Root}
-    (H : Tells start b ver now h root) where
+module _ {limit : ℕ} {b : Bearers} (S : Rooted limit nobody b) {start : ℕ → Page} {ver : Versions} {now : ℕ → Page} {pend : ℕ → Option Page} {h : History} {root : ℕ → Root}
+    (H : Tells start b ver now pend h root) where
   relined : (dead : ℕ → Bool) → ((z a : ℕ) → dead z ≡ false → dead a ≡ true → mem a (lineOf b z) ≡ false) → {ver′ : Versions} {now′ : ℕ → Page} {root′ : ℕ → Root} {ws : List Write}
       → Data (λ j. cond (dead j) [] (lineOf b j)) ver′ now′ start root′ ws → Data (lineOf (endedIn b dead)) ver′ now′ start root′ ws
   relined dead closed {ver′} {now′} {root′} {ws} D = subst⁻¹ (λ (l : Lines). Data l ver′ now′ start root′ ws) (fun-ext (ended-line S dead closed)) D
@@ -42,19 +49,30 @@ module _ {limit : ℕ} {b : Bearers} (S : Rooted limit nobody b) {start : ℕ �
   -- those that `dead` picks by number and `who` by transaction end, and their writes are lost
   pub lost-tells : (dead who : ℕ → Bool) → ((z a : ℕ) → dead z ≡ false → dead a ≡ true → mem a (lineOf b z) ≡ false)
       → ((t : ℕ) → isActive (b t) ≡ true → who (h .bearer t) ≡ dead t)
-      → Tells start (endedIn b dead) (dropped dead ver) now (ending who ended h) (λ i. lose dead (root i))
+      → Tells start (endedIn b dead) (dropped dead ver) now pend (ending who ended h) (λ i. lose dead (root i))
   unfolding dropped ending isBearing
   lost-tells dead who closed picks = record {
     data′ = relined dead closed (lose-data (H .data′) dead closed);
-    table = ended-table S (H .table) dead who ended (lose dead) closed picks refl refl refl (λ t d. rw d) (λ t e d. rw d);
+    table = ended-table S (H .table) dead who ended (lose dead) closed picks refl refl refl refl (λ t d. rw d) (λ t e d. rw d);
+    waits = waits-lost (H .waits) dead;
+  }
+
+  -- the decision on what is pending, of which nobody has a version
+  pub decide-tells : (records : ℕ) (d : Bool) → ((j r : ℕ) → isSome (ver j r) ≡ true → isSome (pend r) ≡ false)
+      → Tells start b ver (λ r. cond d (else (pend r) (now r)) (now r)) (λ r. none) (after records (decides d) h) (λ i. resolve d (root i))
+  unfolding after
+  decide-tells records d apart = record {
+    data′ = decided-data (H .data′) (H .waits) d apart;
+    table = decide-table S (H .table) records d;
+    waits = decided-waits (H .data′) (H .waits) d apart;
   }
 
   -- all end
-  pub down-tells : Tells start (λ t. free) (λ t r. none) now (allEnding h) (λ i. allLost (root i))
+  pub down-tells : Tells start (λ t. free) (λ t r. none) now pend (allEnding h) (λ i. allLost (root i))
   unfolding open-state dropped allEnding
-  down-tells = let all : Tells start (endedIn b (λ t. true)) (dropped (λ t. true) ver) now (ending (λ i. true) ended h) (λ i. lose (λ a. true) (root i)) =
+  down-tells = let all : Tells start (endedIn b (λ t. true)) (dropped (λ t. true) ver) now pend (ending (λ i. true) ended h) (λ i. lose (λ a. true) (root i)) =
       lost-tells (λ t. true) (λ i. true) (λ z a p q. absurd (true≢false p)) (λ t e. refl) in
-      record { data′ = all .data′; table = all .table }
+      record { data′ = all .data′; table = all .table; waits = all .waits }
 
   -- a transaction x that ends alone
   module _ (x : ℕ) (alive : isActive (b x) ≡ true) (leaf : (z : ℕ) → z ≢ x → mem x (lineOf b z) ≡ false) where
@@ -97,26 +115,38 @@ module _ {limit : ℕ} {b : Bearers} (S : Rooted limit nobody b) {start : ℕ �
             parent-by p d q ∙ ap (h .bearer) same-head
 
     -- a top transaction: its commit record is written, or it isn't
-    pub top-tells : (enough : Bool) (now′ : ℕ → Page) → lineOf b x ≡ x ∷ [] → ((z r : ℕ) → z ≢ x → isSome (ver x r) ≡ true → isSome (ver z r) ≡ true → ⊥)
+    pub top-tells : (enough : Bool) (now′ : ℕ → Page) → lineOf b x ≡ x ∷ [] → ((r : ℕ) → isSome (pend r) ≡ true → isSome (ver x r) ≡ false) → ((z r : ℕ) → z ≢ x → isSome (ver x r) ≡ true → isSome (ver z r) ≡ true → ⊥)
         → (enough ≡ true → (r : ℕ) → now′ r ≡ else (ver x r) (now r)) → (enough ≡ false → (r : ℕ) → now′ r ≡ now r)
-        → Tells start (endedIn b (λ j. same j x)) (gone x ver) now′ (ending (λ k. same k (h .bearer x)) (cond enough stored ended) h) (λ i. topTurn x enough (root i))
+        → Tells start (endedIn b (λ j. same j x)) (gone x ver) now′ pend (ending (λ k. same k (h .bearer x)) (cond enough stored ended) h) (λ i. topTurn x enough (root i))
     unfolding dropped ending isBearing
-    top-tells true now′ top apart kept lost′ = record {
+    top-tells true now′ top off apart kept lost′ = record {
       data′ = renow (relined (λ j. same j x) alone (top-data (H .data′) x leaf top apart)) (kept refl);
-      table = ended-table S (H .table) (λ j. same j x) (λ k. same k (h .bearer x)) stored (move x settled) alone picks refl refl refl (λ t d. rw d) (λ t e d. rw d);
+      table = ended-table S (H .table) (λ j. same j x) (λ k. same k (h .bearer x)) stored (move x settled) alone picks refl refl refl refl (λ t d. rw d) (λ t e d. rw d);
+      waits = waits-top (H .data′) (H .waits) x off;
     }
-    top-tells false now′ top apart kept lost′ =
+    top-tells false now′ top off apart kept lost′ =
         let L = lost-tells (λ j. same j x) (λ k. same k (h .bearer x)) alone picks in
-        record { data′ = renow (L .data′) (lost′ refl); table = L .table }
+        record { data′ = renow (L .data′) (lost′ refl); table = L .table; waits = L .waits }
+
+    -- a top transaction is prepared, where nothing was pending: what it changed is
+    pub prepare-tells : (now′ : ℕ → Page) → lineOf b x ≡ x ∷ [] → ((r : ℕ) → isSome (pend r) ≡ false) → ((r : ℕ) → now′ r ≡ now r)
+        → Tells start (endedIn b (λ j. same j x)) (gone x ver) now′ (ver x) (ending (λ k. same k (h .bearer x)) waiting h) (λ i. move x awaiting (root i))
+    unfolding dropped ending isBearing
+    prepare-tells now′ top idle kept = record {
+      data′ = renow (relined (λ j. same j x) alone (prepare-data (H .data′) (H .waits) x leaf top idle)) kept;
+      table = ended-table S (H .table) (λ j. same j x) (λ k. same k (h .bearer x)) waiting (move x awaiting) alone picks refl refl refl refl (λ t d. rw d) (λ t e d. rw d);
+      waits = prepare-waits (H .data′) (H .waits) x leaf top idle;
+    }
 
     -- a child: its writes go to its parent y
     pub child-tells : (y : ℕ) → lineOf b x ≡ x ∷ lineOf b y → mem y (lineOf b y) ≡ true → x ≢ y → isActive (b y) ≡ true
         → ((z r : ℕ) → z ≢ x → z ≢ y → isSome (ver x r) ≡ true → isSome (ver z r) ≡ true → mem y (lineOf b z) ≡ false)
-        → Tells start (endedIn b (λ j. same j x)) (lift x y ver) now (ending (λ k. same k (h .bearer x)) committed h) (λ i. move x (at y) (root i))
+        → Tells start (endedIn b (λ j. same j x)) (lift x y ver) now pend (ending (λ k. same k (h .bearer x)) committed h) (λ i. move x (at y) (root i))
     unfolding dropped ending isBearing
     child-tells y under own two on apart = record {
       data′ = relined (λ j. same j x) alone (child-data (H .data′) x y leaf under own two apart);
-      table = ended-table S (H .table) (λ j. same j x) (λ k. same k (h .bearer x)) committed (move x (at y)) alone picks refl refl refl (λ t d. rw d) goes;
+      table = ended-table S (H .table) (λ j. same j x) (λ k. same k (h .bearer x)) committed (move x (at y)) alone picks refl refl refl refl (λ t d. rw d) goes;
+      waits = waits-child (H .waits) x y;
     }
       where
         goes : (t : ℕ) → isActive (b t) ≡ true → same t x ≡ true → move x (at y) (at t) ≡ move x (at y) (root (h .parent (h .bearer t)))

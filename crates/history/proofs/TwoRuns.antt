@@ -1,6 +1,6 @@
 -- Two lists of words that differ in what lost transactions write, played side by side: the second half of demand 3 over lists of words.
-use mathlib.Core.Path.{_≡_, refl, sym, ap, subst, subst⁻¹, _∙_}
-use mathlib.Core.Bool.{Bool, true, false≢true}
+use mathlib.Core.Path.{_≡_, refl, sym, ap, subst, subst⁻¹, _∙_, fun-ext}
+use mathlib.Core.Bool.{Bool, true, false, cond, _&&_, false≢true}
 use mathlib.Core.List.{List, [], _∷_}
 use mathlib.Core.Logic.{_≢_}
 use mathlib.Core.Option.{Option, none, some}
@@ -8,78 +8,89 @@ use Prim.Native.Nat.{ℕ}
 use Rattle.laws.proofs.Booleans.{clash}
 use Rattle.rules.specs.Geometry.{Geometry}
 use Rattle.rules.specs.Store.{Page}
-use Rattle.rules.specs.Event.{Event, begin, lock, write, read, commit, abort, crash, recover, decode}
+use Rattle.rules.specs.Event.{Event, begin, lock, write, read, commit, abort, crash, recover, prepare, decide, query, decode, fits}
 use Rattle.rules.specs.State.{lineOf, Versions, live, holds, holdsWriting, down}
+use Rattle.rules.specs.Versions.{isSome}
 use Rattle.rules.specs.Form.{Form}
-use Rattle.rules.specs.Step.{Answer, numberOf, valueOf, StateOf, hasChild, firstFree, begun, locked, finished, refusals, refusal, commitsChild, commits, act, judged, step}
+use Rattle.rules.specs.Step.{Answer, done, numberOf, valueOf, isFor, isTop, StateOf, changes, busy, reserved, hasChild, firstFree, begun, locked, finished, refusals, refusal, commitsChild, commits, act, judged, step}
 use Rattle.rules.specs.Run.{play}
 use Rattle.rules.specs.Sound.{Sound}
 use Rattle.rules.proofs.Tree.{isCons}
 use Rattle.rules.proofs.Medium.{MediumLaws}
-use Rattle.rules.proofs.Acceptance.{CommitOk, write-ok, read-ok, commit-ok, Judged, acts, refuses, judge?}
+use Rattle.rules.proofs.Acceptance.{CommitOk, write-ok, read-ok, commit-ok, commit-clear, prepare-ok, Judged, acts, refuses, judge?}
 use Rattle.rules.proofs.Locks.{live-line, child-line}
+use Rattle.rules.proofs.Reserved.{clear-of, prepare-fits}
 use Rattle.rules.proofs.Soundness.{Reached, reached-word}
 use Rattle.history.specs.History.{History, accepted, names, bearerOf, belongs, survives, suffices}
 use Rattle.history.specs.Demand3.{heard, history, Along, SameEvent, same-word, other-value, SameAnswer, same-bytes, other-byte}
 use Rattle.history.proofs.Roots.{Root, settled, at, isSettled, isnt-settled, not-settled}
-use Rattle.history.proofs.Invariant.{commitTurn, answered, turn, changedOf, Holds, step-after}
+use Rattle.history.proofs.Invariant.{Held, held-word, commitTurn, answered, turn, changedOf, Holds, step-after}
 use Rattle.history.proofs.Runs.{rowBy, stepOf, rowsFrom, answer-back, toldOf, heard-is, future, final-is}
 use Rattle.history.proofs.Fair.{Fair, fair-step, fair-run}
-use Rattle.history.proofs.Twins.{swap, Match, same-event, lost-write, Echo, same-answer, lost-read, Twin, Next, twin-write, twin-read, twin-abort, twin-child, twin-top, twin-recover, down-twin}
+use Rattle.history.proofs.Twins.{swap, Match, same-event, lost-write, Echo, same-answer, lost-read, Twin, Next, twin-write, twin-read, twin-abort, twin-child, twin-top, twin-recover, twin-prepare, twin-decide, down-twin}
 
 module _ (f : Form) (M : MediumLaws (f .geometry) (f .medium)) {s : StateOf f} (S : Sound f s) (φ : Root → Root) (ver : Versions) (d : f .medium .Store) (on-settled : φ settled ≡ settled) where
   -- φ seen from before an event
   abbrev before : Option Event → Answer → Root → Root
   before e a c = φ (turn f s e a c)
 
-  twin-commit : (x k : ℕ) → CommitOk s x → (l : List ℕ) → lineOf (s .bearer) x ≡ l → (ψ : Root → Root)
+  twin-commit : (x k : ℕ) → CommitOk s x → (l : List ℕ) → lineOf (s .bearer) x ≡ l → (isTop l ≡ true → (changes f s x && busy f s) ≡ false) → (ψ : Root → Root)
       → let o = commits f s x k l in Twin f M (λ c. φ (answered (o .answer) (commitTurn x l (suffices (o .answer) (changedOf f s x))) c)) s ver d
       → Next f M ψ φ (some (commit x k)) o (commits f (swap f s ver d) x k l)
-  unfolding commits commitsChild finished
-  twin-commit x k ok [] q ψ W = clash (ok .alive) (live-line S x ∙ ap isCons q)
-  twin-commit x k ok (a ∷ []) q ψ W = twin-top f M ψ x k a (S .calm (ok .up)) (S .ranged x) on-settled W
-  twin-commit x k ok (a ∷ y ∷ l) q ψ W = twin-child f M ψ (commit x k) x y (child-line S x a y l q .two) W
+  unfolding commits commitsChild finished isTop
+  twin-commit x k ok [] q h ψ W = clash (ok .alive) (live-line S x ∙ ap isCons q)
+  twin-commit x k ok (a ∷ []) q h ψ W = twin-top f M ψ x k a (clear-of f s x (S .calm (ok .up)) (h refl)) (S .ranged x) on-settled W
+  twin-commit x k ok (a ∷ y ∷ l) q h ψ W = twin-child f M ψ (commit x k) x y (child-line S x a y l q .two) W
 
-  twin-act : (e : Event) → refusal f s e ≡ none → let o = act f s e in Fair (lineOf (s .bearer)) (before (some e) (o .answer)) → Twin f M (before (some e) (o .answer)) s ver d
+  twin-act : (e : Event) → fits (f .geometry) e ≡ true → refusal f s e ≡ none → let o = act f s e in Fair (lineOf (s .bearer)) (before (some e) (o .answer)) → Twin f M (before (some e) (o .answer)) s ver d
       → Next f M (before (some e) (o .answer)) φ (some e) o (act f (swap f s ver d) e)
   unfolding act finished begun locked firstFree live down
-  twin-act (begin p) q F W = record { ver = ver; store = d; stands = refl; twin = record { shape = W .shape; alike = W .alike; stores = W .stores }; echo = same-answer refl }
-  twin-act (lock t r a) q F W = record { ver = ver; store = d; stands = refl; twin = record { shape = W .shape; alike = W .alike; stores = W .stores }; echo = same-answer refl }
-  twin-act (write t r o v) q F W = twin-write f M S F W t r o v v (write-ok f s t r o v q .up) (λ e. refl)
-  twin-act (read t r o) q F W = twin-read f M S F W t r o (read-ok f s t r o q .up)
-  twin-act (commit x k) q F W = twin-commit x k (commit-ok f s x k q) (lineOf (s .bearer) x) refl _ W
-  twin-act (abort x w) q F W = twin-abort f M _ x w W
-  twin-act crash q F W = record { ver = λ j r. none; store = d; stands = refl; twin = down-twin f M (s .store) d (W .stores); echo = same-answer refl }
-  twin-act (recover k) q F W = twin-recover f M _ k W
+  twin-act (begin p) g q F W = record { ver = ver; store = d; stands = refl; twin = record { shape = W .shape; alike = W .alike; stores = W .stores; waits = W .waits }; echo = same-answer refl }
+  twin-act (lock t r a) g q F W = record { ver = ver; store = d; stands = refl; twin = record { shape = W .shape; alike = W .alike; stores = W .stores; waits = W .waits }; echo = same-answer refl }
+  twin-act (write t r o v) g q F W = twin-write f M S F W t r o v v (write-ok f s t r o v q .up) (λ e. refl)
+  twin-act (read t r o) g q F W = twin-read f M S F W t r o (read-ok f s t r o q .up)
+  twin-act (commit x k) g q F W = twin-commit x k (commit-ok f s x k q) (lineOf (s .bearer) x) refl (commit-clear f s x k q) _ W
+  twin-act (abort x w) g q F W = twin-abort f M _ x w W
+  twin-act crash g q F W = record { ver = λ j r. none; store = d; stands = refl; twin = down-twin f M (s .store) d (W .stores) (W .waits); echo = same-answer refl }
+  twin-act (recover k) g q F W = twin-recover f M _ k W
+  twin-act (prepare x k i) g q F W =
+      let ok = prepare-ok f s x k i q in
+      let a = prepare-fits (f .geometry) x k i g in
+      twin-prepare f M _ x k i (clear-of f s x (S .calm (ok .as-commit .up)) (ok .clear)) (S .ranged x) (a .0) (a .1) on-settled W
+  twin-act (decide c k i) g q F W = rw (M .agree-prepared (s .store) d (W .stores)) (twin-decide f M _ c k i (isFor i (f .medium .prepared (s .store))) refl on-settled W)
+  twin-act (query i) g q F W = record { ver = ver; store = d; stands = refl; twin = W; echo = same-answer (ap (λ (o : Option ℕ). done (cond (isFor i o) 1 0)) (M .agree-prepared (s .store) d (W .stores))) }
 
-  -- control looks at no version and no page but the commit page
-  same-refusal : (e : Event) → M .Agree (s .store) d → refusal f (swap f s ver d) e ≡ refusal f s e
-  unfolding refusal refusals live holds holdsWriting hasChild
-  same-refusal (begin p) A = refl
-  same-refusal (lock t r a) A = refl
-  same-refusal (write t r o v) A = refl
-  same-refusal (read t r o) A = refl
-  same-refusal (commit x k) A = refl
-  same-refusal (abort x w) A = refl
-  same-refusal crash A = refl
-  same-refusal (recover k) A = rw (M .agree-damaged (s .store) d A)
+  -- control looks at no byte of a version and no page but the commit page
+  same-refusal : (e : Event) → M .Agree (s .store) d → ((j r : ℕ) → isSome (ver j r) ≡ isSome (s .version j r)) → refusal f (swap f s ver d) e ≡ refusal f s e
+  unfolding refusal refusals live holds holdsWriting hasChild changes busy reserved
+  same-refusal (begin p) A h = refl
+  same-refusal (lock t r a) A h = rw (M .agree-pending (s .store) d A r)
+  same-refusal (write t r o v) A h = refl
+  same-refusal (read t r o) A h = refl
+  same-refusal (commit x k) A h = rw (M .agree-prepared (s .store) d A, fun-ext (h x))
+  same-refusal (abort x w) A h = refl
+  same-refusal crash A h = refl
+  same-refusal (recover k) A h = rw (M .agree-damaged (s .store) d A)
+  same-refusal (prepare x k i) A h = rw (M .agree-prepared (s .store) d A, fun-ext (h x))
+  same-refusal (decide c k i) A h = refl
+  same-refusal (query i) A h = refl
 
   -- nor at the value of a write
   same-refusal-value : (t r o v w : ℕ) → refusal f (swap f s ver d) (write t r o w) ≡ refusal f s (write t r o v)
   unfolding refusal refusals live holdsWriting hasChild
   same-refusal-value t r o v w = refl
 
-  twin-step : (e e′ : Option Event) → let o = step f s e in Fair (lineOf (s .bearer)) (before e (o .answer)) → Twin f M (before e (o .answer)) s ver d
+  twin-step : (e e′ : Option Event) → Held (f .geometry) e → let o = step f s e in Fair (lineOf (s .bearer)) (before e (o .answer)) → Twin f M (before e (o .answer)) s ver d
       → Match f (before e (o .answer)) s e e′ → Next f M (before e (o .answer)) φ e o (step f (swap f s ver d) e′)
   unfolding step judged act finished
-  twin-step none _ F W same-event = record { ver = ver; store = d; stands = refl; twin = W; echo = same-answer refl }
-  twin-step (some e) _ F W same-event = rw (same-refusal e (W .stores)) (go (refusal f s e) refl F W)
+  twin-step none _ g F W same-event = record { ver = ver; store = d; stands = refl; twin = W; echo = same-answer refl }
+  twin-step (some e) _ g F W same-event = rw (same-refusal e (W .stores) (W .shape)) (go (refusal f s e) refl F W)
     where
       go : (p : Option ℕ) → refusal f s e ≡ p → let o = judged f s e p in Fair (lineOf (s .bearer)) (before (some e) (o .answer)) → Twin f M (before (some e) (o .answer)) s ver d
           → Next f M (before (some e) (o .answer)) φ (some e) o (judged f (swap f s ver d) e p)
-      go none q F W = twin-act e q F W
+      go none q F W = twin-act e g q F W
       go (some n) q F W = record { ver = ver; store = d; stands = refl; twin = W; echo = same-answer refl }
-  twin-step _ _ F W (lost-write {t} {r} {o} {v} {w} q n) = rw (same-refusal-value t r o v w) (go (refusal f s (write t r o v)) refl n F W)
+  twin-step _ _ g F W (lost-write {t} {r} {o} {v} {w} q n) = rw (same-refusal-value t r o v w) (go (refusal f s (write t r o v)) refl n F W)
     where
       go : (p : Option ℕ) → refusal f s (write t r o v) ≡ p → let u = judged f s (write t r o v) p in before (some (write t r o v)) (u .answer) (at t) ≢ settled
           → Fair (lineOf (s .bearer)) (before (some (write t r o v)) (u .answer)) → Twin f M (before (some (write t r o v)) (u .answer)) s ver d
@@ -135,10 +146,10 @@ module _ (f : Form) (M : MediumLaws (f .geometry) (f .medium)) (final : ℕ → 
   twice R H ver d [] (u ∷ us) K W E = absurd E
   twice R H ver d (w ∷ ws) [] K W E = absurd E
   twice {start} {s} {h} R H ver d (w ∷ ws) (u ∷ us) K W E =
-      let A = step-after f M (R .sound) H (decode g w) in
+      let A = step-after f M (R .sound) H (decode g w) (held-word g w) in
       let R′ = reached-word f M R w in
       let F′ = fair-run f M ws R′ in
-      let N = twin-step f M (R .sound) (future f s₁ ws) ver d (F′ .on-settled) (decode g w) (decode g u) (fair-step f (R .sound) (future f s₁ ws) (decode g w) F′) W (to-match R H w ws K s₂ u (E .0)) in
+      let N = twin-step f M (R .sound) (future f s₁ ws) ver d (F′ .on-settled) (decode g w) (decode g u) (held-word g w) (fair-step f (R .sound) (future f s₁ ws) (decode g w) F′) W (to-match R H w ws K s₂ u (E .0)) in
       let K′ : Final s₁ (toldOf f h s w) ws = subst (λ (h′ : History). Final s₁ h′ ws) (heard-is f h s w) K in
       let E′ = subst (λ (h′ : History). Along g (SameEvent g final) h′ (rowsFrom f s₁ ws) (rowsFrom f (stepOf f s₂ u .state) us)) (heard-is f h s w) (E .1) in
       let E″ = subst (λ (z : StateOf f). Along g (SameEvent g final) (toldOf f h s w) (rowsFrom f s₁ ws) (rowsFrom f z us)) (N .stands) E′ in

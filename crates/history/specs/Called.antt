@@ -7,16 +7,17 @@ use Rattle.rules.specs.State.{down}
 use Rattle.rules.specs.Form.{Form}
 use Rattle.rules.specs.Step.{StateOf}
 use Rattle.rules.specs.Calls.{Call, left, joinedOf, answersOf, AllPromised}
-use Rattle.history.specs.History.{History, nothingYet, survives, overlaid}
-use Rattle.history.specs.Demand3.{Row, rows, history, Along, SameEvent, SameAnswer, settledIn}
+use Rattle.history.specs.History.{History, survives, overlaid}
+use Rattle.history.specs.Demand3.{Row, rows, history, Along, SameEvent, SameAnswer, settledIn, startOf}
 
 module _ (f : Form) {X : Type 0} where
   -- the events of the calls that answered 0, each with its two answer bytes
   unfoldable pub rowsCalled : List (Call X) → List Row
   rowsCalled cs = rows (joinedOf f cs) (answersOf f cs)
 
-  unfoldable pub historyCalled : List (Call X) → History
-  historyCalled cs = history (f .geometry) nothingYet (rowsCalled cs)
+  -- from a start with these store bytes
+  unfoldable pub historyCalled : List ℕ → List (Call X) → History
+  historyCalled store cs = history (f .geometry) (startOf f store) (rowsCalled cs)
 
   -- the state and the store's bytes that x stands for; x is written as a state is
   module _ (view : X → StateOf f) (bytes : X → List ℕ) (proper : X → Type 0) where
@@ -28,13 +29,13 @@ module _ (f : Form) {X : Type 0} where
 
     -- DEMAND 3, of these calls from x.
     pub record Demand-3-called (x : X) (cs : List (Call X)) : Type 0 where
-      pub surviving-writes : (r : ℕ) → let h = historyCalled cs in
+      pub surviving-writes : (r : ℕ) → let h = historyCalled (bytes x) cs in
           settledIn f (bytes (left x cs)) r ≡ overlaid (survives h) r (h .writes) (settledIn f (bytes x) r)
       -- other calls from a start over the same store bytes, cut in any other way
       pub two-chains : (y : X) (ds : List (Call X)) → Starts y → bytes y ≡ bytes x → AllPromised f view bytes proper y ds
-          → let final = survives (historyCalled cs) in
-          Along (f .geometry) (SameEvent (f .geometry) final) nothingYet (rowsCalled cs) (rowsCalled ds)
-          → Along (f .geometry) (SameAnswer (f .geometry) final) nothingYet (rowsCalled cs) (rowsCalled ds)
+          → let final = survives (historyCalled (bytes x) cs) in
+          Along (f .geometry) (SameEvent (f .geometry) final) (startOf f (bytes x)) (rowsCalled cs) (rowsCalled ds)
+          → Along (f .geometry) (SameAnswer (f .geometry) final) (startOf f (bytes x)) (rowsCalled cs) (rowsCalled ds)
           × ((r : ℕ) → settledIn f (bytes (left y ds)) r ≡ settledIn f (bytes (left x cs)) r)
 
     -- the claim: of all calls from a start that keep the promise

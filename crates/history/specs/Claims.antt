@@ -6,14 +6,14 @@ use mathlib.Core.List.{List, [], _∷_, _++_}
 use mathlib.Core.Option.{Option, none, some}
 use Rattle.laws.specs.Tests.{same}
 use Rattle.rules.specs.Geometry.{Geometry}
-use Rattle.rules.specs.Event.{Event, begin, lock, write, read, commit, abort, crash, recover, decode}
+use Rattle.rules.specs.Event.{Event, begin, lock, write, read, commit, abort, crash, recover, prepare, decide, query, decode}
 use Rattle.rules.specs.State.{live, down}
 use Rattle.rules.specs.Versions.{isSome}
 use Rattle.rules.specs.Form.{Form}
 use Rattle.rules.specs.Step.{StateOf, visible}
 use Rattle.rules.specs.Run.{answerBytes, play}
-use Rattle.history.specs.History.{History, nothingYet, isWithin, standsWith, survives, writesTo, overlaid}
-use Rattle.history.specs.Demand3.{rows, history, settledIn}
+use Rattle.history.specs.History.{History, isWithin, standsWith, survives, writesTo, overlaid}
+use Rattle.history.specs.Demand3.{rows, history, settledIn, startOf}
 
 -- the writes of i stand by now with the transaction of number t or an ancestor of it, or are settled
 unfoldable pub seenBy : History → ℕ → ℕ → Bool
@@ -29,6 +29,9 @@ isRestart (some (commit t k)) = false
 isRestart (some (abort t w)) = false
 isRestart (some crash) = true
 isRestart (some (recover k)) = true
+isRestart (some (prepare t k i)) = false
+isRestart (some (decide d k i)) = false
+isRestart (some (query i)) = false
 
 -- crashes and recoveries only, each cut anywhere
 unfoldable pub restarts : Geometry → List ℕ → Bool
@@ -41,7 +44,7 @@ module _ (f : Form) where
   stateAfter store ws = play f (down (f .medium .fromBytes store)) ws .state
 
   unfoldable pub historyAfter : List ℕ → List ℕ → History
-  historyAfter store ws = history (f .geometry) nothingYet (rows ws (answerBytes (play f (down (f .medium .fromBytes store)) ws .answers)))
+  historyAfter store ws = history (f .geometry) (startOf f store) (rows ws (answerBytes (play f (down (f .medium .fromBytes store)) ws .answers)))
 
   -- THE CENTRAL LAW, after any list of words.
   pub record Reads-overlay (store ws : List ℕ) : Type 0 where

@@ -1,4 +1,5 @@
--- Demand 3 of document 01: a claim about whole runs, in bytes. The history is told from the event bytes and the answer bytes.
+-- Demand 3 of document 01: a claim about whole runs, in bytes. The history is told from the event bytes and the answer bytes; of the start store it
+-- takes only what is prepared there.
 use Prim.Native.Nat.{ℕ}
 use mathlib.Core.Path.{_≡_}
 use mathlib.Core.Bool.{Bool, true, false, cond}
@@ -12,7 +13,7 @@ use Rattle.rules.specs.Event.{write, read, decode}
 use Rattle.rules.specs.Form.{Form}
 use Rattle.rules.specs.Step.{Answer, done, refused, cut}
 use Rattle.rules.specs.Run.{words, eventsIn, run}
-use Rattle.history.specs.History.{History, nothingYet, accepted, belongs, survives, overlaid, told}
+use Rattle.history.specs.History.{History, starting, accepted, belongs, survives, overlaid, told}
 
 -- an event word with the two bytes of its answer
 pub record Row : Type 0 where
@@ -62,6 +63,10 @@ module _ (f : Form) where
   unfoldable pub settledIn : List ℕ → ℕ → Page
   settledIn store r = f .medium .settled (f .medium .fromBytes store) r
 
+  -- the history before the first event
+  unfoldable pub startOf : List ℕ → History
+  startOf store = starting (records (f .geometry)) (f .medium .pending (f .medium .fromBytes store))
+
   -- a run that is played: not refused before the first event
   unfoldable pub Plays : List ℕ → List ℕ → List ℕ → List ℕ → Type 0
   Plays store events work answers = run f store events work answers .answer ≡ 0
@@ -72,7 +77,7 @@ module _ (f : Form) where
 
   -- what a run tells
   unfoldable pub historyOf : List ℕ → List ℕ → List ℕ → List ℕ → History
-  historyOf store events work answers = history (f .geometry) nothingYet (rowsOf store events work answers)
+  historyOf store events work answers = history (f .geometry) (startOf store) (rowsOf store events work answers)
 
   -- DEMAND 3, of a run with these buffers.
   pub record Demand-3 (store events work answers : List ℕ) : Type 0 where
@@ -86,8 +91,8 @@ module _ (f : Form) where
         → let final = survives (historyOf store events work answers) in
         let first = rowsOf store events work answers in
         let second = rowsOf store events′ work′ answers′ in
-        Along (f .geometry) (SameEvent (f .geometry) final) nothingYet first second
-        → Along (f .geometry) (SameAnswer (f .geometry) final) nothingYet first second
+        Along (f .geometry) (SameEvent (f .geometry) final) (startOf store) first second
+        → Along (f .geometry) (SameAnswer (f .geometry) final) (startOf store) first second
         × ((r : ℕ) → settledIn (run f store events′ work′ answers′ .store) r ≡ settledIn (run f store events work answers .store) r)
 
   -- the claim: of every run that is played
@@ -96,5 +101,5 @@ module _ (f : Form) where
 
 -- opens the definitions of this module: for what is proved by computing
 unfoldable pub open-demand : Unit {0}
-unfolding answerOf rows heard history settledIn Plays rowsOf historyOf
+unfolding answerOf rows heard history settledIn startOf Plays rowsOf historyOf
 open-demand = tt

@@ -5,26 +5,28 @@ use mathlib.Core.List.{List, [], _∷_}
 use mathlib.Core.Option.{Option, none, some}
 use lib.ListN.{set}
 use Rattle.laws.specs.Tests.{same, under}
-use Rattle.laws.specs.Counting.{count}
+use Rattle.laws.specs.Counting.{any, count}
 use Rattle.laws.specs.Functions.{updated}
 use Rattle.rules.specs.Geometry.{nobody}
 use Rattle.rules.specs.Store.{Page}
-use Rattle.rules.specs.Event.{Event, begin, lock, write, read, commit, abort, crash, recover}
+use Rattle.rules.specs.Event.{Event, begin, lock, write, read, commit, abort, crash, recover, prepare, decide, query}
+use Rattle.rules.specs.Versions.{isSome}
 use Rattle.rules.specs.Step.{Answer, done, refused, cut, valueOf}
 
--- How a transaction stands: it bears a number; it is a child whose commit was accepted; it is a top one that survives; any other end.
+-- How a transaction stands: it bears a number; it is a child whose commit was accepted; it is a top one that survives; it is one that is
+-- prepared and waits for the decision; any other end.
 pub data Fate : Type 0 where
   bearing : ℕ → Fate
-  committed stored ended : Fate
+  committed stored waiting ended : Fate
 
--- an accepted write
+-- An accepted write, with what it makes of its record: it sets the byte at its offset to its value and no other.
 pub record Write : Type 0 where
   pub transaction : ℕ
   pub rec : ℕ
-  pub offset : ℕ
-  pub value : ℕ
+  pub laid : Page → Page
 
--- A transaction is one accepted begin, not a number. Transactions are counted from 1 in list order; 0 means none.
+-- A transaction is one accepted begin, not a number. Transactions are counted from 1 in list order; 0 means none, or one that was prepared in the
+-- start store.
 pub record History : Type 0 where
   -- the transactions begun so far
   pub begun : ℕ
@@ -39,13 +41,33 @@ pub record History : Type 0 where
 unfoldable pub nothingYet : History
 nothingYet = record { begun = 0; bearer = λ t. 0; parent = λ i. 0; fate = λ i. ended; writes = [] }
 
+-- the pages of the transaction that is prepared in the start store, for the records that it changed, as its writes
+unfoldable pub pageWrite : ℕ → Option Page → List Write → List Write
+pageWrite r none ws = ws
+pageWrite r (some page) ws = record { transaction = 0; rec = r; laid = λ p. page } ∷ ws
+
+unfoldable pub pageWrites : ℕ → (ℕ → Option Page) → List Write
+pageWrites zero pending = []
+pageWrites (suc n) pending = pageWrite n (pending n) (pageWrites n pending)
+
+-- Before the first event, by what is pending in the start store: a transaction that is prepared there waits, and counts as having written its
+-- pages first.
+unfoldable pub starting : ℕ → (ℕ → Option Page) → History
+starting records pending = record {
+  begun = 0;
+  bearer = λ t. 0;
+  parent = λ i. 0;
+  fate = λ i. cond (same i 0 && any records (λ r. isSome (pending r))) waiting ended;
+  writes = pageWrites records pending;
+}
+
 -- An event is accepted exactly if its answer's number is 0 (done) or 11 (cut).
 unfoldable pub accepted : Answer → Bool
 accepted (done v) = true
 accepted (refused n) = false
 accepted (cut v) = true
 
--- the transaction number that an event names; a crash and a recover name none
+-- the transaction number that an event names; a crash, a recover, a decide and a query name none
 unfoldable pub names : Event → Option ℕ
 names (begin p) = some p
 names (lock t r access) = some t
@@ -55,6 +77,9 @@ names (commit t k) = some t
 names (abort t w) = some t
 names crash = none
 names (recover k) = none
+names (prepare t k i) = some t
+names (decide d k i) = none
+names (query i) = none
 
 unfoldable pub bearerOf : History → Option ℕ → ℕ
 bearerOf h none = 0
@@ -77,18 +102,21 @@ unfoldable pub isCommitted : Fate → Bool
 isCommitted (bearing t) = false
 isCommitted committed = true
 isCommitted stored = false
+isCommitted waiting = false
 isCommitted ended = false
 
 unfoldable pub isStored : Fate → Bool
 isStored (bearing t) = false
 isStored committed = false
 isStored stored = true
+isStored waiting = false
 isStored ended = false
 
 unfoldable pub isBearing : Fate → Bool
 isBearing (bearing t) = true
 isBearing committed = false
 isBearing stored = false
+isBearing waiting = false
 isBearing ended = false
 
 -- from i, to the parent as long as a child's commit was accepted, n times at most
@@ -109,10 +137,10 @@ unfoldable pub writesTo : (ℕ → Bool) → ℕ → List Write → Bool
 writesTo p r [] = false
 writesTo p r (w ∷ ws) = (p (w .transaction) && same (w .rec) r) || writesTo p r ws
 
--- the writes of r by the transactions that `p` picks, laid over a page in list order: each sets the byte at its offset and no other
+-- the writes of r by the transactions that `p` picks, laid over a page in list order
 unfoldable pub overlaid : (ℕ → Bool) → ℕ → List Write → Page → Page
 overlaid p r [] page = page
-overlaid p r (w ∷ ws) page = cond (p (w .transaction) && same (w .rec) r) (set (overlaid p r ws page) (w .offset) (w .value)) (overlaid p r ws page)
+overlaid p r (w ∷ ws) page = cond (p (w .transaction) && same (w .rec) r) (w .laid (overlaid p r ws page)) (overlaid p r ws page)
 
 -- The n of document 01: how many of the records have an accepted write by transaction i itself or by a descendant that committed, as did every one between.
 unfoldable pub changedBy : ℕ → History → ℕ → ℕ
@@ -123,6 +151,7 @@ unfoldable pub turned : Bool → Fate → Fate → Fate
 turned who new (bearing t) = cond who new (bearing t)
 turned who new committed = committed
 turned who new stored = stored
+turned who new waiting = waiting
 turned who new ended = ended
 
 unfoldable pub ending : (ℕ → Bool) → Fate → History → History
@@ -146,12 +175,26 @@ pub data Effect : Type 0 where
   aborts : ℕ → Effect
   -- all end
   crashes : Effect
+  -- the transaction of this number is prepared, or is cut before that
+  prepares : ℕ → Bool → Effect
+  -- the prepared transaction is decided on
+  decides : Bool → Effect
 
 -- a commit that is so answered lets a top transaction survive that changed n records: answered 0, or 11 with a value of at least n + 1
 unfoldable pub suffices : Answer → ℕ → Bool
 suffices (done v) n = true
 suffices (refused m) n = false
 suffices (cut v) n = under n v
+
+-- a prepare is whole; a decision for the prepared transaction is stored, if a page write was made: for another it is answered 0 with value 0
+unfoldable pub isWhole : Answer → Bool
+isWhole (done v) = true
+isWhole (refused m) = false
+isWhole (cut v) = false
+
+unfoldable pub decided : Bool → Bool → Effect
+decided d true = nothing
+decided d false = decides d
 
 -- the table: a row for each kind of event, with its answer
 unfoldable pub effect : Event → Answer → Effect
@@ -163,6 +206,9 @@ effect (commit t k) a = commits t (suffices a)
 effect (abort t w) a = aborts t
 effect crash a = crashes
 effect (recover k) a = nothing
+effect (prepare t k i) a = prepares t (isWhole a)
+effect (decide d k i) a = decided d (same (valueOf a) 0)
+effect (query i) a = nothing
 
 -- a bad event is an event too; it does nothing
 unfoldable pub effectOf : Option Event → Answer → Effect
@@ -172,6 +218,19 @@ effectOf (some e) a = effect e a
 -- how transaction i ends by its commit
 unfoldable pub commitFate : ℕ → History → ℕ → (ℕ → Bool) → Fate
 commitFate records h i enough = cond (same (h .parent i) 0) (cond (enough (changedBy records h i)) stored ended) committed
+
+-- how transaction i ends by its prepare: where it changed nothing it just commits
+unfoldable pub prepareFate : ℕ → History → ℕ → Bool → Fate
+prepareFate records h i true = cond (same (changedBy records h i) 0) stored waiting
+prepareFate records h i false = ended
+
+-- the one that waits survives by a decision to commit, and is lost by one to abort
+unfoldable pub resolved : Bool → Fate → Fate
+resolved d (bearing t) = bearing t
+resolved d committed = committed
+resolved d stored = stored
+resolved d waiting = cond d stored ended
+resolved d ended = ended
 
 unfoldable pub after : ℕ → Effect → History → History
 after records nothing h = h
@@ -189,11 +248,13 @@ after records (writes t r o v) h = record {
   bearer = h .bearer;
   parent = h .parent;
   fate = h .fate;
-  writes = record { transaction = h .bearer t; rec = r; offset = o; value = v } ∷ h .writes;
+  writes = record { transaction = h .bearer t; rec = r; laid = λ page. set page o v } ∷ h .writes;
 }
 after records (commits t enough) h = let i : ℕ = h .bearer t in ending (λ k. same k i) (commitFate records h i enough) h
 after records (aborts t) h = ending (isWithin h (h .bearer t)) ended h
 after records crashes h = allEnding h
+after records (prepares t whole) h = let i : ℕ = h .bearer t in ending (λ k. same k i) (prepareFate records h i whole) h
+after records (decides d) h = record { begun = h .begun; bearer = h .bearer; parent = h .parent; fate = λ i. resolved d (h .fate i); writes = h .writes }
 
 -- What an event with its answer adds to the history. Any answer 11 ends every transaction, after what the event itself did.
 unfoldable pub told : ℕ → History → Option Event → Answer → History
@@ -203,5 +264,5 @@ told records h e (cut v) = allEnding (after records (effectOf e (cut v)) h)
 
 -- opens the definitions of this module: for what is proved by computing
 unfoldable pub open-history : Unit {0}
-unfolding nothingYet accepted names bearerOf belongs climbs isWithin isCommitted isStored isBearing follows standsWith survives writesTo overlaid changedBy turned ending allEnding suffices effect effectOf commitFate after told
+unfolding nothingYet pageWrite pageWrites starting accepted names bearerOf belongs climbs isWithin isCommitted isStored isBearing follows standsWith survives writesTo overlaid changedBy turned ending allEnding suffices isWhole decided effect effectOf commitFate prepareFate resolved after told
 open-history = tt

@@ -8,8 +8,8 @@ use lib.ListN.{length}
 use Rattle.rules.specs.Form.{Form}
 use Rattle.rules.specs.Step.{StateOf}
 use Rattle.rules.specs.Portion.{Lent, chain, chainFrom}
-use Rattle.history.specs.History.{History, nothingYet, survives, overlaid}
-use Rattle.history.specs.Demand3.{Row, rows, history, Along, SameEvent, SameAnswer, settledIn}
+use Rattle.history.specs.History.{History, survives, overlaid}
+use Rattle.history.specs.Demand3.{Row, rows, history, Along, SameEvent, SameAnswer, settledIn, startOf}
 use Rattle.history.specs.Claims.{restarts, stateAfter, historyAfter, Reads-overlay}
 
 -- whatever is found of the states between the portions
@@ -19,7 +19,7 @@ module _ (f : Form) (sound : StateOf f → Bool) where
   rowsJoined store ls = rows (chainFrom f sound store ls .joined) (chainFrom f sound store ls .answers)
 
   unfoldable pub historyJoined : List ℕ → List Lent → History
-  historyJoined store ls = history (f .geometry) nothingYet (rowsJoined store ls)
+  historyJoined store ls = history (f .geometry) (startOf f store) (rowsJoined store ls)
 
   -- DEMAND 3, of a chain of portions from a start with these store bytes.
   pub record Demand-3-joined (store : List ℕ) (ls : List Lent) : Type 0 where
@@ -29,8 +29,8 @@ module _ (f : Form) (sound : StateOf f → Bool) where
     -- A second chain over the same store bytes, cut in any other way, whose joined list has the same events but for the value in accepted
     -- writes of transactions that are lost in this one: the same answers but for the bytes that lost transactions read, and the same settled records.
     pub two-chains : (ls′ : List Lent) → let final = survives (historyJoined store ls) in
-        Along (f .geometry) (SameEvent (f .geometry) final) nothingYet (rowsJoined store ls) (rowsJoined store ls′)
-        → Along (f .geometry) (SameAnswer (f .geometry) final) nothingYet (rowsJoined store ls) (rowsJoined store ls′)
+        Along (f .geometry) (SameEvent (f .geometry) final) (startOf f store) (rowsJoined store ls) (rowsJoined store ls′)
+        → Along (f .geometry) (SameAnswer (f .geometry) final) (startOf f store) (rowsJoined store ls) (rowsJoined store ls′)
         × ((r : ℕ) → settledIn f (chainFrom f sound store ls′ .store) r ≡ settledIn f (chainFrom f sound store ls .store) r)
 
   -- THE CENTRAL LAW, of what the chain left: its state and its history are those of the joined list, of which the law holds.

@@ -2,15 +2,15 @@
 use Prim.Native.Nat.{ℕ, zero, suc}
 use mathlib.Core.Bool.{Bool, true, false, cond, _&&_}
 use mathlib.Core.List.{List, [], _∷_}
-use mathlib.Core.Option.{some}
-use lib.ListN.{getD, length}
+use mathlib.Core.Option.{Option, none, some}
+use lib.ListN.{getD, length, set}
 use Rattle.laws.specs.Tests.{same}
 use Rattle.laws.specs.Bytes.{sameList}
 use Rattle.rules.specs.Geometry.{nobody}
-use Rattle.rules.specs.Store.{blank}
-use Rattle.rules.specs.Event.{toWrite, Event, begin, lock, write, read, commit, abort, recover}
+use Rattle.rules.specs.Store.{Page, blank}
+use Rattle.rules.specs.Event.{toWrite, Event, begin, lock, write, read, commit, abort, crash, recover, prepare, decide, query}
 use Rattle.rules.specs.Step.{Answer, done, refused, cut}
-use Rattle.history.specs.History.{Fate, bearing, committed, stored, ended, History, nothingYet, survives, overlaid, told}
+use Rattle.history.specs.History.{Fate, bearing, committed, stored, waiting, ended, History, nothingYet, starting, survives, overlaid, told}
 
 -- an event and its answer
 abbrev pub Line : Type 0
@@ -22,6 +22,7 @@ code (bearing t) = 1
 code committed = 2
 code stored = 3
 code ended = 4
+code waiting = 5
 
 -- a row: events with their answers; for transactions 1, 2, .. how each stands at the end; those that survive; a byte of a record of zeros
 -- over which the surviving writes are laid
@@ -46,16 +47,16 @@ abbrev pub surviving : History → ℕ → ℕ → List ℕ
 surviving h zero i = []
 surviving h (suc n) i = cond (survives h i) (i ∷ surviving h n (suc i)) (surviving h n (suc i))
 
-abbrev pub passes : Trial → Bool
-passes t =
-    let h = toldAll nothingYet (t .lines) in
+abbrev pub passesFrom : History → Trial → Bool
+passesFrom start t =
+    let h = toldAll start (t .lines) in
     let n = length (t .fates) in
     sameList (codes h n 1) (t .fates) && sameList (surviving h n 1) (t .survivors) &&
     same (getD (overlaid (survives h) (t .place .0) (h .writes) blank) (t .place .1) 0) (t .byte)
 
-abbrev pub allPass : List Trial → Bool
-allPass [] = true
-allPass (t ∷ ts) = passes t && allPass ts
+abbrev pub allPass : History → List Trial → Bool
+allPass start [] = true
+allPass start (t ∷ ts) = passesFrom start t && allPass start ts
 
 abbrev ok : Answer
 ok = done 0
@@ -67,6 +68,17 @@ locks t r = lock t r toWrite
 -- an abort without a report
 abbrev aborts : ℕ → Event
 aborts t = abort t false
+
+-- a transaction with a child is prepared, and then this event comes; how it stands then, who survives, and the byte that it wrote
+abbrev waits : Line → ℕ → List ℕ → ℕ → Trial
+waits l c who b = record {
+  lines =
+      (recover 63, ok) ∷ (begin nobody, done 0) ∷ (begin 0, done 1) ∷ (locks 1 3, ok) ∷ (write 1 3 2 7, ok) ∷ (commit 1 0, ok) ∷ (prepare 0 63 7, done 2) ∷ l ∷ [];
+  fates = c ∷ 2 ∷ [];
+  survivors = who;
+  place = (3, 2);
+  byte = b;
+}
 
 abbrev pub trials : List Trial
 trials =
@@ -151,4 +163,43 @@ trials =
       place = (3, 2);
       byte = 8;
     } ∷
+    -- a prepared transaction waits, through a crash, and with it its child; it counts as lost
+    waits (crash, ok) 5 [] 0 ∷
+    -- a decision for another, and one that is cut before its first page write, leave it waiting
+    waits (decide true 0 8, ok) 5 [] 0 ∷ waits (decide true 0 7, cut 0) 5 [] 0 ∷ waits (decide false 0 7, cut 0) 5 [] 0 ∷ waits (query 7, done 1) 5 [] 0 ∷
+    -- a decision to commit that is stored, whole or cut, saves both; one to abort loses them
+    waits (decide true 63 7, done 3) 3 (1 ∷ 2 ∷ []) 7 ∷ waits (decide true 1 7, cut 1) 3 (1 ∷ 2 ∷ []) 7 ∷ waits (decide false 63 7, done 1) 4 [] 0 ∷
+    -- a prepare that is cut is lost; one that changed nothing survives at once
+    record {
+      lines = (recover 63, ok) ∷ (begin nobody, done 0) ∷ (locks 0 3, ok) ∷ (write 0 3 2 7, ok) ∷ (prepare 0 1 7, cut 1) ∷ [];
+      fates = 4 ∷ [];
+      survivors = [];
+      place = (3, 2);
+      byte = 0;
+    } ∷
+    record {
+      lines = (recover 63, ok) ∷ (begin nobody, done 0) ∷ (locks 0 3, ok) ∷ (prepare 0 0 7, ok) ∷ [];
+      fates = 3 ∷ [];
+      survivors = 1 ∷ [];
+      place = (3, 2);
+      byte = 0;
+    } ∷
     []
+
+-- record 3 is pending in the start store
+abbrev pub pending3 : ℕ → Option Page
+pending3 r = cond (same r 3) (some (set blank 2 165)) none
+
+-- after a decision on what was prepared there, another transaction writes beside
+abbrev decidedFirst : Line → ℕ → Trial
+decidedFirst l b = record {
+  lines = (recover 63, ok) ∷ l ∷ (recover 63, ok) ∷ (begin nobody, done 0) ∷ (locks 0 3, ok) ∷ (write 0 3 4 7, ok) ∷ (commit 0 63, done 4) ∷ [];
+  fates = 3 ∷ [];
+  survivors = 1 ∷ [];
+  place = (3, 2);
+  byte = b;
+}
+
+abbrev pub startTrials : List Trial
+startTrials =
+    decidedFirst (decide true 63 7, done 3) 165 ∷ decidedFirst (decide true 1 7, cut 1) 165 ∷ decidedFirst (decide false 63 7, done 1) 0 ∷ decidedFirst (decide true 0 8, ok) 0 ∷ []

@@ -6,6 +6,7 @@ use Prim.Native.Nat.{ℕ, zero, suc, _+_, _≤_, _<_}
 use native.Mathlib.Omega.{arith}
 use lib.ListN.{length, length-append}
 use Rattle.laws.specs.Counting.{count, those}
+use Rattle.laws.proofs.Tests.{same?, Same, is, isnt}
 
 pub count-le : (n : ℕ) (p : ℕ → Bool) → count n p ≤ n
 unfolding count
@@ -15,6 +16,22 @@ count-le (suc n) p = go (p n) (count-le n p)
     go : (b : Bool) → count n p ≤ n → cond b (suc (count n p)) (count n p) ≤ suc n
     go true h = omega arith
     go false h = omega arith
+
+-- none where the test holds of none
+pub count-none : (n : ℕ) (t : ℕ → Bool) → ((r : ℕ) → r < n → t r ≡ false) → count n t ≡ 0
+unfolding count
+count-none zero t h = refl
+count-none (suc n) t h = rw (h n (omega arith)) (count-none n t (λ r k. h r (omega arith)))
+
+pub count-zero : (n : ℕ) (t : ℕ → Bool) → count n t ≡ 0 → (r : ℕ) → r < n → t r ≡ false
+unfolding count
+count-zero zero t e r h = absurd (omega arith)
+count-zero (suc n) t e r h = go (t n) refl e (same? r n) (λ k. count-zero n t k r)
+  where
+    go : (b : Bool) → t n ≡ b → cond b (suc (count n t)) (count n t) ≡ 0 → Same r n → (count n t ≡ 0 → r < n → t r ≡ false) → t r ≡ false
+    go true q k d ih = absurd (omega arith)
+    go false q k (is d _ _) ih = rw d q
+    go false q k (isnt d _ _) ih = ih k (omega (arith, d))
 
 pub those-length : (n : ℕ) (p : ℕ → Bool) → length (those n p) ≡ count n p
 unfolding those count

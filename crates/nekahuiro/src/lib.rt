@@ -1,4 +1,5 @@
-// The open operations: a run, a portion, a fresh store, the age of a record. Any bytes may come in; each refuses or does what the rules say.
+// The open operations: a run, a portion, a fresh store, the age of a record, and the two ends of a two-phase commit. Any bytes may come in; each
+// refuses or does what the rules say.
 ghost use mathlib.Core.Path.{_≡_};
 ghost use Prim.Native.Nat.{ℕ};
 ghost use mathlib.Core.List.{List};
@@ -13,6 +14,8 @@ ghost use Rattle.nekahuiro.specs.Portions.{Kept, kept, Portioned-as};
 ghost use Rattle.events.specs.Whole.{Intact};
 ghost use Rattle.portions.specs.Portion.{whole};
 ghost use Rattle.clauses.specs.Decides.{Decides};
+ghost use Rattle.messages.specs.Codes.{left};
+ghost use Rattle.messages.specs.Votes.{voteOn};
 use portions::Engine;
 
 const STORE: usize = 1056;
@@ -167,4 +170,21 @@ pub extern "C" fn nekahuiro_portion(
     let after = done.engine;
     *state = after;
     done.number
+}
+
+// The depot's turn for an identity, by its state (0 idle, 1 asked, 2 committed, 3 aborted) and a message (0 start, 1 yes, 2 no, 3 give-up): 0, with the
+// next state and the reply (0 prepare, 1 commit, 2 abort); or 27 and nothing is written, also where there is no such state or message.
+#[no_mangle]
+pub extern "C" fn nekahuiro_depot(state: &mut u8, message: u8, reply: &mut u8) -> u8
+    ensures { λ r. let turn = left (now (state .entry)) message (now (reply .entry)) in ⌜ (r ≡ turn .answer) × (now (state .exit) ≡ turn .state) × (now (reply .exit) ≡ turn .reply) ⌝ }
+{
+    messages::depot(state, message, reply)
+}
+
+// The gateway's vote on an event of this kind by the two bytes of its answer, as a message to the depot: 1 yes, 2 no; 0 where it sends none.
+#[no_mangle]
+pub extern "C" fn nekahuiro_vote(kind: u8, number: u8, value: u8) -> u8
+    ensures { λ r. ⌜ r ≡ voteOn kind number value ⌝ }
+{
+    messages::vote(kind, number, value)
 }

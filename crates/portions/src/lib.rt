@@ -36,8 +36,8 @@ pub struct Engine {
     pub spare: [u8; 3],
 }
 
-// A portion of events: the engine comes in and goes out by value, and is changed in place between. What follows from its parents and depths alone
-// is found at the start and not kept.
+// A portion of events: the engine comes in and goes out by value, and is changed in place between. What follows from its parents and depths alone,
+// and what the store says of a prepared transaction, is found at the start and not kept.
 pub fn portion(
     e: Engine,
     store: &mut [u8],
@@ -58,6 +58,9 @@ pub fn portion(
     let mut writers = e.writers;
     let mut live = transactions::live_set(&depth);
     let mut children = transactions::children_of(&parent, &depth);
+    let p = commit::read_held(&store[..]);
+    let mut reserved = p.map;
+    let mut identity = p.identity;
     let table = Event::table();
     let n = events.len() / 4;
     for k in 0..n {
@@ -73,6 +76,8 @@ pub fn portion(
             &mut writers,
             work,
             store,
+            &mut reserved,
+            &mut identity,
             Event::of_word(&table, Event::word_at(events, k)),
         );
         put_answer(answers, k, a);

@@ -11,6 +11,7 @@ use lib.Seq.{take-take}
 use Rattle.laws.specs.Tests.{same, under}
 use Rattle.laws.specs.Bytes.{number}
 use Rattle.laws.proofs.Tests.{lt-under, under-lt}
+use Rattle.laws.proofs.Booleans.{not-false, not-true}
 use Rattle.rules.specs.Geometry.{records, pageCount, open-geometry}
 use Rattle.rules.specs.Store.{Page, pagesOf, named, readCommit, mapIn, isDamaged, damaged, isNamed, intention, home, settled}
 use Rattle.rules.specs.Step.{firstOf}
@@ -22,7 +23,7 @@ use Rattle.numbers.specs.Named.{recordNamed, recordOf}
 use Rattle.numbers.specs.declared.RecordNamed.{RecordNamed}
 use Rattle.numbers.specs.declared.RecordNamed.the-variants as R
 use Rattle.numbers.specs.declared.RecordNumber.{RecordNumber}
-use Rattle.commitpage.specs.Heard.{heard}
+use Rattle.commitpage.specs.Heard.{understood}
 use Rattle.commitpage.specs.declared.CommitMap.{CommitMap}
 use Rattle.age.specs.Meaning.{meaning}
 use Rattle.age.specs.declared.Judged.{Judged}
@@ -36,24 +37,24 @@ stamp-is bs n =
     let e : 4 * (8 * n) ≡ 32 * n = omega arith in
     ap number (ap (λ (k : ℕ). take 4 (drop k bs)) e ∙ sym (take-take 4 32 (drop (32 * n) bs) (omega arith)))
 
--- the page of the settled value, where the commit page says this map
-pub settled-is : (bs : List ℕ) (map r : ℕ) → readCommit geometry1 (pagesOf bs 0) ≡ some map → r < 16
+-- the page of the settled value, where this map is in force
+pub settled-is : (bs : List ℕ) (map r : ℕ) → mapIn (readCommit geometry1 (pagesOf bs 0)) ≡ map → r < 16
     → settled geometry1 (pagesOf bs) r ≡ pagesOf bs (cond (named geometry1 map r) (1 + r) (17 + r))
-unfolding settled isNamed mapIn intention home open-geometry
+unfolding settled isNamed intention home open-geometry
 settled-is bs map r e h = rw (e, lt-under r 16 h) (go (named geometry1 map r))
   where
     go : (b : Bool) → cond b (pagesOf bs (1 + r)) (pagesOf bs (1 + (16 + r))) ≡ pagesOf bs (cond b (1 + r) (17 + r))
     go true = refl
     go false = let q : 1 + (16 + r) ≡ 17 + r = omega arith in ap (pagesOf bs) q
 
-pub age-damaged : (bs : List ℕ) (r clock limit : ℕ) → readCommit geometry1 (pagesOf bs 0) ≡ none → refused 4 ≡ ageIn bs r clock limit
-unfolding ageIn damaged isDamaged
+pub age-damaged : (bs : List ℕ) (r clock limit : ℕ) → damaged geometry1 (pagesOf bs) ≡ true → refused 4 ≡ ageIn bs r clock limit
+unfolding ageIn
 age-damaged bs r clock limit e = rw e
 
-pub age-judged : (bs : List ℕ) (map r clock limit : ℕ) → readCommit geometry1 (pagesOf bs 0) ≡ some map → r < 16
+pub age-judged : (bs : List ℕ) (map r clock limit : ℕ) → damaged geometry1 (pagesOf bs) ≡ false → mapIn (readCommit geometry1 (pagesOf bs 0)) ≡ map → r < 16
     → judged (subℕ clock (number (take 4 (pagesOf bs (cond (named geometry1 map r) (1 + r) (17 + r)))))) limit ≡ ageIn bs r clock limit
-unfolding ageIn damaged isDamaged
-age-judged bs map r clock limit e h = rw (settled-is bs map r e h, e)
+unfolding ageIn
+age-judged bs map r clock limit d e h = rw (settled-is bs map r e h, d)
 
 pub age-short : (bs : List ℕ) (r clock limit : ℕ) → same (length bs) 1056 ≡ false → refused 22 ≡ ageOf edition1 bs r clock limit
 unfolding ageOf ageBy ageRefusals firstOf open-geometry
@@ -72,28 +73,18 @@ age-in bs r clock limit e h = rw (e, h) (go (damaged geometry1 (pagesOf bs)))
     go true = refl
     go false = refl
 
-heard-good : (c : Option ℕ) → heard c .good ≡ true → c ≡ some (heard c .map)
-unfolding heard
-heard-good none e = absurd (false≢true e)
-heard-good (some m) e = refl
-
 -- what is read of the commit page, and what follows of the age
-pub told-good : (bs : List ℕ) (page : Page) (o : CommitMap) (r clock limit n stamp : ℕ) (age : ℤ) (a : Age) → page ≡ pagesOf bs 0 → o ≡ heard (readCommit geometry1 page) → o .good ≡ true → r < 16
+pub told-good : (bs : List ℕ) (page : Page) (o : CommitMap) (r clock limit n stamp : ℕ) (age : ℤ) (a : Age) → page ≡ pagesOf bs 0 → o ≡ understood page → o .good ≡ true → r < 16
     → n ≡ cond (named geometry1 (o .map) r) (1 + r) (17 + r) → stamp ≡ number (take 4 (pagesOf bs n)) → age ≡ subℕ clock stamp → a ≡ judged age limit → a ≡ ageIn bs r clock limit
+unfolding understood damaged
 told-good bs page o r clock limit n stamp age a p q g h en es ea e =
     e ∙ ap (λ (z : ℤ). judged z limit) (ea ∙ ap (subℕ clock) (es ∙ ap (λ (k : ℕ). number (take 4 (pagesOf bs k))) en))
-    ∙ age-judged bs (o .map) r clock limit says h
-  where
-    says : readCommit geometry1 (pagesOf bs 0) ≡ some (o .map)
-    says = let whole : heard (readCommit geometry1 page) .good ≡ true = rw q at g in rw (← p) (heard-good (readCommit geometry1 page) whole ∙ ap (λ (c : CommitMap). some (c .map)) (sym q))
+    ∙ age-judged bs (o .map) r clock limit (not-true _ (ap (λ (x : Page). understood x .good) (sym p) ∙ ap (λ (c : CommitMap). c .good) (sym q) ∙ g))
+    (ap (λ (x : Page). understood x .map) (sym p) ∙ ap (λ (c : CommitMap). c .map) (sym q)) h
 
-pub told-bad : (bs : List ℕ) (page : Page) (o : CommitMap) (r clock limit : ℕ) → page ≡ pagesOf bs 0 → o ≡ heard (readCommit geometry1 page) → o .good ≡ false → refused 4 ≡ ageIn bs r clock limit
-unfolding heard
-told-bad bs page o r clock limit p q g = age-damaged bs r clock limit (rw (← p) (go (readCommit geometry1 page) (rw q at g)))
-  where
-    go : (c : Option ℕ) → heard c .good ≡ false → c ≡ none
-    go none e = refl
-    go (some m) e = absurd (true≢false e)
+pub told-bad : (bs : List ℕ) (page : Page) (o : CommitMap) (r clock limit : ℕ) → page ≡ pagesOf bs 0 → o ≡ understood page → o .good ≡ false → refused 4 ≡ ageIn bs r clock limit
+unfolding understood damaged
+told-bad bs page o r clock limit p q g = age-damaged bs r clock limit (not-false _ (ap (λ (x : Page). understood x .good) (sym p) ∙ ap (λ (c : CommitMap). c .good) (sym q) ∙ g))
 
 pub record-small : (r : RecordNumber) → recordOf r < 16
 unfolding recordOf

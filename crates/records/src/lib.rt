@@ -65,7 +65,7 @@ fn age_in(store: &[u8], r: numbers::RecordNumber, clock: age::Reading, limit: ag
     requires { ⌜ length (now store) ≡ 1056 ⌝ }
     ensures { λ t. ⌜ toldAs t ≡ ageIn (now (store .entry)) (recordOf r) (clock .0) (limit .0) ⌝ }
 {
-    let c = commitpage::read_commit(page::get_page(store, 0));
+    let c = commitpage::read_page(page::get_page(store, 0));
     if c.good {
         let stamp = age::Reading::new(stamp_on(store, settled_page(c.map, r)));
         return Told::Judged(clock.since(stamp).judged_by(limit));

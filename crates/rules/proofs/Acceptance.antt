@@ -9,17 +9,18 @@ use native.Mathlib.Omega.{arith}
 use lib.ListN.{getD}
 use Rattle.laws.specs.Tests.{same, under, open-tests}
 use Rattle.laws.specs.Counting.{all}
-use Rattle.laws.proofs.Tests.{same-eq, same-refl, under-lt}
-use Rattle.laws.proofs.Booleans.{or-cases, and-left, and-right, not-false}
+use Rattle.laws.proofs.Tests.{same-eq, same-refl, under-lt, or-false-left, or-false-right}
+use Rattle.laws.proofs.Booleans.{or-cases, and-left, and-right, both, not-false, not-true}
 use Rattle.laws.proofs.Counting.{lowest-fails}
 use Rattle.rules.specs.Geometry.{transactions, nobody}
-use Rattle.rules.specs.Event.{Event, Access, begin, lock, write, read, commit, abort, crash, recover}
+use Rattle.rules.specs.Event.{Event, Access, begin, lock, write, read, commit, abort, crash, recover, prepare, decide, query}
 use Rattle.rules.specs.State.{depthIn, lineOf, State, live, holds, holdsWriting}
 use Rattle.rules.specs.Locks.{grantable}
 use Rattle.rules.specs.Commit.{Cut}
 use Rattle.rules.specs.Form.{Form}
-use Rattle.rules.specs.Step.{done, refused, firstOf, hasChild, firstFree, StateOf, OutcomeOf, refusals, refusal, ended, raised, concluded, finished, visible, commitsTop, commitsChild, commits, recovers, act, judged, step}
+use Rattle.rules.specs.Step.{done, refused, firstOf, hasChild, firstFree, isFor, isTop, StateOf, OutcomeOf, changes, busy, reserved, refusals, refusal, ended, raised, concluded, finished, visible, commitsTop, commitsChild, commits, recovers, decides, act, judged, step}
 use Rattle.rules.proofs.Grades.{writeMode, graded-lock}
+use Rattle.rules.proofs.Joint.{for-another}
 
 -- a test that did not refuse
 pub pass : (n : ℕ) (b : Bool) (rest : List (ℕ × Bool)) → firstOf ((n, b) ∷ rest) ≡ none → (b ≡ false) × (firstOf rest ≡ none)
@@ -27,9 +28,9 @@ unfolding firstOf
 pass n true rest e = let z : true ≡ false = cc in absurd (true≢false z)
 pass n false rest e = (refl, e)
 
--- the numbers of a table of refusals are from 1 to 10, or 14; so is that of the first that applies
+-- the numbers of a table of refusals are from 1 to 27, and not 11; so is that of the first that applies
 abbrev numbers : ℕ → Bool
-numbers n = (under 0 n && under n 11) || same n 14
+numbers n = under 0 n && under n 28 && not (same n 11)
 
 abbrev allNumbers : List (ℕ × Bool) → Bool
 allNumbers [] = true
@@ -84,6 +85,12 @@ pub record BeginOk (f : Form) (s : StateOf f) (p : ℕ) : Type 0 where
   pub small : firstFree s < transactions
   pub unborne : live s (firstFree s) ≡ false
 
+-- a prepare: as a commit, of a top transaction that changed nothing, or while none is prepared
+pub record PrepareOk (f : Form) (s : StateOf f) (t : ℕ) : Type 0 where
+  pub as-commit : CommitOk s t
+  pub clear : (changes f s t && busy f s) ≡ false
+  pub top : isTop (lineOf (s .bearer) t) ≡ true
+
 -- a recovery: down, over a commit page that is not damaged
 pub record RecoverOk (f : Form) (s : StateOf f) : Type 0 where
   pub down : s .up ≡ false
@@ -112,8 +119,8 @@ module _ (f : Form) (s : StateOf f) where
       let a = pass 2 (not (s .up)) _ e in
       let b = pass 5 (not (live s t)) _ (a .1) in
       let h = pass 14 (hasChild s t) _ (b .1) in
-      let c = pass 8 (not (grantable access (s .held) (s .retained) (lineOf (s .bearer) t) t r)) _ (h .1) in
-      record { up = not-false _ (a .0); alive = not-false _ (b .0); childless = h .0; grant = not-false _ (c .0) }
+      let c = pass 8 (reserved f s r || not (grantable access (s .held) (s .retained) (lineOf (s .bearer) t) t r)) _ (h .1) in
+      record { up = not-false _ (a .0); alive = not-false _ (b .0); childless = h .0; grant = not-false _ (or-false-right (reserved f s r) _ (c .0)) }
 
   pub write-ok : (t r o v : ℕ) → refusal f s (write t r o v) ≡ none → WriteOk s t r
   unfolding refusal refusals holds holdsWriting
@@ -156,6 +163,40 @@ module _ (f : Form) (s : StateOf f) where
       let b = pass 4 (f .medium .damaged (s .store)) _ (a .1) in
       record { down = a .0; whole = b .0 }
 
+  -- a lock is not granted of a record that the prepared transaction changed
+  pub lock-free : (t r : ℕ) (a : Access) → refusal f s (lock t r a) ≡ none → reserved f s r ≡ false
+  unfolding refusal refusals
+  lock-free t r access e =
+      let a = pass 2 (not (s .up)) _ e in
+      let b = pass 5 (not (live s t)) _ (a .1) in
+      let h = pass 14 (hasChild s t) _ (b .1) in
+      or-false-left _ _ (pass 8 (reserved f s r || not (grantable access (s .held) (s .retained) (lineOf (s .bearer) t) t r)) _ (h .1) .0)
+
+  -- a top transaction commits only where it changed nothing, or none is prepared
+  pub commit-clear : (t k : ℕ) → refusal f s (commit t k) ≡ none → isTop (lineOf (s .bearer) t) ≡ true → (changes f s t && busy f s) ≡ false
+  unfolding refusal refusals
+  commit-clear t k e top =
+      let a = pass 2 (not (s .up)) _ e in
+      let b = pass 5 (not (live s t)) _ (a .1) in
+      let c = pass 10 (hasChild s t) _ (b .1) in
+      let d = pass 13 (isTop (lineOf (s .bearer) t) && (changes f s t && busy f s)) _ (c .1) in
+      rw top at (d .0)
+
+  -- so does a prepare, which is of a top transaction
+  pub prepare-ok : (t k i : ℕ) → refusal f s (prepare t k i) ≡ none → PrepareOk f s t
+  unfolding refusal refusals
+  prepare-ok t k i e =
+      let a = pass 2 (not (s .up)) _ e in
+      let b = pass 5 (not (live s t)) _ (a .1) in
+      let c = pass 10 (hasChild s t) _ (b .1) in
+      let d = pass 13 (changes f s t && busy f s) _ (c .1) in
+      let g = pass 27 (not (isTop (lineOf (s .bearer) t))) _ (d .1) in
+      record { as-commit = record { up = not-false _ (a .0); alive = not-false _ (b .0); childless = c .0 }; clear = d .0; top = not-false _ (g .0) }
+
+  pub decide-ok : (d : Bool) (k i : ℕ) → refusal f s (decide d k i) ≡ none → s .up ≡ true
+  unfolding refusal refusals
+  decide-ok d k i e = not-false _ (pass 2 (not (s .up)) _ e .0)
+
   -- what is done is never answered as refused
   concluded-answer : (whole : StateOf f) (c : Cut (f .medium .Store)) (b : Bool) (n : ℕ) → concluded whole c b .answer ≡ refused n → ⊥
   unfolding concluded
@@ -175,8 +216,15 @@ module _ (f : Form) (s : StateOf f) where
       concluded-answer (ended s (λ j. same j t) (c .store)) c (c .crashed) n e
   commits-answer t k (a ∷ y ∷ l) n e = done-answer 0 n e
 
+  decides-answer : (d : Bool) (k : ℕ) (b : Bool) (n : ℕ) → decides f s d k b .answer ≡ refused n → ⊥
+  unfolding decides recovers
+  decides-answer d k true n e =
+      let c = f .medium .decide (s .store) d k in
+      concluded-answer (raised s (c .store)) c (c .crashed) n e
+  decides-answer d k false n e = done-answer 0 n (sym (ap (λ (o : OutcomeOf f). o .answer) (for-another f s d k)) ∙ e)
+
   pub act-answer : (e : Event) (n : ℕ) → act f s e .answer ≡ refused n → ⊥
-  unfolding act finished recovers
+  unfolding act finished recovers commitsTop
   act-answer (begin p) n e = done-answer (firstFree s) n e
   act-answer (lock t r a) n e = done-answer 0 n e
   act-answer (write t r o v) n e = done-answer 0 n e
@@ -187,6 +235,11 @@ module _ (f : Form) (s : StateOf f) where
   act-answer (recover k) n e =
       let c = f .medium .recover (s .store) k in
       concluded-answer (raised s (c .store)) c (c .crashed) n e
+  act-answer (prepare t k i) n e =
+      let c = f .medium .prepare (s .store) (s .version t) i k in
+      concluded-answer (ended s (λ j. same j t) (c .store)) c (c .crashed) n e
+  act-answer (decide d k i) n e = decides-answer d k (isFor i (f .medium .prepared (s .store))) n e
+  act-answer (query i) n e = done-answer (cond (isFor i (f .medium .prepared (s .store))) 1 0) n e
 
   -- an event is refused, and changes nothing, or it is not refused, and acts
   pub data Judged (e : Event) : Type 0 where
@@ -229,18 +282,24 @@ module _ (f : Form) (s : StateOf f) where
   tabled (abort t w) = refl
   tabled crash = refl
   tabled (recover k) = refl
+  tabled (prepare t k i) = refl
+  tabled (decide d k i) = refl
+  tabled (query i) = refl
 
   -- the number of a refusal
-  pub refused-number : (e : Option Event) (n : ℕ) → step f s e .answer ≡ refused n → ((1 ≤ n) × (n ≤ 10)) ⊎ (n ≡ 14)
+  pub refused-number : (e : Option Event) (n : ℕ) → step f s e .answer ≡ refused n → (1 ≤ n) × (n ≤ 27) × (n ≢ 11)
   unfolding step judged refusal
-  refused-number none n q = let k : 1 ≡ n = cc in inl (omega arith)
+  refused-number none n q = let k : 1 ≡ n = cc in (omega arith, omega arith, λ e. omega arith)
   refused-number (some e) n q = said (go (firstOf (refusals f s e)) refl q)
     where
       go : (o : Option ℕ) → firstOf (refusals f s e) ≡ o → judged f s e o .answer ≡ refused n → numbers n ≡ true
       go none h q = absurd (act-answer e n q)
       go (some m) h q = let k : m ≡ n = cc in rw (← k) (first-number (refusals f s e) m (tabled e) h)
 
-      said : numbers n ≡ true → ((1 ≤ n) × (n ≤ 10)) ⊎ (n ≡ 14)
-      said h = or-cases (under 0 n && under n 11) (same n 14) h
-          (λ p. let low = under-lt 0 n (and-left (under 0 n) (under n 11) p) in let high = under-lt n 11 (and-right (under 0 n) (under n 11) p) in inl (omega (arith, low, high)))
-          (λ p. inr (same-eq n 14 p))
+      said : numbers n ≡ true → (1 ≤ n) × (n ≤ 27) × (n ≢ 11)
+      said h =
+          let a = both (under 0 n && under n 28) (not (same n 11)) h in
+          let b = both (under 0 n) (under n 28) (a .0) in
+          let low = under-lt 0 n (b .0) in
+          let high = under-lt n 28 (b .1) in
+          (omega (arith, low), omega (arith, high), λ e. true≢false (sym (same-refl 11) ∙ rw e at (not-true (same n 11) (a .1))))

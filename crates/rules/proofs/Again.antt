@@ -6,15 +6,16 @@ use mathlib.Core.Logic.{_≢_}
 use mathlib.Core.Option.{none, some}
 use Prim.Native.Nat.{ℕ}
 use Rattle.laws.specs.Tests.{same}
-use Rattle.laws.proofs.Tests.{same?, Same, is, isnt, same-eq, Is, is?, yes′, no′}
+use Rattle.laws.proofs.Tests.{same?, Same, is, isnt, same-eq, or-false-left, Is, is?, yes′, no′}
 use Rattle.laws.proofs.Booleans.{or-right, and-left, and-right, refute, clash}
 use Rattle.laws.proofs.Counting.{all-of}
 use Rattle.rules.specs.Geometry.{transactions}
 use Rattle.rules.specs.Event.{Access, toWrite, toRead, lock}
 use Rattle.rules.specs.State.{Mode, nothing, reading, writing, isLock, isWriting, stronger, lineOf, mem, live, holds, holdsWriting}
 use Rattle.rules.specs.Locks.{modeFor, bars, holdersAllow, retainersAllow, grantable, granted}
+use Rattle.rules.specs.Versions.{isSome}
 use Rattle.rules.specs.Form.{Form}
-use Rattle.rules.specs.Step.{done, firstOf, hasChild, StateOf, locked, finished, refusals, refusal, act, judged, step}
+use Rattle.rules.specs.Step.{done, firstOf, hasChild, StateOf, reserved, locked, finished, refusals, refusal, act, judged, step}
 use Rattle.rules.specs.Sound.{Sound}
 use Rattle.rules.proofs.Grades.{allows, allowing, graded-lock}
 use Rattle.rules.proofs.Locks.{owned-of}
@@ -70,9 +71,13 @@ module _ {f : Form} {s : StateOf f} (S : Sound f s) (t r : ℕ) (a : Access) (he
       go (yes′ d) = d
       go (no′ d) = clash alive (S .idle t d)
 
+  unreserved : reserved f s r ≡ false
+  unfolding reserved holds
+  unreserved = refute (isSome (f .medium .pending (s .store) r)) (λ d. clash (graded-lock (allowing a) (s .held r t) held) (or-false-left _ _ (S .reserved r t d)))
+
   not-refused : hasChild s t ≡ false → refusal f s (lock t r a) ≡ none
   unfolding refusal refusals firstOf
-  not-refused childless = rw (alive, childless, grants-again, up)
+  not-refused childless = rw (unreserved, alive, childless, grants-again, up)
 
   pub locks-again : hasChild s t ≡ false → step f s (some (lock t r a)) ≡ finished s 0
   unfolding step judged act finished locked

@@ -1,7 +1,8 @@
 -- A commit and a recovery cut anywhere: the pages that are there then, how many writes are due, and what is settled.
 use mathlib.Core.Path.{_≡_, refl, sym, _∙_, ap, subst⁻¹}
-use mathlib.Core.Bool.{Bool, true, false, cond, _||_, true≢false}
+use mathlib.Core.Bool.{Bool, true, false, not, cond, _&&_, _||_, true≢false}
 use mathlib.Core.List.{List, [], _∷_, _++_}
+use mathlib.Core.Option.{none}
 use Prim.Native.Nat.{ℕ, zero, suc, _+_, _-_, _*_, _^_, _≤_, _<_}
 use native.Mathlib.Omega.{arith}
 use lib.ListN.{length, take, length-append, length-map}
@@ -11,10 +12,11 @@ use Rattle.laws.specs.Tests.{same, under}
 use Rattle.laws.specs.Counting.{those}
 use Rattle.laws.proofs.Tests.{same-refl, ne-false, Is, is?, yes′, no′, under-lt, lt-under, not-under}
 use Rattle.rules.specs.Geometry.{Geometry, Proper, records}
-use Rattle.rules.specs.Store.{Page, Pages, intention, home, mapOf, commitPage, readCommit, isDamaged, isEmptied, emptied, isNamed, settled}
+use Rattle.rules.specs.Store.{Page, Pages, intention, home, mapOf, commitPage, readCommit, isDamaged, isEmptied, emptied, isNamed, readPrepared, isPrepared, settled}
 use Rattle.rules.specs.State.{mem}
 use Rattle.rules.specs.Commit.{PageWrite, sets, written, applied, intentions, homes, marks, commitWrites, recoverWrites}
 use Rattle.rules.proofs.CommitPage.{read-commitPage}
+use Rattle.rules.proofs.PreparedPage.{not-prepared}
 use Rattle.rules.proofs.Members.{mem-take, those-below, those-is}
 use Rattle.rules.proofs.Shows.{lay, applied-append, take-map, Shows, shows-itself, shows-mark, shows-intentions, shows-homes, names, names-below, settled-shows, names-empty, emptied-zero, names-those}
 
@@ -46,7 +48,7 @@ commitDue n = cond (same n 0) 0 (2 * n + 2)
 unfoldable pub recoverDue : ℕ → ℕ
 recoverDue n = cond (same n 0) 0 (n + 1)
 
-take-none : (k : ℕ) (s : Pages) → applied (take k []) s ≡ s
+pub take-none : (k : ℕ) (s : Pages) → applied (take k []) s ≡ s
 unfolding applied
 take-none zero s = refl
 take-none (suc k) s = refl
@@ -61,13 +63,17 @@ not-taken f rs j base r = go (is? (mem r rs)) (is? (mem r (take j rs)))
     go (no′ a) (no′ b) = rw (a, b)
     go (no′ a) (yes′ b) = absurd (true≢false (sym (mem-take j r rs b) ∙ a))
 
-lay-lay : (f : ℕ → Page) (rs : List ℕ) (base : ℕ → Page) (c : Page) (r : ℕ) → cond (mem r rs) (lay f rs base r) c ≡ cond (mem r rs) (f r) c
+pub lay-lay : (f : ℕ → Page) (rs : List ℕ) (base : ℕ → Page) (c : Page) (r : ℕ) → cond (mem r rs) (lay f rs base r) c ≡ cond (mem r rs) (f r) c
 unfolding lay
 lay-lay f rs base c r = go (is? (mem r rs))
   where
     go : Is (mem r rs) → cond (mem r rs) (lay f rs base r) c ≡ cond (mem r rs) (f r) c
     go (yes′ a) = rw a
     go (no′ a) = rw a
+
+-- a commit page that is damaged
+unfoldable pub broken : Geometry → Page → Bool
+broken g page = isDamaged (readCommit g page) && not (isPrepared (readPrepared g page))
 
 module _ (g : Geometry) where
   pub commit-length : (f : ℕ → Page) (m : ℕ) (rs : List ℕ) → length (commitWrites g f m rs) ≡ commitDue (length rs)
@@ -94,10 +100,10 @@ module _ (g : Geometry) where
   body : (ℕ → Page) → ℕ → List ℕ → List PageWrite
   body f m rs = intentions g f rs ++ (marks g m ∷ (homes g f rs ++ (marks g 0 ∷ [])))
 
-  plan-of : Pages → ℕ → Page
+  unfoldable pub plan-of : Pages → ℕ → Page
   plan-of s q = s (intention q)
 
-  home-of : Pages → ℕ → Page
+  unfoldable pub home-of : Pages → ℕ → Page
   home-of s q = s (home g q)
 
   -- the pages where a commit is cut
@@ -107,7 +113,7 @@ module _ (g : Geometry) where
   Reached f m rs k s (late j e h) x = Shows g x (commitPage g 0) (lay f rs (plan-of s)) (lay f rs (home-of s))
 
   module _ (f : ℕ → Page) (rs : List ℕ) where
-    planned-length : length (intentions g f rs) ≡ length rs
+    pub planned-length : length (intentions g f rs) ≡ length rs
     unfolding intentions
     planned-length = length-map rs (λ r. sets (intention r) (f r))
 
@@ -115,7 +121,7 @@ module _ (g : Geometry) where
     unfolding homes
     homed-length = length-map rs (λ r. sets (home g r) (f r))
 
-    take-intentions : (k : ℕ) → take k (intentions g f rs) ≡ intentions g f (take k rs)
+    pub take-intentions : (k : ℕ) → take k (intentions g f rs) ≡ intentions g f (take k rs)
     unfolding intentions
     take-intentions k = take-map (λ r. sets (intention r) (f r)) k rs
 
@@ -123,7 +129,7 @@ module _ (g : Geometry) where
     unfolding homes
     take-homes k = take-map (λ r. sets (home g r) (f r)) k rs
 
-  start : (s : Pages) → Shows g s (s 0) (plan-of s) (home-of s)
+  pub start : (s : Pages) → Shows g s (s 0) (plan-of s) (home-of s)
   unfolding plan-of home-of
   start s = shows-itself g s
 
@@ -191,24 +197,44 @@ module _ (g : Geometry) where
       go (middle j e a) = absurd (omega (arith, due))
       go (late j e a) = emptied-zero g proper
 
-  -- wherever it is cut, the commit page is one that can be read
-  pub commit-readable : Proper g → (k m : ℕ) → m < 2 ^ records g → (rs : List ℕ) (p : Page) → isDamaged (readCommit g p) ≡ false → isDamaged (readCommit g (committedMark k m rs p)) ≡ false
-  unfolding committedMark markAt isDamaged
+  -- wherever it is cut, the commit page is not damaged
+  pub commit-readable : Proper g → (k m : ℕ) → m < 2 ^ records g → (rs : List ℕ) (p : Page) → broken g p ≡ false → broken g (committedMark k m rs p) ≡ false
+  unfolding committedMark markAt broken isDamaged
   commit-readable proper k m small [] p e = e
   commit-readable proper k m small (r ∷ rs) p e = go (stage? (suc (length rs)) k)
     where
-      go : (st : Stage (suc (length rs)) k) → isDamaged (readCommit g (markAt m st p)) ≡ false
+      go : (st : Stage (suc (length rs)) k) → broken g (markAt m st p) ≡ false
       go (early a) = e
       go (middle j q a) = rw (read-commitPage g proper m small)
       go (late j q a) = rw (read-commitPage g proper 0 (pow-pos (records g)))
 
-  pub recover-readable : Proper g → (k : ℕ) (rs : List ℕ) (p : Page) → isDamaged (readCommit g p) ≡ false → isDamaged (readCommit g (recoveredMark k rs p)) ≡ false
-  unfolding recoveredMark isDamaged
+  pub recover-readable : Proper g → (k : ℕ) (rs : List ℕ) (p : Page) → broken g p ≡ false → broken g (recoveredMark k rs p) ≡ false
+  unfolding recoveredMark broken isDamaged
   recover-readable proper k [] p e = e
   recover-readable proper k (r ∷ rs) p e = go (under (suc (length rs)) k)
     where
-      go : (b : Bool) → isDamaged (readCommit g (cond b (commitPage g 0) p)) ≡ false
+      go : (b : Bool) → broken g (cond b (commitPage g 0) p) ≡ false
       go true = rw (read-commitPage g proper 0 (pow-pos (records g)))
+      go false = e
+
+  -- nor is it a prepared one, where it wasn't
+  pub commit-unprepared : Proper g → (k m : ℕ) → m < 2 ^ records g → (rs : List ℕ) (p : Page) → readPrepared g p ≡ none → readPrepared g (committedMark k m rs p) ≡ none
+  unfolding committedMark markAt
+  commit-unprepared proper k m small [] p e = e
+  commit-unprepared proper k m small (r ∷ rs) p e = go (stage? (suc (length rs)) k)
+    where
+      go : (st : Stage (suc (length rs)) k) → readPrepared g (markAt m st p) ≡ none
+      go (early a) = e
+      go (middle j q a) = not-prepared g proper m small
+      go (late j q a) = not-prepared g proper 0 (pow-pos (records g))
+
+  pub recover-unprepared : Proper g → (k : ℕ) (rs : List ℕ) (p : Page) → readPrepared g p ≡ none → readPrepared g (recoveredMark k rs p) ≡ none
+  unfolding recoveredMark
+  recover-unprepared proper k [] p e = e
+  recover-unprepared proper k (r ∷ rs) p e = go (under (suc (length rs)) k)
+    where
+      go : (b : Bool) → readPrepared g (cond b (commitPage g 0) p) ≡ none
+      go true = not-prepared g proper 0 (pow-pos (records g))
       go false = e
 
   module _ (f : ℕ → Page) (rs : List ℕ) (s : Pages) where

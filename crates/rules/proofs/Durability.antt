@@ -1,22 +1,30 @@
 -- What the stable store promises, for readers: a commit settles all its versions or none wherever it is cut, recovery cut any number of times
 -- changes no settled record, neither damages the commit page, and how many page writes each takes.
 use mathlib.Core.Path.{_≡_, refl, sym, _∙_, ap}
-use mathlib.Core.Bool.{true, false, cond}
+use mathlib.Core.Bool.{true, false, cond, true≢false}
 use mathlib.Core.List.{List, [], _∷_}
-use mathlib.Core.Logic.{_⊎_, inl, inr}
-use mathlib.Core.Option.{Option}
-use Prim.Native.Nat.{ℕ, _+_, _*_, _<_}
+use mathlib.Core.Logic.{_≢_, _⊎_, inl, inr}
+use mathlib.Core.Option.{Option, some}
+use Prim.Native.Nat.{ℕ, zero, suc, _+_, _*_, _<_}
+use native.Mathlib.Omega.{arith}
 use Rattle.laws.specs.Tests.{same, under}
-use Rattle.laws.proofs.Tests.{Is, is?, yes′, no′, under-lt}
-use Rattle.rules.specs.Geometry.{Geometry, Proper}
-use Rattle.rules.specs.Store.{Page, Pages, readCommit, isDamaged, damaged, emptied, settled}
+use Rattle.laws.specs.Counting.{count}
+use Rattle.laws.proofs.Tests.{ne-false, Is, is?, yes′, no′, under-lt, lt-under}
+use Rattle.laws.proofs.Those.{count-zero}
+use Rattle.laws.proofs.Booleans.{or-left}
+use Rattle.rules.specs.Geometry.{Geometry, Proper, records}
+use Rattle.rules.specs.Store.{Page, Pages, readCommit, isDamaged, damaged, emptied, Prepared, readPrepared, preparedMap, isReserved, settled}
 use Rattle.rules.specs.Versions.{else}
-use Rattle.rules.specs.Commit.{commitAt, recoverAt}
+use Rattle.rules.specs.Commit.{Cut, commitAt, recoverAt, prepareAt, decideAt}
 use Rattle.rules.specs.Form.{atomicPages}
-use Rattle.rules.proofs.Medium.{changedIn, stored, Ranged, MediumLaws}
-use Rattle.rules.proofs.Map.{mapOf-lt}
-use Rattle.rules.proofs.Cuts.{commitDue, recoverDue, commit-readable, recover-readable}
-use Rattle.rules.proofs.AtomicPages.{madeOf, namedIn, commit-made, commit-crashed, commit-page, recover-made, recover-crashed, recover-page, atomic-laws}
+use Rattle.rules.proofs.Medium.{changedIn, stored, Ranged, isClear, MediumLaws}
+use Rattle.rules.proofs.Map.{mapOf-lt, names-none}
+use Rattle.rules.proofs.PreparedPage.{prepared-is}
+use Rattle.rules.proofs.Cuts.{commitDue, recoverDue, broken, commit-readable, recover-readable}
+use Rattle.rules.proofs.AtomicCommits.{madeOf, namedIn, commit-made, commit-crashed, commit-page, recover-made, recover-crashed, recover-page}
+use Rattle.rules.proofs.Prepares.{prepareDue, ruled, ruled-count, commits-first, commits-then, aborts-first, aborts-then}
+use Rattle.rules.proofs.AtomicPrepares.{prepare-made, prepare-crashed}
+use Rattle.rules.proofs.AtomicPages.{atomic-laws}
 
 -- made of a list of writes that was cut, or wasn't
 cut-made : (k due : ℕ) → under k due ≡ true → (madeOf k due ≡ k) × (k < due)
@@ -56,7 +64,50 @@ module _ (g : Geometry) where
   recover-cut s k e =
       let c = cut-made k (recoverDue (namedIn g s)) (sym (recover-crashed g s k) ∙ e) in (recover-made g s k ∙ c .0, c .1)
 
+  -- how many records the prepared transaction changed
+  unfoldable pub reservedIn : Pages → ℕ
+  reservedIn s = count (records g) (isReserved g s)
+
   module _ (proper : Proper g) where
+    -- a prepare of n records that is not cut takes n + 1 page writes, or none for no record; one that is cut at k makes exactly k, fewer than it should
+    pub prepare-due : (s : Pages) (v : ℕ → Option Page) (i k : ℕ) → prepareAt g s v i k .crashed ≡ false
+        → prepareAt g s v i k .made ≡ cond (same (changedIn g v) 0) 0 (changedIn g v + 1)
+    unfolding prepareDue
+    prepare-due s v i k e = prepare-made g proper s v i k ∙ whole-made k (prepareDue (changedIn g v)) (sym (prepare-crashed g proper s v i k) ∙ e)
+
+    pub prepare-cut : (s : Pages) (v : ℕ → Option Page) (i k : ℕ) → prepareAt g s v i k .crashed ≡ true
+        → (prepareAt g s v i k .made ≡ k) × (k < cond (same (changedIn g v) 0) 0 (changedIn g v + 1))
+    unfolding prepareDue
+    prepare-cut s v i k e =
+        let c = cut-made k (prepareDue (changedIn g v)) (sym (prepare-crashed g proper s v i k) ∙ e) in (prepare-made g proper s v i k ∙ c .0, c .1)
+
+    -- a decision on n records that is not cut takes n + 2 page writes to commit, 1 to abort
+    module _ (s : Pages) (p : Prepared) (here : readPrepared g (s 0) ≡ some p) where
+      -- it changed some record
+      pub some-reserved : reservedIn s ≢ 0
+      unfolding reservedIn isReserved preparedMap
+      some-reserved e =
+          let S = prepared-is g (s 0) p here .1 in
+          S .some-record (names-none g (p .map) (S .map-fits) (λ r h. rw (lt-under r (records g) h, here) at (count-zero (records g) (isReserved g s) e r h)))
+
+      pub commit-decision-due : (k : ℕ) → decideAt g s true k .crashed ≡ false → decideAt g s true k .made ≡ reservedIn s + 2
+      unfolding reservedIn namedIn recoverDue
+      commit-decision-due zero e = absurd (true≢false (sym (ap (λ (c : Cut Pages). c .crashed) (commits-first g proper s p here)) ∙ e))
+      commit-decision-due (suc k) e =
+          let x = ruled g proper s p here in
+          let q = commits-then g proper s p here k in
+          let d = recover-due x k (sym (ap (λ (c : Cut Pages). c .crashed) q) ∙ e) in
+          ap (λ (c : Cut Pages). c .made) q
+          ∙ ap suc (d ∙ ap (λ (m : ℕ). cond (same m 0) 0 (m + 1)) (ruled-count g proper s p here) ∙ rw (ne-false (count (records g) (isReserved g s)) 0 some-reserved))
+          ∙ more (count (records g) (isReserved g s))
+        where
+          more : (m : ℕ) → suc (m + 1) ≡ m + 2
+          more m = omega arith
+
+      pub abort-decision-due : (k : ℕ) → decideAt g s false k .crashed ≡ false → decideAt g s false k .made ≡ 1
+      abort-decision-due zero e = absurd (true≢false (sym (ap (λ (c : Cut Pages). c .crashed) (aborts-first g proper s p here)) ∙ e))
+      abort-decision-due (suc k) e = ap (λ (c : Cut Pages). c .made) (aborts-then g proper s p here k)
+
     laws : MediumLaws g (atomicPages g)
     laws = atomic-laws g proper
 
@@ -67,22 +118,22 @@ module _ (g : Geometry) where
     recoveries-keep s (k ∷ ks) r = recoveries-keep (recoverAt g s k .store) ks r ∙ laws .recover-settled s k r
 
     pub recoveries-sound : (s : Pages) (ks : List ℕ) → damaged g s ≡ false → damaged g (recoveries s ks) ≡ false
-    unfolding recoveries damaged
+    unfolding recoveries damaged broken
     recoveries-sound s [] e = e
-    recoveries-sound s (k ∷ ks) e =
-        recoveries-sound (recoverAt g s k .store) ks (ap (λ p. isDamaged (readCommit g p)) (recover-page g s k) ∙ recover-readable g proper k _ (s 0) e)
+    recoveries-sound s (k ∷ ks) e = recoveries-sound (recoverAt g s k .store) ks (ap (broken g) (recover-page g s k) ∙ recover-readable g proper k _ (s 0) e)
 
     -- a commit leaves a commit page that can be read, wherever it is cut
     pub commit-sound : (s : Pages) (v : ℕ → Option Page) (k : ℕ) → damaged g s ≡ false → damaged g (commitAt g s v k .store) ≡ false
-    unfolding damaged
-    commit-sound s v k e = ap (λ p. isDamaged (readCommit g p)) (commit-page g s v k) ∙ commit-readable g proper k _ (mapOf-lt g _) _ (s 0) e
+    unfolding damaged broken
+    commit-sound s v k e = ap (broken g) (commit-page g s v k) ∙ commit-readable g proper k _ (mapOf-lt g _) _ (s 0) e
 
     -- a commit settles all its versions or none, wherever it is cut, and so it stays through any recoveries
     pub commit-all-or-none : (s : Pages) (v : ℕ → Option Page) (k : ℕ) (ks : List ℕ) → emptied g s ≡ true → Ranged g v
         → ((r : ℕ) → settled g (recoveries (commitAt g s v k .store) ks) r ≡ else (v r) (settled g s r)) ⊎ ((r : ℕ) → settled g (recoveries (commitAt g s v k .store) ks) r ≡ settled g s r)
+    unfolding isClear
     commit-all-or-none s v k ks empty ranged = go (is? (stored (changedIn g v) (commitAt g s v k .made)))
       where
         go : Is (stored (changedIn g v) (commitAt g s v k .made))
             → ((r : ℕ) → settled g (recoveries (commitAt g s v k .store) ks) r ≡ else (v r) (settled g s r)) ⊎ ((r : ℕ) → settled g (recoveries (commitAt g s v k .store) ks) r ≡ settled g s r)
-        go (yes′ q) = inl λ r. recoveries-keep (commitAt g s v k .store) ks r ∙ laws .commit-kept s v k r empty ranged q
-        go (no′ q) = inr λ r. recoveries-keep (commitAt g s v k .store) ks r ∙ laws .commit-lost s v k r empty q
+        go (yes′ q) = inl λ r. recoveries-keep (commitAt g s v k .store) ks r ∙ laws .commit-kept s v k r (or-left (emptied g s) _ empty) ranged q
+        go (no′ q) = inr λ r. recoveries-keep (commitAt g s v k .store) ks r ∙ laws .commit-lost s v k r (or-left (emptied g s) _ empty) q

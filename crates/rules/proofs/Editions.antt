@@ -10,5 +10,6 @@ proper1 = record {
   edition-fits = le-by-compare 2 16 tt;
   ones-fit = le-by-compare 17 32 tt;
   page-fits = le-by-compare 29 256 tt;
+  joint-fits = λ e. le-by-compare 29 32 tt;
   word-whole = refl;
 }

@@ -112,7 +112,7 @@ module _ {f : Form} {s : StateOf f} (S : Sound f s) where
           (λ k. S .on-one-line r q z h k))
 
   -- who has a version has the lock
-  version-lock : (t r : ℕ) → isSome (s .version t r) ≡ true → has isLock (s .held) (s .retained) r t ≡ true
+  pub version-lock : (t r : ℕ) → isSome (s .version t r) ≡ true → has isLock (s .held) (s .retained) r t ≡ true
   version-lock t r v = has-as isWriting isLock (s .held) (s .retained) r t (graded-lock writeMode) (owned-of .by-lock t r v)
 
   pub version-live : (t r : ℕ) → isSome (s .version t r) ≡ true → live s t ≡ true

@@ -15,7 +15,7 @@ use Rattle.rules.specs.Locks.{bars}
 use Rattle.rules.specs.Versions.{isSome}
 use Rattle.rules.specs.Form.{Form}
 use Rattle.rules.specs.Step.{StateOf}
-use Rattle.rules.specs.Sound.{Sound, inLine}
+use Rattle.rules.specs.Sound.{Sound, inLine, isCalm}
 use Rattle.rules.proofs.Tree.{antisym}
 use Rattle.rules.proofs.Bearers.{Rooted, rooted-tree, line-of-member}
 use Rattle.rules.proofs.Grades.{allowing, has}
@@ -28,7 +28,8 @@ pub record Parts (f : Form) (s : StateOf f) : Type 0 where
   pub ranged : (t r : ℕ) → isSome (s .version t r) ≡ true → r < records (f .geometry)
   pub paged : (t r : ℕ) (p : Page) → s .version t r ≡ some p → length p ≡ pageSize
   pub idle : (t : ℕ) → s .up ≡ false → live s t ≡ false
-  pub calm : s .up ≡ true → f .medium .emptied (s .store) ≡ true
+  pub calm : s .up ≡ true → isCalm (f .medium) (s .store) ≡ true
+  pub reserved : (r t : ℕ) → isSome (f .medium .pending (s .store) r) ≡ true → has isLock (s .held) (s .retained) r t ≡ false
 
 pub sound-of : {f : Form} {s : StateOf f} → Parts f s → Sound f s
 unfolding holds retains holdsWriting retainsWriting live inLine isActive depthIn bars
@@ -49,6 +50,7 @@ sound-of {f} {s} P = record {
   paged = P .paged;
   idle = P .idle;
   calm = P .calm;
+  reserved = P .reserved;
 }
   where
     numbered : (t : ℕ) (c : Bearer) → s .bearer t ≡ c → isActive (s .bearer t) ≡ true → t < transactions
@@ -73,4 +75,5 @@ sound-down f store = sound-of (record {
   paged = λ t r p e. absurd (false≢true (ap isSome e));
   idle = λ t e. refl;
   calm = λ e. absurd (false≢true e);
+  reserved = λ r t e. refl;
 })

@@ -140,6 +140,15 @@ module _ (g : Geometry) where
       go none q = absurd (false≢true (rw q at e))
       go (some m) q = let z : m ≡ 0 = same-eq m 0 (rw q at e) in rw (z, named-zero g r) (off (under r (records g)))
 
+  -- nor does a page that has no map
+  pub names-unread : (page : Page) → readCommit g page ≡ none → (r : ℕ) → names page r ≡ false
+  unfolding names mapIn
+  names-unread page e r = rw (e, named-zero g r) (off (under r (records g)))
+    where
+      off : (b : Bool) → (b && false) ≡ false
+      off true = refl
+      off false = refl
+
   module _ (proper : Proper g) where
     pub emptied-zero : isEmptied (readCommit g (commitPage g 0)) ≡ true
     unfolding isEmptied

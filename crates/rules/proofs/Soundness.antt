@@ -1,6 +1,6 @@
 -- Every event keeps a sound state sound: the live transactions stay a tree, and the locks and versions go by its lines. So every state that
--- a run reaches is sound, and while it is up its commit page is empty.
-use mathlib.Core.Path.{_≡_, refl, subst⁻¹, _∙_, fun-ext}
+-- a run reaches is sound, and while it is up its commit page is empty or prepared.
+use mathlib.Core.Path.{_≡_, refl, sym, ap, subst⁻¹, _∙_, fun-ext}
 use mathlib.Core.Bool.{Bool, true, false, cond, _&&_, true≢false, false≢true}
 use mathlib.Core.List.{List, [], _∷_}
 use mathlib.Core.Logic.{_≢_, _⊎_, inl, inr}
@@ -10,28 +10,30 @@ use native.Mathlib.Omega.{arith}
 use lib.ListN.{length, set, length-set}
 use Rattle.laws.specs.Tests.{same, under}
 use Rattle.laws.specs.Functions.{updated}
-use Rattle.laws.proofs.Tests.{same?, Same, is, isnt, same-eq, same-refl, Is, is?, yes′, no′, under-lt}
-use Rattle.laws.proofs.Booleans.{and-right, clash}
+use Rattle.laws.proofs.Tests.{same?, Same, is, isnt, same-eq, same-refl, ne-false, or-false-left, or-false-right, Is, is?, yes′, no′, under-lt}
+use Rattle.laws.proofs.Booleans.{or-cases, or-left, and-left, and-right, refute, clash}
 use Rattle.rules.specs.Geometry.{Geometry, records, nobody, pageSize}
 use Rattle.rules.specs.Store.{Page}
-use Rattle.rules.specs.Event.{Event, Access, begin, lock, write, read, commit, abort, crash, recover, decode, fits}
-use Rattle.rules.specs.State.{free, isActive, depthIn, lineOf, mem, Modes, isLock, Versions, live, holdsWriting, down}
-use Rattle.rules.specs.Locks.{reported, discarded}
+use Rattle.rules.specs.Event.{Event, Access, begin, lock, write, read, commit, abort, crash, recover, prepare, decide, query, decode, fits}
+use Rattle.rules.specs.State.{free, isActive, depthIn, lineOf, mem, isLock, Modes, Versions, live, holdsWriting, down}
+use Rattle.rules.specs.Locks.{granted, inherited, reported, discarded}
 use Rattle.rules.specs.Versions.{isSome, else, also, nearest, withVersion, handedUp, dropped}
 use Rattle.rules.specs.Commit.{Cut}
 use Rattle.rules.specs.Form.{Form}
-use Rattle.rules.specs.Step.{StateOf, firstFree, begun, locked, wrote, ended, passed, retaining, aborted, raised, concluded, finished, visible, refusal, commitsTop, commitsChild, commits, recovers, act, step}
+use Rattle.rules.specs.Step.{isFor, isTop, StateOf, changes, busy, reserved, decides, firstFree, begun, locked, wrote, ended, passed, retaining, aborted, raised, concluded, finished, visible, refusal, commitsTop, commitsChild, commits, recovers, act, step}
 use Rattle.rules.specs.Run.{play}
-use Rattle.rules.specs.Sound.{Sound}
-use Rattle.rules.proofs.Tree.{Lines}
+use Rattle.rules.specs.Sound.{Sound, isCalm}
+use Rattle.rules.proofs.Tree.{Lines, isCons}
 use Rattle.rules.proofs.Bearers.{begun-line, begun-rooted, ended-line, ended-rooted}
-use Rattle.rules.proofs.Medium.{MediumLaws}
+use Rattle.rules.proofs.Medium.{changedIn, isClear, MediumLaws}
 use Rattle.rules.proofs.Event.{decode-fits}
-use Rattle.rules.proofs.Acceptance.{BeginOk, LockOk, WriteOk, CommitOk, RecoverOk, begin-ok, lock-ok, write-ok, commit-ok, abort-ok, recover-ok, Judged, acts, refuses, judge?}
+use Rattle.rules.proofs.Acceptance.{BeginOk, LockOk, WriteOk, CommitOk, PrepareOk, RecoverOk, begin-ok, lock-ok, lock-free, write-ok, commit-ok, commit-clear, abort-ok, recover-ok, prepare-ok, Judged, acts, refuses, judge?}
 use Rattle.rules.proofs.Grades.{has}
-use Rattle.rules.proofs.Locks.{Owned, Leaf, ChildOf, rooted-of, owned-of, has-live, own-line, no-child, beneath-closed, child-line, grant-alone, grant-above}
+use Rattle.rules.proofs.Locks.{Owned, Leaf, ChildOf, rooted-of, owned-of, has-live, own-line, live-line, no-child, beneath-closed, top-line, child-line, grant-alone, grant-above}
 use Rattle.rules.proofs.Parts.{sound-of, sound-down}
 use Rattle.rules.proofs.Owners.{grant-owned, write-owned, ended-owned, child-owned, report-owned, relined}
+use Rattle.rules.proofs.Reserved.{prepare-fits, free-inherited, free-discarded, clear-of, for-some, unlocked}
+use Rattle.rules.proofs.Shaped.{shaped-step, shaped-bad}
 
 -- every version of the second is somebody's in the first
 abbrev From : Versions → Versions → Type 0
@@ -106,6 +108,7 @@ module _ {f : Form} {s : StateOf f} (S : Sound f s) where
     paged = S .paged;
     idle = λ t e. clash (ok .up) e;
     calm = S .calm;
+    reserved = unlocked S;
   })
     where
       turn : (p ≡ nobody) ⊎ (live s p ≡ true) → (isActive (s .bearer p) ≡ true) ⊎ (p ≡ nobody)
@@ -125,9 +128,9 @@ module _ {f : Form} {s : StateOf f} (S : Sound f s) where
       other r j h (isnt e d _) = rw d
 
   -- a lock
-  pub sound-locked : (t r : ℕ) (a : Access) → LockOk s t r a → Sound f (locked s t r a)
-  unfolding locked live
-  sound-locked t r a ok = sound-of (record {
+  pub sound-locked : (t r : ℕ) (a : Access) → LockOk s t r a → reserved f s r ≡ false → Sound f (locked s t r a)
+  unfolding locked live reserved granted
+  sound-locked t r a ok spared = sound-of (record {
     tree = rooted-of S;
     shallow = S .shallow;
     owned = grant-owned (owned-of S) a t r (own-line S t (ok .alive)) (grant-alone S t r a ok) (grant-above S t r a ok);
@@ -135,7 +138,12 @@ module _ {f : Form} {s : StateOf f} (S : Sound f s) where
     paged = S .paged;
     idle = S .idle;
     calm = S .calm;
+    reserved = λ q j e. none-there q j e (is? (same q r && same j t));
   })
+    where
+      none-there : (q j : ℕ) → isSome (f .medium .pending (s .store) q) ≡ true → Is (same q r && same j t) → has isLock (granted a t r (s .held)) (s .retained) q j ≡ false
+      none-there q j e (yes′ d) = clash (rw (same-eq q r (and-left (same q r) (same j t) d)) at e) spared
+      none-there q j e (no′ d) = rw d (unlocked S q j e)
 
   -- a write: a page that is a version of a record
   pub sound-wrote : (t r : ℕ) (page : Page) → WriteOk s t r → r < records (f .geometry) → length page ≡ pageSize → Sound f (wrote s t r page)
@@ -148,6 +156,7 @@ module _ {f : Form} {s : StateOf f} (S : Sound f s) where
     paged = λ j q p e. is-page j q p e (is? (same j t && same q r));
     idle = S .idle;
     calm = S .calm;
+    reserved = unlocked S;
   })
     where
       in-range : (j q : ℕ) → isSome (withVersion t r page (s .version) j q) ≡ true → Is (same j t && same q r) → q < records (f .geometry)
@@ -160,15 +169,16 @@ module _ {f : Form} {s : StateOf f} (S : Sound f s) where
 
   -- the transactions that `dead` picks end, over this store
   module _ (dead : ℕ → Bool) (closed : (z a : ℕ) → dead z ≡ false → dead a ≡ true → mem a (lineOf (s .bearer) z) ≡ false)
-      (store : f .medium .Store) (up : s .up ≡ true) (calm : f .medium .emptied store ≡ true) where
+      (store : f .medium .Store) (up : s .up ≡ true) (calm : isCalm (f .medium) store ≡ true) where
     shallow-left : (t : ℕ) → Is (dead t) → depthIn (cond (dead t) free (s .bearer t)) ≤ f .geometry .depthLimit
     unfolding depthIn
     shallow-left t (yes′ d) = rw d (omega arith)
     shallow-left t (no′ d) = rw d (S .shallow t)
 
     sound-left : (held retained : Modes) (version : Versions) → Owned (λ j. cond (dead j) [] (lineOf (s .bearer) j)) held retained version → From (s .version) version
+        → ((r t : ℕ) → isSome (f .medium .pending store r) ≡ true → has isLock held retained r t ≡ false)
         → Sound f (record { up = s .up; bearer = λ j. cond (dead j) free (s .bearer j); held = held; retained = retained; version = version; store = store })
-    sound-left held retained version L from = sound-of (record {
+    sound-left held retained version L from spared = sound-of (record {
       tree = ended-rooted (rooted-of S) dead closed;
       shallow = λ t. shallow-left t (is? (dead t));
       owned = subst⁻¹ (λ (l : Lines). Owned l held retained version) (fun-ext (ended-line (rooted-of S) dead closed)) L;
@@ -176,11 +186,15 @@ module _ {f : Form} {s : StateOf f} (S : Sound f s) where
       paged = from-paged version from;
       idle = λ t e. clash up e;
       calm = λ e. calm;
+      reserved = spared;
     })
 
-    pub sound-ended : Sound f (ended s dead store)
+    pub sound-ended : ((r t : ℕ) → isSome (f .medium .pending store r) ≡ true → dead t ≡ false → has isLock (s .held) (s .retained) r t ≡ false) → Sound f (ended s dead store)
     unfolding ended
-    sound-ended = sound-left _ _ _ (ended-owned (owned-of S) dead) (dropped-from dead (s .version))
+    sound-ended spared = sound-left _ _ _ (ended-owned (owned-of S) dead) (dropped-from dead (s .version)) (λ r t e. rw (
+      free-discarded dead (s .held) r t (λ d. or-false-left _ (isLock (s .retained r t)) (spared r t e d)),
+      free-discarded dead (s .retained) r t (λ d. or-false-right (isLock (s .held r t)) _ (spared r t e d)),
+    ))
 
   -- an abort: x ends with all beneath it, and its parent has the report
   module _ (x : ℕ) (up : s .up ≡ true) where
@@ -197,9 +211,20 @@ module _ {f : Form} {s : StateOf f} (S : Sound f s) where
     reported-owned true (a ∷ []) q = ended-owned (owned-of S) dead
     reported-owned true (a ∷ y ∷ l) q = let C = child-line S x a y l q in report-owned (owned-of S) dead x y (λ z n. n) (C .under) (C .own-line)
 
+    -- a report gives nobody what is reserved
+    free-reported : (w : Bool) (l : List ℕ) (r : ℕ) → ((t : ℕ) → has isLock (s .held) (s .retained) r t ≡ false) → (j : ℕ) → isLock (reported x w l (s .held) (s .retained) r j) ≡ false
+    unfolding reported
+    free-reported false l r h j = or-false-right (isLock (s .held r j)) _ (h j)
+    free-reported true [] r h j = or-false-right (isLock (s .held r j)) _ (h j)
+    free-reported true (a ∷ []) r h j = or-false-right (isLock (s .held r j)) _ (h j)
+    free-reported true (a ∷ y ∷ l) r h j = free-inherited x y r (s .held) (s .retained) h j
+
     pub sound-aborted : (w : Bool) → Sound f (aborted s x w (lineOf (s .bearer) x))
     unfolding aborted retaining ended
-    sound-aborted w = sound-left dead (beneath-closed S x) (s .store) up (S .calm up) _ _ _ (reported-owned w (lineOf (s .bearer) x) refl) (dropped-from dead (s .version))
+    sound-aborted w = sound-left dead (beneath-closed S x) (s .store) up (S .calm up) _ _ _ (reported-owned w (lineOf (s .bearer) x) refl) (dropped-from dead (s .version)) (λ r t e. rw (
+      free-discarded dead (s .held) r t (λ d. or-false-left _ (isLock (s .retained r t)) (unlocked S r t e)),
+      free-discarded dead (reported x w (lineOf (s .bearer) x) (s .held) (s .retained)) r t (λ d. free-reported w (lineOf (s .bearer) x) r (λ u. unlocked S r u e) t),
+    ))
 
   -- a commit: x, with no live child, ends alone
   module _ (x : ℕ) (ok : CommitOk s x) where
@@ -216,30 +241,72 @@ module _ {f : Form} {s : StateOf f} (S : Sound f s) where
         sound-left (λ j. same j x) alone-closed (s .store) (ok .up) (S .calm (ok .up)) _ _ _
         (child-owned (owned-of S) (λ j. same j x) x y (λ z n. alone-closed z x n (same-refl x)) (under .under) (under .own-line))
         (λ t r p e. let a = dropped-from (λ j. same j x) (handedUp x y (s .version)) t r p e in handed-from x y (s .version) (a .0) r p (a .1))
+        (λ r t e. rw (
+          free-discarded (λ j. same j x) (s .held) r t (λ d. or-false-left _ (isLock (s .retained r t)) (unlocked S r t e)),
+          free-discarded (λ j. same j x) (inherited x y (s .held) (s .retained)) r t (λ d. free-inherited x y r (s .held) (s .retained) (λ u. unlocked S r u e) t),
+        ))
 
     -- of a top transaction, over what the page writes left
-    sound-top : (c : Cut (f .medium .Store)) → (c .crashed ≡ false → f .medium .emptied (c .store) ≡ true) → Sound f (commitsTop f s x c .state)
+    sound-top : (c : Cut (f .medium .Store)) → (c .crashed ≡ false → isCalm (f .medium) (c .store) ≡ true)
+        → (c .crashed ≡ false → (r t : ℕ) → isSome (f .medium .pending (c .store) r) ≡ true → t ≢ x → has isLock (s .held) (s .retained) r t ≡ false) → Sound f (commitsTop f s x c .state)
     unfolding commitsTop concluded
-    sound-top c whole = go (c .crashed) refl
+    sound-top c whole spared = go (c .crashed) refl
       where
         go : (b : Bool) → c .crashed ≡ b → Sound f (concluded (ended s (λ j. same j x) (c .store)) c b .state)
         go true e = sound-down f (c .store)
-        go false e = sound-ended (λ j. same j x) alone-closed (c .store) (ok .up) (whole e)
+        go false e = sound-ended (λ j. same j x) alone-closed (c .store) (ok .up) (whole e) (λ r t p d. spared e r t p (λ q. clash (same-refl x) (rw q at d)))
+
+    -- nobody else has a lock of what a top transaction changed
+    pub sole-lock : (a : ℕ) → lineOf (s .bearer) x ≡ a ∷ [] → (r t : ℕ) → isSome (s .version x r) ≡ true → t ≢ x → has isLock (s .held) (s .retained) r t ≡ false
+    unfolding mem
+    sole-lock a q r t v n = refute (has isLock (s .held) (s .retained) r t) (λ h.
+        or-cases (mem x (lineOf (s .bearer) t)) (mem t (lineOf (s .bearer) x)) (owned-of S .in-line r x t (owned-of S .by-lock x r v) h)
+        (λ e. clash e (leaf t n)) (λ e. clash e (rw (top-line S x a q, ne-false t x n))))
 
 module _ (f : Form) (M : MediumLaws (f .geometry) (f .medium)) {s : StateOf f} (S : Sound f s) (shaped : M .Shaped (s .store)) where
-  pub sound-commits : (x k : ℕ) → CommitOk s x → (l : List ℕ) → lineOf (s .bearer) x ≡ l → Sound f (commits f s x k l .state)
-  unfolding commits commitsChild finished
-  sound-commits x k ok [] q = sound-top S x ok (f .medium .commit (s .store) (s .version x) k) (λ e. M .commit-whole (s .store) (s .version x) k (S .calm (ok .up)) e .0)
-  sound-commits x k ok (a ∷ []) q = sound-top S x ok (f .medium .commit (s .store) (s .version x) k) (λ e. M .commit-whole (s .store) (s .version x) k (S .calm (ok .up)) e .0)
-  sound-commits x k ok (a ∷ y ∷ l) q = sound-passed S x ok y (child-line S x a y l q)
+  commit-free : (x k : ℕ) → isClear (f .geometry) (f .medium) (s .store) (s .version x) ≡ true → (r t : ℕ)
+      → isSome (f .medium .pending (f .medium .commit (s .store) (s .version x) k .store) r) ≡ true → has isLock (s .held) (s .retained) r t ≡ false
+  commit-free x k clear r t e = unlocked S r t (sym (ap isSome (M .commit-unmoved (s .store) (s .version x) k clear .same-pending r)) ∙ e)
 
-  pub sound-recovers : (k : ℕ) → RecoverOk f s → Sound f (recovers f s (f .medium .recover (s .store) k) .state)
-  unfolding recovers concluded raised live
-  sound-recovers k ok = go (f .medium .recover (s .store) k .crashed) refl
+  pub sound-commits : (x k : ℕ) → CommitOk s x → (l : List ℕ) → lineOf (s .bearer) x ≡ l → (isTop l ≡ true → (changes f s x && busy f s) ≡ false) → Sound f (commits f s x k l .state)
+  unfolding commits commitsChild finished isTop
+  sound-commits x k ok [] q h =
+      let clear = clear-of f s x (S .calm (ok .up)) (h refl) in
+      sound-top S x ok (f .medium .commit (s .store) (s .version x) k) (λ e. M .commit-whole (s .store) (s .version x) k (S .calm (ok .up)) clear e .0) (λ e r t p n. commit-free x k clear r t p)
+  sound-commits x k ok (a ∷ []) q h =
+      let clear = clear-of f s x (S .calm (ok .up)) (h refl) in
+      sound-top S x ok (f .medium .commit (s .store) (s .version x) k) (λ e. M .commit-whole (s .store) (s .version x) k (S .calm (ok .up)) clear e .0) (λ e r t p n. commit-free x k clear r t p)
+  sound-commits x k ok (a ∷ y ∷ l) q h = sound-passed S x ok y (child-line S x a y l q)
+
+  -- a prepare: what it changed is reserved then, and nobody else has a lock of that
+  pub sound-prepares : (x k i : ℕ) → PrepareOk f s x → f .geometry .joint ≡ true → i < 256 → Sound f (commitsTop f s x (f .medium .prepare (s .store) (s .version x) i k) .state)
+  sound-prepares x k i ok on short =
+      sound-top S x (ok .as-commit) (f .medium .prepare (s .store) (s .version x) i k) (λ e. M .prepare-calm (s .store) (s .version x) i k (S .calm (ok .as-commit .up)) on short e)
+      (λ e r t p n. spared e r t p n (same? (changedIn (f .geometry) (s .version x)) 0))
     where
-      go : (b : Bool) → f .medium .recover (s .store) k .crashed ≡ b
-          → Sound f (concluded (raised s (f .medium .recover (s .store) k .store)) (f .medium .recover (s .store) k) b .state)
-      go true e = sound-down f (f .medium .recover (s .store) k .store)
+      line-top : (l : List ℕ) → lineOf (s .bearer) x ≡ l → isTop l ≡ true → (a : ℕ) × (lineOf (s .bearer) x ≡ a ∷ [])
+      line-top [] q h = clash (ok .as-commit .alive) (live-line S x ∙ ap isCons q)
+      line-top (a ∷ []) q h = (a, q)
+      line-top (a ∷ y ∷ l) q h = absurd (false≢true (unfold isTop in h))
+
+      top : (a : ℕ) × (lineOf (s .bearer) x ≡ a ∷ [])
+      top = line-top (lineOf (s .bearer) x) refl (ok .top)
+
+      spared : f .medium .prepare (s .store) (s .version x) i k .crashed ≡ false → (r t : ℕ) → isSome (f .medium .pending (f .medium .prepare (s .store) (s .version x) i k .store) r) ≡ true → t ≢ x
+          → Same (changedIn (f .geometry) (s .version x)) 0 → has isLock (s .held) (s .retained) r t ≡ false
+      spared e r t p n (is z _ _) = unlocked S r t (sym (ap (λ (d : f .medium .Store). isSome (f .medium .pending d r)) (M .prepare-none (s .store) (s .version x) i k z .0)) ∙ p)
+      spared e r t p n (isnt z _ _) =
+          let T = M .prepare-taken (s .store) (s .version x) i k (S .ranged x) on short (omega (arith, z)) e in
+          sole-lock S x (ok .as-commit) (top .0) (top .1) r t (sym (ap isSome (T .1 r)) ∙ p) n
+
+  -- up over what page writes left, if that is calm and nobody has a lock of what is reserved then
+  sound-raised : (c : Cut (f .medium .Store)) → (c .crashed ≡ false → isCalm (f .medium) (c .store) ≡ true)
+      → (c .crashed ≡ false → (r t : ℕ) → isSome (f .medium .pending (c .store) r) ≡ true → has isLock (s .held) (s .retained) r t ≡ false) → Sound f (recovers f s c .state)
+  unfolding recovers concluded raised live
+  sound-raised c calm spared = go (c .crashed) refl
+    where
+      go : (b : Bool) → c .crashed ≡ b → Sound f (concluded (raised s (c .store)) c b .state)
+      go true e = sound-down f (c .store)
       go false e = sound-of (record {
         tree = rooted-of S;
         shallow = S .shallow;
@@ -247,8 +314,24 @@ module _ (f : Form) (M : MediumLaws (f .geometry) (f .medium)) {s : StateOf f} (
         ranged = S .ranged;
         paged = S .paged;
         idle = λ t q. absurd (true≢false q);
-        calm = λ q. M .recover-whole (s .store) k (ok .whole) e;
+        calm = λ q. calm e;
+        reserved = spared e;
       })
+
+  pub sound-recovers : (k : ℕ) → RecoverOk f s → Sound f (recovers f s (f .medium .recover (s .store) k) .state)
+  sound-recovers k ok =
+      sound-raised (f .medium .recover (s .store) k) (λ e. M .recover-whole (s .store) k (ok .whole) e)
+      (λ e r t p. refute (has isLock (s .held) (s .retained) r t) (λ h. clash (has-live S r t h) (S .idle t (ok .down))))
+
+  pub sound-decides : (d : Bool) (k i : ℕ) (b : Bool) → isFor i (f .medium .prepared (s .store)) ≡ b → Sound f (decides f s d k b .state)
+  unfolding decides finished isCalm isSome
+  sound-decides d k i false q = S
+  sound-decides d k i true q =
+      let here = for-some i (f .medium .prepared (s .store)) q in
+      let c = f .medium .decide (s .store) d k in
+      let freed : c .crashed ≡ false → f .medium .prepared (c .store) ≡ none = λ e. M .emptied-free (c .store) (M .decide-whole (s .store) d k i here e .0) in
+      sound-raised c (λ e. or-left (f .medium .emptied (c .store)) _ (M .decide-whole (s .store) d k i here e .0))
+      (λ e r t p. absurd (false≢true (sym (ap isSome (M .free-pending (c .store) r (freed e))) ∙ p)))
 
   -- what is visible is a page
   pub visible-paged : (t r : ℕ) → r < records (f .geometry) → length (visible f s t r) ≡ pageSize
@@ -258,15 +341,18 @@ module _ (f : Form) (M : MediumLaws (f .geometry) (f .medium)) {s : StateOf f} (
   pub sound-act : (e : Event) → fits (f .geometry) e ≡ true → refusal f s e ≡ none → Sound f (act f s e .state)
   unfolding act finished fits
   sound-act (begin p) h q = sound-begun S p (begin-ok f s p q)
-  sound-act (lock t r a) h q = sound-locked S t r a (lock-ok f s t r a q)
+  sound-act (lock t r a) h q = sound-locked S t r a (lock-ok f s t r a q) (lock-free f s t r a q)
   sound-act (write t r o v) h q =
       let small = write-record (f .geometry) t r o v h in
       sound-wrote S t r (set (visible f s t r) o v) (write-ok f s t r o v q) small (length-set (visible f s t r) o v ∙ visible-paged t r small)
   sound-act (read t r o) h q = S
-  sound-act (commit t k) h q = sound-commits t k (commit-ok f s t k q) (lineOf (s .bearer) t) refl
+  sound-act (commit t k) h q = sound-commits t k (commit-ok f s t k q) (lineOf (s .bearer) t) refl (commit-clear f s t k q)
   sound-act (abort t w) h q = sound-aborted S t (abort-ok f s t w q .up) w
   sound-act crash h q = sound-down f (s .store)
   sound-act (recover k) h q = sound-recovers k (recover-ok f s k q)
+  sound-act (prepare t k i) h q = let a = prepare-fits (f .geometry) t k i h in sound-prepares t k i (prepare-ok f s t k i q) (a .0) (a .1)
+  sound-act (decide d k i) h q = sound-decides d k i (isFor i (f .medium .prepared (s .store))) refl
+  sound-act (query i) h q = S
 
   -- one event
   pub sound-step : (e : Event) → fits (f .geometry) e ≡ true → Sound f (step f s (some e) .state)
@@ -280,46 +366,6 @@ module _ (f : Form) (M : MediumLaws (f .geometry) (f .medium)) {s : StateOf f} (
   pub sound-bad : Sound f (step f s none .state)
   unfolding step
   sound-bad = S
-
-  -- the store stays a store that bytes can spell
-  shaped-concluded : (whole : StateOf f) (c : Cut (f .medium .Store)) (b : Bool) → M .Shaped (c .store) → whole .store ≡ c .store → M .Shaped (concluded whole c b .state .store)
-  unfolding concluded down
-  shaped-concluded whole c true h e = h
-  shaped-concluded whole c false h e = rw e h
-
-  shaped-commits : (x k : ℕ) (l : List ℕ) → M .Shaped (commits f s x k l .state .store)
-  unfolding commits commitsTop commitsChild finished ended
-  shaped-commits x k [] =
-      let c = f .medium .commit (s .store) (s .version x) k in
-      shaped-concluded (ended s (λ j. same j x) (c .store)) c (c .crashed) (M .commit-shaped (s .store) (s .version x) k shaped (S .paged x)) refl
-  shaped-commits x k (a ∷ []) =
-      let c = f .medium .commit (s .store) (s .version x) k in
-      shaped-concluded (ended s (λ j. same j x) (c .store)) c (c .crashed) (M .commit-shaped (s .store) (s .version x) k shaped (S .paged x)) refl
-  shaped-commits x k (a ∷ y ∷ l) = shaped
-
-  pub shaped-act : (e : Event) → M .Shaped (act f s e .state .store)
-  unfolding act finished begun locked wrote ended retaining aborted down recovers raised
-  shaped-act (begin p) = shaped
-  shaped-act (lock t r a) = shaped
-  shaped-act (write t r o v) = shaped
-  shaped-act (read t r o) = shaped
-  shaped-act (commit t k) = shaped-commits t k (lineOf (s .bearer) t)
-  shaped-act (abort t w) = shaped
-  shaped-act crash = shaped
-  shaped-act (recover k) =
-      let c = f .medium .recover (s .store) k in
-      shaped-concluded (raised s (c .store)) c (c .crashed) (M .recover-shaped (s .store) k shaped) refl
-
-  pub shaped-step : (e : Event) → M .Shaped (step f s (some e) .state .store)
-  shaped-step e = go (judge? f s e)
-    where
-      go : Judged f s e → M .Shaped (step f s (some e) .state .store)
-      go (acts q k) = rw k (shaped-act e)
-      go (refuses n q k) = rw k shaped
-
-  pub shaped-bad : M .Shaped (step f s none .state .store)
-  unfolding step
-  shaped-bad = shaped
 
 -- a list of words
 module _ (f : Form) (M : MediumLaws (f .geometry) (f .medium)) where

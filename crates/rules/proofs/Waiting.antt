@@ -10,26 +10,26 @@ use Rattle.rules.specs.Form.{Form}
 use Rattle.rules.specs.Step.{refused, firstOf, hasChild, StateOf, OutcomeOf, refusals, refusal, act, judged, step}
 
 module _ (f : Form) (s : StateOf f) where
-  -- the event is refused with 14, and nothing changes
-  abbrev pub Waits : Event → Type 0
-  Waits e = step f s (some e) ≡ record { state = s; answer = refused 14 }
+  -- the event is refused with a number, and nothing changes
+  abbrev pub Refused : Event → ℕ → Type 0
+  Refused e n = step f s (some e) ≡ record { state = s; answer = refused n }
 
-  waits : (e : Event) → refusal f s e ≡ some 14 → Waits e
+  pub refuse : (e : Event) (n : ℕ) → refusal f s e ≡ some n → Refused e n
   unfolding step judged
-  waits e q = ap (judged f s e) q
+  refuse e n q = ap (judged f s e) q
 
 module _ (f : Form) (s : StateOf f) (t : ℕ) (up : s .up ≡ true) (alive : live s t ≡ true) where
-  pub lock-waits : (r : ℕ) (a : Access) → hasChild s t ≡ true → Waits f s (lock t r a)
+  pub lock-waits : (r : ℕ) (a : Access) → hasChild s t ≡ true → Refused f s (lock t r a) 14
   unfolding refusal refusals firstOf
-  lock-waits r a child = waits f s (lock t r a) (rw (alive, child, up))
+  lock-waits r a child = refuse f s (lock t r a) 14 (rw (alive, child, up))
 
-  pub write-waits : (r o v : ℕ) → hasChild s t ≡ true → Waits f s (write t r o v)
+  pub write-waits : (r o v : ℕ) → hasChild s t ≡ true → Refused f s (write t r o v) 14
   unfolding refusal refusals firstOf
-  write-waits r o v child = waits f s (write t r o v) (rw (alive, child, up))
+  write-waits r o v child = refuse f s (write t r o v) 14 (rw (alive, child, up))
 
-  pub read-waits : (r o : ℕ) → hasChild s t ≡ true → Waits f s (read t r o)
+  pub read-waits : (r o : ℕ) → hasChild s t ≡ true → Refused f s (read t r o) 14
   unfolding refusal refusals firstOf
-  read-waits r o child = waits f s (read t r o) (rw (alive, child, up))
+  read-waits r o child = refuse f s (read t r o) 14 (rw (alive, child, up))
 
   passes : (w : Bool) → refusal f s (abort t w) ≡ none
   unfolding refusal refusals firstOf

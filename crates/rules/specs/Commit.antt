@@ -1,4 +1,5 @@
--- Page writes and cuts: the page writes of a top transaction's commit and of a recovery, and a crash among them.
+-- Page writes and cuts: the page writes of a top transaction's commit, its prepare and the decision on it, and of a recovery, and a crash among
+-- them.
 use Prim.Native.Nat.{ℕ, zero, suc}
 use mathlib.Core.Bool.{Bool, true, false, cond}
 use mathlib.Core.List.{List, [], _∷_, _++_, map}
@@ -8,7 +9,7 @@ use Rattle.laws.specs.Tests.{same, under}
 use Rattle.laws.specs.Counting.{those}
 use Rattle.laws.specs.Functions.{updated}
 use Rattle.rules.specs.Geometry.{Geometry, records}
-use Rattle.rules.specs.Store.{Page, Pages, intention, home, mapOf, commitPage, isNamed}
+use Rattle.rules.specs.Store.{Page, Pages, intention, home, mapOf, commitPage, isNamed, Prepared, preparedPage, readPrepared, preparedMap, isReserved}
 use Rattle.rules.specs.Versions.{isSome, else}
 
 -- A page write: the page's number, and the page. One page write is atomic.
@@ -60,6 +61,17 @@ module _ (g : Geometry) where
   recoverWrites planned [] = []
   recoverWrites planned (r ∷ rs) = homes planned (r ∷ rs) ++ (marks 0 ∷ [])
 
+  -- of a prepare that changes these records: none for no record, else intention pages by rising record, the commit page as prepared
+  unfoldable pub prepareWrites : (ℕ → Page) → Prepared → List ℕ → List PageWrite
+  prepareWrites new p [] = []
+  prepareWrites new p (r ∷ rs) = intentions new (r ∷ rs) ++ (sets 0 (preparedPage g p) ∷ [])
+
+  -- of a decision on a transaction that is prepared with these records: to commit, the commit page as committed, and then as a recovery; to
+  -- abort, the commit page as empty
+  unfoldable pub decideWrites : Bool → (ℕ → Page) → ℕ → List ℕ → List PageWrite
+  decideWrites true planned map rs = marks map ∷ recoverWrites planned rs
+  decideWrites false planned map rs = marks 0 ∷ []
+
   -- a top transaction with these versions commits, cut at k
   unfoldable pub commitAt : Pages → (ℕ → Option Page) → ℕ → Cut Pages
   commitAt s versions k =
@@ -70,7 +82,17 @@ module _ (g : Geometry) where
   unfoldable pub recoverAt : Pages → ℕ → Cut Pages
   recoverAt s k = cutAt k (recoverWrites (λ r. s (intention r)) (those (records g) (isNamed g s))) s
 
+  -- a top transaction with these versions is prepared with an identity, cut at k
+  unfoldable pub prepareAt : Pages → (ℕ → Option Page) → ℕ → ℕ → Cut Pages
+  prepareAt s versions i k =
+      let changed : ℕ → Bool = λ r. isSome (versions r) in
+      cutAt k (prepareWrites (pageIn versions) (record { map = mapOf g changed; identity = i }) (those (records g) changed)) s
+
+  -- a decision on what is prepared, cut at k
+  unfoldable pub decideAt : Pages → Bool → ℕ → Cut Pages
+  decideAt s d k = cutAt k (decideWrites d (λ r. s (intention r)) (preparedMap (readPrepared g (s 0))) (those (records g) (isReserved g s))) s
+
 -- opens the definitions of this module: for what is proved by computing
 unfoldable pub open-commit : Unit {0}
-unfolding written applied cutAt pageIn intentions homes marks commitWrites recoverWrites commitAt recoverAt
+unfolding written applied cutAt pageIn intentions homes marks commitWrites recoverWrites prepareWrites decideWrites commitAt recoverAt prepareAt decideAt
 open-commit = tt

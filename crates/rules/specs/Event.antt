@@ -27,6 +27,12 @@ pub data Event : Type 0 where
   crash : Event
   -- with such a count
   recover : ℕ → Event
+  -- with such a count, for the decision on this identity
+  prepare : ℕ → ℕ → ℕ → Event
+  -- the decision, commit (true) or abort, with such a count, on this identity
+  decide : Bool → ℕ → ℕ → Event
+  -- whether this identity is prepared
+  query : ℕ → Event
 
 pub record Fields : Type 0 where
   pub kind : ℕ
@@ -61,7 +67,7 @@ fields g w =
       spare = field 0 (g .spareBits) w;
     }
 
--- the fields that a kind of event uses, after its name; no other kind is known
+-- The fields that a kind of event uses, after its name; no other kind is known, and 9 to 11 only where transactions can be prepared.
 pub record Uses : Type 0 where
   pub known : Bool
   pub transaction : Bool
@@ -76,8 +82,8 @@ row k t r o c v = record { known = k; transaction = t; rec = r; offset = o; coun
 unfoldable pub noKind : Uses
 noKind = row false false false false false false
 
-unfoldable pub uses : List Uses
-uses =
+unfoldable pub uses : Geometry → List Uses
+uses g =
     noKind ∷  -- 0
     row true true false false false false ∷  -- 1 begin
     row true true true false false true ∷  -- 2 lock
@@ -87,10 +93,13 @@ uses =
     row true true false false false true ∷  -- 6 abort
     row true false false false false false ∷  -- 7 crash
     row true false false false true false ∷  -- 8 recover
+    row (g .joint) true false false true true ∷  -- 9 prepare
+    row (g .joint) false false true true true ∷  -- 10 decide
+    row (g .joint) false false false false true ∷  -- 11 query
     []
 
-unfoldable pub usesOf : ℕ → Uses
-usesOf kind = getD uses kind noKind
+unfoldable pub usesOf : Geometry → ℕ → Uses
+usesOf g kind = getD (uses g) kind noKind
 
 -- the greatest value that a kind of event takes
 unfoldable pub limits : List ℕ
@@ -104,15 +113,25 @@ limits =
     1 ∷  -- 6 abort
     0 ∷  -- 7 crash
     0 ∷  -- 8 recover
+    255 ∷  -- 9 prepare
+    255 ∷  -- 10 decide
+    255 ∷  -- 11 query
     []
 
 unfoldable pub limitOf : ℕ → ℕ
 limitOf kind = getD limits kind 0
 
--- the kind is known, every field that it does not use is 0, and the value is one that it takes
-unfoldable pub wellFormed : Fields → Bool
-wellFormed f =
-    let u = usesOf (f .kind) in
+-- the greatest offset that a kind of event takes: a decide says 1 for commit, 0 for abort
+unfoldable pub offsetLimits : List ℕ
+offsetLimits = 0 ∷ 0 ∷ 0 ∷ 31 ∷ 31 ∷ 0 ∷ 0 ∷ 0 ∷ 0 ∷ 0 ∷ 1 ∷ 0 ∷ []
+
+unfoldable pub offsetLimitOf : ℕ → ℕ
+offsetLimitOf kind = getD offsetLimits kind 0
+
+-- the kind is known, every field that it does not use is 0, and the value and the offset are ones that it takes
+unfoldable pub wellFormed : Geometry → Fields → Bool
+wellFormed g f =
+    let u = usesOf g (f .kind) in
     u .known &&
     (u .transaction || same (f .transaction) 0) &&
     (u .rec || same (f .rec) 0) &&
@@ -120,7 +139,8 @@ wellFormed f =
     (u .count || same (f .count) 0) &&
     (u .value || same (f .value) 0) &&
     same (f .spare) 0 &&
-    under (f .value) (suc (limitOf (f .kind)))
+    under (f .value) (suc (limitOf (f .kind))) &&
+    under (f .offset) (suc (offsetLimitOf (f .kind)))
 
 -- the value 0 of a lock asks for it to write, 1 to read
 unfoldable pub accessOf : ℕ → Access
@@ -140,6 +160,15 @@ unfoldable pub reportValue : Bool → ℕ
 reportValue false = 0
 reportValue true = 1
 
+-- the offset 1 of a decide is to commit, 0 to abort
+unfoldable pub decisionOf : ℕ → Bool
+decisionOf zero = false
+decisionOf (suc n) = true
+
+unfoldable pub decisionOffset : Bool → ℕ
+decisionOffset false = 0
+decisionOffset true = 1
+
 -- the event of a kind, with its fields
 unfoldable pub eventOf : Fields → Option Event
 eventOf f =
@@ -153,11 +182,14 @@ eventOf f =
     some (abort (f .transaction) (reportOf (f .value))) ∷
     some crash ∷
     some (recover (f .count)) ∷
+    some (prepare (f .transaction) (f .count) (f .value)) ∷
+    some (decide (decisionOf (f .offset)) (f .count) (f .value)) ∷
+    some (query (f .value)) ∷
     []) (f .kind) none
 
 -- the event that a word stands for; a bad event is none
 unfoldable pub decode : Geometry → ℕ → Option Event
-decode g w = let f = fields g w in cond (wellFormed f) (eventOf f) none
+decode g w = let f = fields g w in cond (wellFormed g f) (eventOf f) none
 
 unfoldable pub word : Geometry → ℕ → ℕ → ℕ → ℕ → ℕ → ℕ → ℕ
 word g kind transaction rec offset count value =
@@ -172,8 +204,11 @@ encode g (commit t k) = word g 5 t 0 0 k 0
 encode g (abort t w) = word g 6 t 0 0 0 (reportValue w)
 encode g crash = word g 7 0 0 0 0 0
 encode g (recover k) = word g 8 0 0 0 k 0
+encode g (prepare t k i) = word g 9 t 0 0 k i
+encode g (decide d k i) = word g 10 0 0 (decisionOffset d) k i
+encode g (query i) = word g 11 0 0 0 0 i
 
--- an event whose fields a word can hold
+-- an event that a word can hold
 unfoldable pub fits : Geometry → Event → Bool
 fits g (begin t) = under t 32
 fits g (lock t r a) = under t 32 && under r (records g)
@@ -183,8 +218,11 @@ fits g (commit t k) = under t 32 && under k (2 ^ g .cutBits)
 fits g (abort t w) = under t 32
 fits g crash = true
 fits g (recover k) = under k (2 ^ g .cutBits)
+fits g (prepare t k i) = under t 32 && under k (2 ^ g .cutBits) && under i 256 && g .joint
+fits g (decide d k i) = under k (2 ^ g .cutBits) && under i 256 && g .joint
+fits g (query i) = under i 256 && g .joint
 
 -- opens the definitions of this module: for what is proved by computing
 unfoldable pub open-event : Unit {0}
-unfolding field fields row noKind uses usesOf limits limitOf wellFormed accessOf accessValue reportOf reportValue eventOf decode word encode fits
+unfolding field fields row noKind uses usesOf limits limitOf offsetLimits offsetLimitOf wellFormed accessOf accessValue reportOf reportValue decisionOf decisionOffset eventOf decode word encode fits
 open-event = tt

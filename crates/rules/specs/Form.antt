@@ -4,8 +4,8 @@ use mathlib.Core.Bool.{Bool}
 use mathlib.Core.List.{List}
 use mathlib.Core.Option.{Option}
 use Rattle.rules.specs.Geometry.{Geometry, pageSize, pageCount}
-use Rattle.rules.specs.Store.{Page, Pages, pagesOf, flat, home, damaged, emptied, settled, fresh}
-use Rattle.rules.specs.Commit.{Cut, commitAt, recoverAt}
+use Rattle.rules.specs.Store.{Page, Pages, pagesOf, flat, home, damaged, emptied, settled, readPrepared, identityIn, pending, fresh}
+use Rattle.rules.specs.Commit.{Cut, commitAt, recoverAt, prepareAt, decideAt}
 
 pub record Medium : Type 1 where
   pub Store : Type 0
@@ -23,6 +23,12 @@ pub record Medium : Type 1 where
   -- the page writes of a commit with these versions and of a recovery, cut at a count
   pub commit : Store → (ℕ → Option Page) → ℕ → Cut Store
   pub recover : Store → ℕ → Cut Store
+  -- the identity of the transaction that is prepared, and what it has for each record that it changed
+  pub prepared : Store → Option ℕ
+  pub pending : Store → ℕ → Option Page
+  -- the page writes of a prepare with these versions and an identity, and of a decision, cut at a count
+  pub prepare : Store → (ℕ → Option Page) → ℕ → ℕ → Cut Store
+  pub decide : Store → Bool → ℕ → Cut Store
 
 pub record Form : Type 1 where
   pub geometry : Geometry
@@ -42,4 +48,8 @@ atomicPages g = record {
   emptied = emptied g;
   commit = commitAt g;
   recover = recoverAt g;
+  prepared = λ s. identityIn (readPrepared g (s 0));
+  pending = pending g;
+  prepare = prepareAt g;
+  decide = decideAt g;
 }

@@ -1,5 +1,6 @@
 -- The numbers in which editions and forms differ. Nothing else names a number of records, a depth or a width that may change.
 use mathlib.Core.Path.{_≡_}
+use mathlib.Core.Bool.{Bool, true}
 use Prim.Native.Nat.{ℕ, _+_, _*_, _/_, _^_, _≤_, _<_}
 
 pub record Geometry : Type 0 where
@@ -14,6 +15,8 @@ pub record Geometry : Type 0 where
   pub onesBits : ℕ
   -- how deep transactions nest
   pub depthLimit : ℕ
+  -- whether transactions can be prepared and decided (document 02, L9): the events 9 to 11, and the commit page's state 3
+  pub joint : Bool
 
 -- the bytes of a page; the transaction numbers; the name of no transaction; the events of a list at most
 abbrev pub pageSize : ℕ
@@ -51,6 +54,8 @@ pub record Proper (g : Geometry) : Type 0 where
   pub ones-fit : records g < 2 ^ g .onesBits
   -- edition, state, map and count fit a page
   pub page-fits : 8 + records g + g .onesBits ≤ 8 * pageSize
+  -- where a transaction can be prepared, the commit page's fifth byte is free for its identity
+  pub joint-fits : g .joint ≡ true → 8 + records g + g .onesBits ≤ 8 * 4
   -- the fields of an event word are whole bytes
   pub word-whole : 4 + 5 + g .recordBits + 5 + g .cutBits + 8 + g .spareBits ≡ 8 * wordSize g
 

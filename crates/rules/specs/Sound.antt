@@ -11,11 +11,15 @@ use Rattle.rules.specs.Store.{Page}
 use Rattle.rules.specs.State.{Bearer, Bearers, active, depthIn, lineOf, mem, State, live, holds, retains, holdsWriting, retainsWriting}
 use Rattle.rules.specs.Versions.{isSome}
 use Rattle.rules.specs.Form.{Form, Medium}
-use Rattle.rules.specs.Step.{StateOf}
+use Rattle.rules.specs.Step.{StateOf, isBusy}
 
 -- on one line: one is at or beneath the other
 unfoldable pub inLine : Bearers → ℕ → ℕ → Bool
 inLine b q z = mem q (lineOf b z) || mem z (lineOf b q)
+
+-- the commit page is empty, or prepared
+unfoldable pub isCalm : (m : Medium) → m .Store → Bool
+isCalm m store = m .emptied store || isBusy (m .prepared store)
 
 pub record Sound (f : Form) (s : StateOf f) : Type 0 where
   -- a live transaction bears one of the transaction numbers
@@ -39,11 +43,13 @@ pub record Sound (f : Form) (s : StateOf f) : Type 0 where
   pub by-lock : (t r : ℕ) → isSome (s .version t r) ≡ true → (holdsWriting s r t || retainsWriting s r t) ≡ true
   pub ranged : (t r : ℕ) → isSome (s .version t r) ≡ true → r < records (f .geometry)
   pub paged : (t r : ℕ) (p : Page) → s .version t r ≡ some p → length p ≡ pageSize
-  -- nothing is live while down; the commit page is empty while up
+  -- nothing is live while down; while up the commit page is empty or prepared
   pub idle : (t : ℕ) → s .up ≡ false → live s t ≡ false
-  pub calm : s .up ≡ true → f .medium .emptied (s .store) ≡ true
+  pub calm : s .up ≡ true → isCalm (f .medium) (s .store) ≡ true
+  -- nobody has a lock of a record that the prepared transaction changed
+  pub reserved : (r t : ℕ) → isSome (f .medium .pending (s .store) r) ≡ true → (holds s r t || retains s r t) ≡ false
 
 -- opens the definitions of this module: for what is proved by computing
 unfoldable pub open-sound : Unit {0}
-unfolding inLine
+unfolding inLine isCalm
 open-sound = tt

@@ -7,12 +7,12 @@ use lib.ListN.{getD, set}
 use Rattle.laws.specs.Tests.{same}
 use Rattle.laws.specs.Counting.{all, any, lowest}
 use Rattle.laws.specs.Functions.{updated}
-use Rattle.rules.specs.Geometry.{Geometry, transactions, nobody}
+use Rattle.rules.specs.Geometry.{Geometry, records, transactions, nobody}
 use Rattle.rules.specs.Store.{Page}
-use Rattle.rules.specs.Event.{Event, Access, begin, lock, write, read, commit, abort, crash, recover}
+use Rattle.rules.specs.Event.{Event, Access, begin, lock, write, read, commit, abort, crash, recover, prepare, decide, query}
 use Rattle.rules.specs.State.{Modes, Bearer, Bearers, free, active, isActive, parentIn, depthIn, lineOf, mem, State, live, holds, holdsWriting, down}
 use Rattle.rules.specs.Locks.{grantable, granted, inherited, reported, discarded}
-use Rattle.rules.specs.Versions.{nearest, withVersion, handedUp, dropped}
+use Rattle.rules.specs.Versions.{isSome, nearest, withVersion, handedUp, dropped}
 use Rattle.rules.specs.Commit.{Cut}
 use Rattle.rules.specs.Form.{Form, Medium}
 
@@ -41,6 +41,21 @@ pub record Outcome (S : Type 0) : Type 0 where
 unfoldable pub firstOf : List (ℕ × Bool) → Option ℕ
 firstOf [] = none
 firstOf (x ∷ xs) = cond (x .1) (some (x .0)) (firstOf xs)
+
+-- some identity is prepared; this one is
+unfoldable pub isBusy : Option ℕ → Bool
+isBusy none = false
+isBusy (some i) = true
+
+unfoldable pub isFor : ℕ → Option ℕ → Bool
+isFor i none = false
+isFor i (some j) = same j i
+
+-- a top transaction stands alone on its line
+unfoldable pub isTop : List ℕ → Bool
+isTop [] = true
+isTop (a ∷ []) = true
+isTop (a ∷ y ∷ l) = false
 
 module _ {S : Type 0} where
   -- t has a live child
@@ -137,6 +152,18 @@ module _ (f : Form) where
   unfoldable pub visible : StateOf → ℕ → ℕ → Page
   visible s t r = nearest (s .version) (f .medium .home (s .store) r) r (lineOf (s .bearer) t)
 
+  -- t has a version of some record
+  unfoldable pub changes : StateOf → ℕ → Bool
+  changes s t = any (records (f .geometry)) (λ r. isSome (s .version t r))
+
+  -- a transaction is prepared
+  unfoldable pub busy : StateOf → Bool
+  busy s = isBusy (f .medium .prepared (s .store))
+
+  -- the prepared transaction has changed r, which stays locked
+  unfoldable pub reserved : StateOf → ℕ → Bool
+  reserved s r = isSome (f .medium .pending (s .store) r)
+
   -- The refusals of each kind of event, in the order in which they are tried. (A bad event is refused before these, with 1.)
   unfoldable pub refusals : StateOf → Event → List (ℕ × Bool)
   refusals s (begin p) =
@@ -144,18 +171,23 @@ module _ (f : Form) where
       (6, same (depthIn (s .bearer p)) (f .geometry .depthLimit)) ∷ (7, all transactions (live s)) ∷ []
   refusals s (lock t r a) =
       (2, not (s .up)) ∷ (5, not (live s t)) ∷
-      (14, hasChild s t) ∷ (8, not (grantable a (s .held) (s .retained) (lineOf (s .bearer) t) t r)) ∷ []
+      (14, hasChild s t) ∷ (8, reserved s r || not (grantable a (s .held) (s .retained) (lineOf (s .bearer) t) t r)) ∷ []
   refusals s (write t r o v) = (2, not (s .up)) ∷ (5, not (live s t)) ∷ (14, hasChild s t) ∷ (9, not (holdsWriting s r t)) ∷ []
   refusals s (read t r o) = (2, not (s .up)) ∷ (5, not (live s t)) ∷ (14, hasChild s t) ∷ (9, not (holds s r t)) ∷ []
-  refusals s (commit t k) = (2, not (s .up)) ∷ (5, not (live s t)) ∷ (10, hasChild s t) ∷ []
+  refusals s (commit t k) =
+      (2, not (s .up)) ∷ (5, not (live s t)) ∷ (10, hasChild s t) ∷ (13, isTop (lineOf (s .bearer) t) && (changes s t && busy s)) ∷ []
   refusals s (abort t w) = (2, not (s .up)) ∷ (5, not (live s t)) ∷ []
   refusals s crash = []
   refusals s (recover k) = (3, s .up) ∷ (4, f .medium .damaged (s .store)) ∷ []
+  refusals s (prepare t k i) =
+      (2, not (s .up)) ∷ (5, not (live s t)) ∷ (10, hasChild s t) ∷ (13, changes s t && busy s) ∷ (27, not (isTop (lineOf (s .bearer) t))) ∷ []
+  refusals s (decide d k i) = (2, not (s .up)) ∷ []
+  refusals s (query i) = (2, not (s .up)) ∷ []
 
   unfoldable pub refusal : StateOf → Event → Option ℕ
   refusal s e = firstOf (refusals s e)
 
-  -- a top transaction commits over what its page writes left
+  -- a top transaction commits, or is prepared, over what its page writes left
   unfoldable pub commitsTop : StateOf → ℕ → Cut (f .medium .Store) → OutcomeOf
   commitsTop s x c = concluded (ended s (λ j. same j x) (c .store)) c (c .crashed)
 
@@ -169,8 +201,14 @@ module _ (f : Form) where
   commits s x k (a ∷ []) = commitsTop s x (f .medium .commit (s .store) (s .version x) k)
   commits s x k (a ∷ y ∷ l) = commitsChild s x y
 
+  -- up over what page writes left: a recovery, a decision
   unfoldable pub recovers : StateOf → Cut (f .medium .Store) → OutcomeOf
   recovers s c = concluded (raised s (c .store)) c (c .crashed)
+
+  -- a decision on an identity: for the one that is prepared, or for another, where it does nothing
+  unfoldable pub decides : StateOf → Bool → ℕ → Bool → OutcomeOf
+  decides s d k true = recovers s (f .medium .decide (s .store) d k)
+  decides s d k false = finished s 0
 
   -- what an event does that is not refused
   unfoldable pub act : StateOf → Event → OutcomeOf
@@ -182,6 +220,9 @@ module _ (f : Form) where
   act s (abort t w) = finished (aborted s t w (lineOf (s .bearer) t)) 0
   act s crash = finished (down (s .store)) 0
   act s (recover k) = recovers s (f .medium .recover (s .store) k)
+  act s (prepare t k i) = commitsTop s t (f .medium .prepare (s .store) (s .version t) i k)
+  act s (decide d k i) = decides s d k (isFor i (f .medium .prepared (s .store)))
+  act s (query i) = finished s (cond (isFor i (f .medium .prepared (s .store))) 1 0)
 
   unfoldable pub judged : StateOf → Event → Option ℕ → OutcomeOf
   judged s e none = act s e
@@ -194,5 +235,5 @@ module _ (f : Form) where
 
 -- opens the definitions of this module: for what is proved by computing
 unfoldable pub open-step : Unit {0}
-unfolding numberOf valueOf firstOf hasChild firstFree begun locked wrote ended passed retaining aborted raised concluded finished visible refusals refusal commitsTop commitsChild commits recovers act judged step
+unfolding numberOf valueOf firstOf isBusy isFor isTop hasChild firstFree begun locked wrote ended passed retaining aborted raised concluded finished visible changes busy reserved refusals refusal commitsTop commitsChild commits recovers decides act judged step
 open-step = tt

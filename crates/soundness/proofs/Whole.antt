@@ -8,19 +8,21 @@ use native.Mathlib.Decide.{decLt}
 use native.Mathlib.Omega.{arith}
 use Prim.Native.Nat.{ℕ, _*_, _+_, _<_, _≤_}
 use lib.ListN.{length, getD, length-take, length-drop}
-use Rattle.laws.specs.Tests.{same}
-use Rattle.laws.proofs.Booleans.{or-cases, refute}
+use Rattle.laws.specs.Tests.{same, under}
+use Rattle.laws.proofs.Tests.{under-lt, lt-under}
+use Rattle.laws.proofs.Booleans.{or-cases, both, refute}
 use Rattle.rules.specs.Geometry.{records}
-use Rattle.rules.specs.Store.{Page, pagesOf}
+use Rattle.rules.specs.Store.{Page, Pages, pagesOf, intention, named, readPrepared, preparedMap, isReserved, pending}
 use Rattle.rules.specs.State.{isActive, live, holds, retains, holdsWriting, retainsWriting}
+use Rattle.rules.specs.Versions.{isSome}
 use Rattle.rules.specs.Sound.{Sound}
-use Rattle.rules.specs.Editions.{edition1, depths, workBytes}
+use Rattle.rules.specs.Editions.{geometry1, edition1, depths, workBytes}
 use Rattle.sets.specs.Sets.{sets}
-use Rattle.arrays.specs.View.{bearersOf, writeMode, slot, versionsOf}
+use Rattle.arrays.specs.View.{bearersOf, writeMode, Nested, slot, versionsOf}
 use Rattle.arrays.proofs.View.{depth-is, deep-is, active-is, idle-is, some-is}
 use Rattle.arrays.proofs.Modes.{lock-is, writing-is}
 use Rattle.clauses.specs.Decides.{Decides}
-use Rattle.clauses.specs.Clauses.{Entry, Entries, Locks, Shares, Phase}
+use Rattle.clauses.specs.Clauses.{Entry, Entries, Locks, Shares, Unlocked, Phase}
 use Rattle.soundness.specs.Encoded.{stateOf, Encoded, Sized}
 use Rattle.clauses.proofs.Decides.{decides-as, decides-and}
 use Rattle.soundness.proofs.Tree.{below, everywhere, tree-rooted, tree-lines, tree-parented, tree-shallow, entry-of}
@@ -29,7 +31,7 @@ use Rattle.soundness.proofs.Locks.{living, Locked, in-range, locked-by,
 -- the clauses, in the order of the code's tests
 abbrev Clauses : ℕ → List ℕ → List ℕ → List ℕ → List ℕ → List ℕ → List ℕ → List ℕ → Type 0
 Clauses up parent depth line held retained writers store =
-    ((Entries parent depth line × Locks (living depth) held retained writers) × Shares depth line held retained) × Phase up depth store
+    ((Entries parent depth line × Locks (living depth) held retained writers) × Shares depth line held retained) × Phase up depth held retained store
 
 page-long : (work : List ℕ) (n : ℕ) → 32 * n + 32 ≤ length work → length (pagesOf work n) ≡ 32
 unfolding pagesOf
@@ -44,6 +46,15 @@ version-is : (b : Bool) (q p : Page) → cond b (some q) none ≡ some p → (b 
 version-is true q p e = (refl, cc)
 version-is false q p e = let z : _≡_ {A = ℕ} 0 1 = cc in absurd (omega arith)
 
+-- the records that the prepared transaction changed are those that its map names
+pending-is : (s : Pages) (r : ℕ) → isSome (pending geometry1 s r) ≡ (under r 16 && named geometry1 (preparedMap (readPrepared geometry1 (s 0))) r)
+unfolding pending isReserved records isSome
+pending-is s r = go (under r 16 && named geometry1 (preparedMap (readPrepared geometry1 (s 0))) r)
+  where
+    go : (b : Bool) → isSome (cond b (some (s (intention r))) none) ≡ b
+    go true = refl
+    go false = refl
+
 module _ (up : ℕ) (parent depth line held retained writers work store : List ℕ) (Z : Sized parent depth line held retained writers store) (long : length work ≡ workBytes) where
   -- a version is a record's, by a live transaction
   writer-low : (r t : ℕ) → sets writers r t ≡ true → r < 16
@@ -55,7 +66,7 @@ module _ (up : ℕ) (parent depth line held retained writers work store : List �
       (or-cases (writeMode (sets held) r t) (writeMode (sets retained) r t) (L .by-lock t r e)
       (λ f. L .holder-live r t (L .held-nested r t f)) (λ f. L .retainer-live r t (L .retained-nested r t f)))
 
-  state-sound : ((t : ℕ) → Entry parent depth line t) → Locked parent depth held retained writers → Phase up depth store
+  state-sound : ((t : ℕ) → Entry parent depth line t) → Locked parent depth held retained writers → Phase up depth held retained store
       → Sound edition1 (stateOf up parent depth held retained writers work store)
   unfolding live holds retains holdsWriting retainsWriting versionsOf records
   state-sound E L P =
@@ -83,6 +94,8 @@ module _ (up : ℕ) (parent depth line held retained writers work store : List �
             (λ lt. idle-is parent depth t (P .idle e t lt))
             (λ ge. refute (isActive (bearersOf parent depth t)) (λ a. let k : t < 24 = below depth t (Z .depths) (deep-is parent depth t a) in omega arith));
         calm = P .calm;
+        reserved = λ r t e. let n = both (under r 16) _ (sym (pending-is (pagesOf store) r) ∙ e) in
+            ap₂ _||_ (h r t) (m r t) ∙ P .reserved r (under-lt r 16 (n .0)) (n .1) t;
       }
 
   encoded-by : Clauses up parent depth line held retained writers store → Encoded up parent depth line held retained writers work store
@@ -103,6 +116,12 @@ module _ (up : ℕ) (parent depth line held retained writers work store : List �
   unfolding live
   down-free S e t = dite (decLt 0 (getD depth t 0)) (λ lt. absurd (true≢false (sym (active-is parent depth t lt) ∙ S .idle t e))) (λ ge. omega arith)
 
+  unlocked-of : Nested (sets held) → Nested (sets retained) → Sound edition1 (stateOf up parent depth held retained writers work store)
+      → Unlocked (preparedMap (readPrepared geometry1 (pagesOf store 0))) held retained
+  unfolding holds retains
+  unlocked-of H M S r h n u =
+      sym (ap₂ _||_ (lock-is (sets held) H r u) (lock-is (sets retained) M r u)) ∙ S .reserved r u (pending-is (pagesOf store) r ∙ ap₂ _&&_ (lt-under r 16 h) n)
+
   clauses-of : Encoded up parent depth line held retained writers work store → Clauses up parent depth line held retained writers store
   unfolding live
   clauses-of N =
@@ -110,10 +129,10 @@ module _ (up : ℕ) (parent depth line held retained writers work store : List �
       let E = entry-of up parent depth line held retained writers work store S (N .lines) (N .tidy) in
       let L = locked-of up parent depth held retained writers work store (N .held-nested) (N .retained-nested) S in (
         (((λ t h. E t), locks-of parent depth held retained writers (S .numbered) L), shares-of parent depth line held retained writers (N .lines) L),
-        record { flag = N .flag; idle = λ e t h. down-free S e t; calm = S .calm },
+        record { flag = N .flag; idle = λ e t h. down-free S e t; calm = S .calm; reserved = unlocked-of (N .held-nested) (N .retained-nested) S },
       )
 
   pub whole-decided : {a b c d : Bool} → Decides a (Entries parent depth line) → Decides b (Locks (living depth) held retained writers)
-      → Decides c (Shares depth line held retained) → Decides d (Phase up depth store)
+      → Decides c (Shares depth line held retained) → Decides d (Phase up depth held retained store)
       → Decides (((a && b) && c) && d) (Encoded up parent depth line held retained writers work store)
   whole-decided a b c d = decides-as encoded-by clauses-of (decides-and (decides-and (decides-and a b) c) d)

@@ -151,6 +151,6 @@ pub fn is_sound(
     let live = transactions::live_set(depth);
     let locks = are_locks(live, held, retained, writers);
     let shares = are_shares(depth, line, held, retained);
-    let phase = phase::is_phase(up, depth, store);
+    let phase = phase::is_phase(up, depth, held, retained, store);
     tree & locks & shares & phase
 }

@@ -14,7 +14,8 @@ use Rattle.rules.specs.Commit.{open-commit}
 use Rattle.rules.specs.Step.{open-step}
 use Rattle.rules.specs.Run.{open-run}
 use Rattle.rules.specs.Age.{open-age}
-use Rattle.trials.specs.Trials.{allPass, trials}
+use Rattle.trials.specs.Rows.{allPass}
+use Rattle.trials.specs.Trials.{trials}
 
 pub trials-hold : T (allPass trials)
 unfolding open-tests open-counting open-functions open-bytes open-geometry open-store open-event open-state open-locks open-versions open-commit open-step open-run open-age

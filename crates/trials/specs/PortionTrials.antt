@@ -10,7 +10,8 @@ use Rattle.rules.specs.State.{down}
 use Rattle.rules.specs.Form.{Medium}
 use Rattle.rules.specs.Portion.{Lent, Portion, portion, Chain, chainFrom}
 use Rattle.rules.specs.Editions.{geometry1, edition1}
-use Rattle.trials.specs.Trials.{Line, Trial, plays, refuses, ages, eventsOf, answersOf, allDue, trials}
+use Rattle.trials.specs.Rows.{Line, Trial, plays, refuses, ages, eventsOf, answersOf, allDue}
+use Rattle.trials.specs.Trials.{trials}
 
 -- the buffers of a portion: some events, and an answer buffer of some bytes
 abbrev pub lent : List ℕ → ℕ → Lent

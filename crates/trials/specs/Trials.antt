@@ -1,152 +1,16 @@
 -- The trials at the edges that document 01 marks, as rows of one table, with rows that shut out its five shortcuts, and rows for the locks of
--- document 02: read locks, reports, live children.
-use Prim.Native.Nat.{ℕ, zero, suc, _+_, _-_, _*_, _/_, _%_}
-use mathlib.Core.Bool.{Bool, true, false, _&&_}
+-- document 02: read locks, reports, live children; and the rows for prepared transactions.
+use Prim.Native.Nat.{ℕ, _+_, _-_, _*_}
 use mathlib.Core.List.{List, [], _∷_, _++_}
-use lib.ListN.{take, length, set, replicate}
-use lib.IntN.{ℤ, pos, negsuc}
-use Rattle.laws.specs.Tests.{same}
-use Rattle.laws.specs.Bytes.{bytes, sameList}
-use Rattle.rules.specs.Geometry.{Geometry, pageSize, nobody, wordSize, workSize}
-use Rattle.rules.specs.Store.{Page, blank, fresh, settled, home, pagesOf}
-use Rattle.rules.specs.Event.{toWrite, toRead, Event, begin, lock, write, read, commit, abort, crash, recover, encode}
-use Rattle.rules.specs.Form.{Form, Medium}
-use Rattle.rules.specs.Run.{Result, run}
-use Rattle.rules.specs.Age.{Age, ahead, live, stale, refused, ageOf}
-use Rattle.rules.specs.Editions.{geometry1, edition1}
-
--- an event word and its two answer bytes as one number
-abbrev pub Line : Type 0
-Line = ℕ × ℕ
-
--- of the store at the end: how a page begins, what the settled value of a record is
-pub data Due : Type 0 where
-  page : ℕ → List ℕ → Due
-  value : ℕ → Page → Due
-
--- A row: a start store, events with the answers due, and what is due of the store at the end; or the lengths of store, events, working buffer
--- and answer buffer with the refusal due; or an age.
-pub data Trial : Type 0 where
-  plays : List ℕ → List Line → List Due → Trial
-  refuses : ℕ → ℕ → ℕ → ℕ → ℕ → Trial
-  ages : List ℕ → ℕ → ℕ → ℕ → Age → Trial
-
-abbrev pub eventsOf : List Line → List ℕ
-eventsOf [] = []
-eventsOf (l ∷ ls) = bytes (wordSize geometry1) (l .0) ++ eventsOf ls
-
-abbrev pub answersOf : List Line → List ℕ
-answersOf [] = []
-answersOf (l ∷ ls) = l .1 / 256 ∷ l .1 % 256 ∷ answersOf ls
-
-abbrev pub allDue : List ℕ → List Due → Bool
-allDue store [] = true
-allDue store (page p bs ∷ ds) = sameList (take (length bs) (pagesOf store p)) bs && allDue store ds
-allDue store (value r bs ∷ ds) = sameList (settled geometry1 (pagesOf store) r) bs && allDue store ds
-
-abbrev sameℤ : ℤ → ℤ → Bool
-sameℤ (pos m) (pos n) = same m n
-sameℤ (pos m) (negsuc n) = false
-sameℤ (negsuc m) (pos n) = false
-sameℤ (negsuc m) (negsuc n) = same m n
-
-abbrev sameAge : Age → Age → Bool
-sameAge (ahead a) (ahead b) = sameℤ a b
-sameAge (ahead a) (live b) = false
-sameAge (ahead a) (stale b) = false
-sameAge (ahead a) (refused b) = false
-sameAge (live a) (ahead b) = false
-sameAge (live a) (live b) = sameℤ a b
-sameAge (live a) (stale b) = false
-sameAge (live a) (refused b) = false
-sameAge (stale a) (ahead b) = false
-sameAge (stale a) (live b) = false
-sameAge (stale a) (stale b) = sameℤ a b
-sameAge (stale a) (refused b) = false
-sameAge (refused a) (ahead b) = false
-sameAge (refused a) (live b) = false
-sameAge (refused a) (stale b) = false
-sameAge (refused a) (refused b) = same a b
-
--- the row holds of the run on bytes
-abbrev pub passes : Trial → Bool
-passes (plays store ls ds) =
-    let r = run edition1 store (eventsOf ls) (replicate (workSize geometry1) 0) (replicate (2 * length ls) 255) in
-    same (r .answer) 0 && sameList (r .answers) (answersOf ls) && allDue (r .store) ds
-passes (refuses store events work answers n) =
-    let r = run edition1 (replicate store 7) (replicate events 7) (replicate work 7) (replicate answers 7) in
-    same (r .answer) n && sameList (r .store) (replicate store 7) && sameList (r .answers) (replicate answers 7)
-passes (ages store r clock limit a) = sameAge (ageOf edition1 store r clock limit) a
-
-abbrev pub allPass : List Trial → Bool
-allPass [] = true
-allPass (t ∷ ts) = passes t && allPass ts
-
-abbrev freshBytes : List ℕ
-freshBytes = edition1 .medium .toBytes (fresh geometry1)
-
-abbrev emptyPage : Page
-emptyPage = 0x10 ∷ replicate 31 0
-
-abbrev withA5 : Page
-withA5 = set blank 2 0xA5
-
-abbrev on : Event → ℕ → Line
-on e a = (encode geometry1 e, a)
-
-abbrev top : Event
-top = begin nobody
-
--- a lock to write, a lock to read
-abbrev locks : ℕ → ℕ → Event
-locks t r = lock t r toWrite
-
-abbrev shares : ℕ → ℕ → Event
-shares t r = lock t r toRead
-
--- an abort without a report, with one
-abbrev aborts : ℕ → Event
-aborts t = abort t false
-
-abbrev reports : ℕ → Event
-reports t = abort t true
-
--- a row on a fresh store that is brought up first
-abbrev onFresh : List Line → List Due → Trial
-onFresh ls ds = plays freshBytes (on (recover 63) 0x0000 ∷ ls) ds
-
--- the worked list, to its eleventh event and from there
-abbrev workedToCut : List Line
-workedToCut =
-    (0x80003F00, 0x0000) ∷ (0x1F800000, 0x0000) ∷ (0x10000000, 0x0001) ∷ (0x20980000, 0x0000) ∷ (0x309880A5, 0x0000) ∷
-    (0x50803F00, 0x0000) ∷ (0x10000000, 0x0001) ∷ (0x20980000, 0x0000) ∷ (0x30988011, 0x0000) ∷ (0x60800000, 0x0000) ∷
-    (0x50000200, 0x0B02) ∷ []
-
-abbrev workedFromCut : List Line
-workedFromCut =
-    (0x40188000, 0x0200) ∷ (0x80003F00, 0x0002) ∷ (0x1F800000, 0x0000) ∷ (0x20180000, 0x0000) ∷ (0x40188000, 0x00A5) ∷ []
-
--- transactions nested n deep below the first, each with its number
-abbrev nested : ℕ → List Line
-nested zero = on top 0x0000 ∷ []
-nested (suc n) = nested n ++ (on (begin n) (suc n) ∷ [])
-
--- transaction 0 writes A5 into record 3 at 2; a child 1 of it writes 11 there and commits
-abbrev writesA5 : List Line
-writesA5 = on top 0x0000 ∷ on (locks 0 3) 0x0000 ∷ on (write 0 3 2 0xA5) 0x0000 ∷ []
-
-abbrev childWrites11 : List Line
-childWrites11 = on top 0x0000 ∷ on (begin 0) 0x0001 ∷ on (locks 1 3) 0x0000 ∷ on (write 1 3 2 0x11) 0x0000 ∷ on (commit 1 0) 0x0000 ∷ []
-
--- transaction 0 writes A5 into records 3 and 9 at 2, and both then or neither
-abbrev writesTwo : List Line
-writesTwo = writesA5 ++ (on (locks 0 9) 0x0000 ∷ on (write 0 9 2 0xA5) 0x0000 ∷ [])
-
-abbrev bothA5 : List Due
-bothA5 = value 3 withA5 ∷ value 9 withA5 ∷ []
-
-abbrev neither : List Due
-neither = value 3 blank ∷ value 9 blank ∷ []
+use lib.ListN.{set}
+use lib.IntN.{negsuc}
+use Rattle.rules.specs.Geometry.{pageSize, workSize}
+use Rattle.rules.specs.Store.{blank, home}
+use Rattle.rules.specs.Event.{begin, write, read, commit, crash, recover}
+use Rattle.rules.specs.Age.{ahead}
+use Rattle.rules.specs.Editions.{geometry1}
+use Rattle.trials.specs.Rows.{Trial, plays, refuses, ages, page, value, freshBytes, emptyPage, withA5, on, top, locks, shares, aborts, reports, onFresh, workedToCut, workedFromCut, nested, writesA5, childWrites11, writesTwo, bothA5, neither}
+use Rattle.trials.specs.PreparedTrials.{preparedTrials}
 
 abbrev pub trials : List Trial
 trials =
@@ -219,7 +83,7 @@ trials =
     onFresh (on top 0x0000 ∷ on (locks 0 3) 0x0000 ∷ on (write 0 3 2 0) 0x0000 ∷ on (commit 0 63) 0x0004 ∷ []) [] ∷
     -- Names: 24 to 30 are never live, 31 only in begin is no name; stray bits are 1 before all else.
     onFresh (
-    on (begin 24) 0x0500 ∷ on (begin 30) 0x0500 ∷ on (locks 31 3) 0x0500 ∷ (0x70000001, 0x0100) ∷ (0x90000000, 0x0100) ∷ (0x00000000, 0x0100) ∷
+    on (begin 24) 0x0500 ∷ on (begin 30) 0x0500 ∷ on (locks 31 3) 0x0500 ∷ (0x70000001, 0x0100) ∷ (0xC0000000, 0x0100) ∷ (0x00000000, 0x0100) ∷
     (0x20000002, 0x0100) ∷ on (recover 63) 0x0300 ∷ []) [] ∷
     -- Read locks. What is held and what is retained are apart: a retainer in write mode that holds to read does not write.
     plays freshBytes (
@@ -286,4 +150,5 @@ trials =
     -- Refused before the first event, in the order 22, 24, 20, 21, with nothing touched.
     refuses 1055 5 (workSize geometry1 - 1) 0 22 ∷ refuses 1056 5 (workSize geometry1 - 1) 0 24 ∷ refuses 1056 5 (workSize geometry1) 0 20 ∷
     refuses 1056 16388 (workSize geometry1) 8194 20 ∷ refuses 1056 8 (workSize geometry1) 3 21 ∷
-    []
+    -- Prepared transactions.
+    preparedTrials

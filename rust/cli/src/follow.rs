@@ -1,8 +1,8 @@
 //! Who is live, who holds and who retains, told from the events and the engine's answers.
 
 use nekahuiro::limits::RECORDS;
-use nekahuiro::{Answer, Event, Record, State, Transaction};
-use std::collections::BTreeMap;
+use nekahuiro::{Answer, CommitPage, Event, Identity, Record, State, Transaction};
+use std::collections::{BTreeMap, BTreeSet};
 
 /// What is known after some events.
 #[derive(Clone, Default)]
@@ -13,6 +13,10 @@ pub struct Follower {
     pub live: BTreeMap<u8, Option<u8>>,
     /// The lock of each record.
     pub locks: [Lock; RECORDS],
+    /// The records that each of them changed.
+    changed: BTreeMap<u8, BTreeSet<u8>>,
+    /// Who is prepared: its identity, and the records that nobody gets until its decision.
+    pub prepared: Option<(Identity, BTreeSet<u8>)>,
 }
 
 /// In which mode a lock is held or retained: write mode is the stronger.
@@ -37,11 +41,17 @@ pub struct Lock {
 }
 
 impl Follower {
-    /// What a state tells.
-    pub fn of(state: &State) -> Follower {
+    /// What a state and page 0 tell.
+    pub fn of(state: &State, page: CommitPage) -> Follower {
         let mut follower = Follower { up: state.is_up(), ..Follower::default() };
+        if let CommitPage::Prepared(map, identity) = page {
+            follower.prepared = Some((identity, map.records().map(Record::number).collect()));
+        }
         follower.live = state.live().map(|t| (t.number(), state.parent(t).map(Transaction::number))).collect();
         for (lock, record) in follower.locks.iter_mut().zip(Record::all()) {
+            for writer in state.writers(record) {
+                follower.changed.entry(writer.number()).or_default().insert(record.number());
+            }
             for (bearers, any, write) in [
                 (&mut lock.holders, numbers(state.holders(record)), numbers(state.write_holders(record))),
                 (&mut lock.retainers, numbers(state.retainers(record)), numbers(state.write_retainers(record))),
@@ -67,13 +77,29 @@ impl Follower {
             Event::ReadLock { transaction, record } => self.lock(transaction, record, Mode::Read),
             Event::Commit { transaction, .. } => self.commit(transaction.number()),
             Event::Abort { transaction, report } => self.abort(transaction.number(), report),
-            Event::Crash => *self = Follower::default(),
+            Event::Crash => self.crash(),
             Event::Recover { .. } => self.up = true,
-            Event::Write { .. } | Event::Read { .. } => {}
+            Event::Write { transaction, record, .. } => {
+                self.changed.entry(transaction.number()).or_default().insert(record.number());
+            }
+            Event::Prepare { transaction, identity, .. } => {
+                let changed = self.changed.get(&transaction.number()).cloned().unwrap_or_default();
+                self.abort(transaction.number(), false);
+                if !answer.is_cut() && !changed.is_empty() {
+                    self.prepared = Some((identity, changed));
+                }
+            }
+            Event::Decide { .. } if answer.value > 0 => self.prepared = None,
+            Event::Read { .. } | Event::Decide { .. } | Event::Query { .. } => {}
         }
         if answer.is_cut() {
-            *self = Follower::default();
+            self.crash();
         }
+    }
+
+    /// What is prepared outlasts it.
+    fn crash(&mut self) {
+        *self = Follower { prepared: self.prepared.take(), ..Follower::default() };
     }
 
     fn lock(&mut self, transaction: Transaction, record: Record, mode: Mode) {
@@ -83,6 +109,10 @@ impl Follower {
     fn commit(&mut self, transaction: u8) {
         let parent = self.live.remove(&transaction).flatten();
         self.pass(transaction, parent);
+        let changed = self.changed.remove(&transaction).unwrap_or_default();
+        if let Some(parent) = parent {
+            self.changed.entry(parent).or_default().extend(changed);
+        }
     }
 
     /// The heir retains what a transaction held or retained; without one nobody does.
@@ -100,6 +130,7 @@ impl Follower {
         let ended: Vec<u8> = self.live.keys().copied().filter(|t| self.line(*t).any(|up| up == aborted)).collect();
         for transaction in ended {
             self.live.remove(&transaction);
+            self.changed.remove(&transaction);
             for lock in &mut self.locks {
                 lock.discard(transaction);
             }
@@ -114,7 +145,12 @@ impl Follower {
     /// read is to write.
     pub fn locks_in_words(&self) -> String {
         let told = self.locks.iter().enumerate().filter_map(|(record, lock)| lock.in_words(record));
-        let told: Vec<String> = told.collect();
+        let mut told: Vec<String> = told.collect();
+        if let Some((identity, records)) = &self.prepared {
+            let which = if records.len() == 1 { "record" } else { "records" };
+            let records: Vec<String> = records.iter().map(u8::to_string).collect();
+            told.push(format!("{which} {} locked until the decision on identity {identity}", records.join(", ")));
+        }
         if told.is_empty() {
             "no lock is held or retained".to_string()
         } else {

@@ -25,6 +25,10 @@ one to a line; # starts a comment. With --raw it has raw event words of 4 bytes.
   abort TRANSACTION report                its parent retains its locks, since it told what it read
   crash
   recover COUNT                           a run starts down: recover comes first
+  prepare TRANSACTION COUNT IDENTITY      end it, its changes waiting for the decision on an identity
+  decide commit COUNT IDENTITY            the decision; for an identity that isn't prepared it does nothing
+  decide abort COUNT IDENTITY
+  query IDENTITY                          whether it is prepared: 1 or 0; identities are from 0 to 255
 ";
 
 /// Reads a list of events into raw words; `raw` says that it has them already.

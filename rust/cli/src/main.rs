@@ -6,6 +6,7 @@ mod bench;
 mod command;
 mod commands;
 mod demo;
+mod depot;
 mod encode;
 mod failure;
 mod files;

@@ -42,6 +42,15 @@ pub fn commit_page(store: &Store) -> String {
             let named = named.join(", ");
             format!("page 0 ({head} ..): committed, {records} {named}; a recover will copy {pages} home")
         }
+        CommitPage::Prepared(map, identity) => {
+            let named: Vec<String> = map.records().map(|record| record.to_string()).collect();
+            let records = if named.len() == 1 { "record" } else { "records" };
+            let named = named.join(", ");
+            let head = format!("{head} {:02X}", store.page(0)[4]);
+            format!(
+                "page 0 ({head} ..): prepared with identity {identity}, {records} {named}; locked until its decision"
+            )
+        }
         CommitPage::Damaged(why) => {
             format!("page 0 ({head} ..): damaged, {why}; recover and age are refused with 4, home pages are shown")
         }

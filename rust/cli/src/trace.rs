@@ -52,6 +52,10 @@ pub fn what_happened(event: Option<Event>, word: [u8; EVENT_BYTES], answer: Answ
     if let Some(why) = why_bad(word).filter(|_| answer.number == 1) {
         return format!("refused 1: {why}");
     }
+    if answer.is_cut() && matches!(event, Some(Event::Decide { .. })) {
+        let stored = if answer.value > 0 { "is stored" } else { "isn't stored" };
+        return format!("{answer}; the decision {stored}");
+    }
     if answer.number != 0 {
         return answer.to_string();
     }
@@ -60,6 +64,13 @@ pub fn what_happened(event: Option<Event>, word: [u8; EVENT_BYTES], answer: Answ
         Some(Event::Read { .. }) => format!("the byte is {:02X}", answer.value),
         Some(Event::Commit { .. }) => format!("done, {}", page_writes(answer.value)),
         Some(Event::Recover { .. }) => format!("the store is up, {}", page_writes(answer.value)),
+        Some(Event::Prepare { .. }) if answer.value == 0 => "committed, since it changed nothing".to_string(),
+        Some(Event::Prepare { .. }) => format!("prepared, {}", page_writes(answer.value)),
+        Some(Event::Decide { .. }) if answer.value == 0 => "nothing to do: it isn't prepared".to_string(),
+        Some(Event::Decide { commit: true, .. }) => format!("committed, {}", page_writes(answer.value)),
+        Some(Event::Decide { commit: false, .. }) => format!("aborted, {}", page_writes(answer.value)),
+        Some(Event::Query { .. }) if answer.value == 1 => "it is prepared".to_string(),
+        Some(Event::Query { .. }) => "it isn't prepared".to_string(),
         Some(Event::Abort { report: true, .. }) => "done, with a report".to_string(),
         Some(Event::Crash) => "the store is down".to_string(),
         _ => "done".to_string(),
@@ -86,9 +97,13 @@ pub fn endings(history: &History) -> BTreeMap<usize, Ending> {
                 let line = format!("the store is down; transaction {number} {fate} written");
                 endings.entry(at).or_default().cut = Some(line);
             }
+            End::Prepared { at, cut: true, .. } => {
+                let line = format!("the store is down; transaction {number} is lost: it isn't prepared");
+                endings.entry(at).or_default().cut = Some(line);
+            }
             End::Crashed(at) => endings.entry(at).or_default().crashed.push(number),
             End::Aborted(at) => endings.entry(at).or_default().aborted.push(number),
-            End::Committed { .. } | End::Never => {}
+            End::Committed { .. } | End::Prepared { .. } | End::Never => {}
         }
     }
     endings
@@ -107,7 +122,7 @@ impl Ending {
 pub fn fates(history: &History) -> String {
     let all = history.transactions.len();
     let survive = history.transactions.iter().filter(|told| told.survives).count();
-    let open = (0..all).filter(|place| history.is_open(*place)).count();
+    let open = (0..all).filter(|place| history.is_undecided(*place)).count();
     let verb = if survive == 1 { "survives" } else { "survive" };
     let open_in_words = if open == 0 { String::new() } else { format!(", {open} undecided") };
     format!("{}: {survive} {verb}, {} lost{open_in_words}", number_of(all, "transaction"), all - survive - open)

@@ -4,7 +4,8 @@
 //! Nothing is known of locks, versions or page writes.
 //!
 //! * First half: the settled records at the end are those at the start with the surviving writes
-//!   laid over them in list order ([`first_half`]).
+//!   laid over them in list order ([`first_half`]). A transaction that is prepared in the start store
+//!   counts as having written its pages first, once the decision to commit it is stored.
 //! * Second half: a second run from the same store, whose list differs only in the values of
 //!   accepted writes of lost transactions ([`second_list`]), gives the same answers but for the
 //!   values of lost transactions' reads, and the same settled records ([`second_half`]).
@@ -13,8 +14,8 @@ mod settled;
 mod telling;
 mod word;
 
-pub use settled::{settled, Records};
-pub use telling::{tell, tell_from, Absurd, Earlier, End, History, Transaction, Write};
+pub use settled::{prepared, settled, Prepared, Records};
+pub use telling::{tell, tell_from, Absurd, Decision, Earlier, End, History, Transaction, Write};
 use word::{Kind, Word};
 
 /// What demand 3 forbids.
@@ -66,6 +67,14 @@ pub struct Run<'r> {
 pub fn first_half(run: Run) -> Result<History, Breach> {
     let history = tell(run.events, run.answers).map_err(Breach::Absurd)?;
     let mut due = settled(run.before);
+    if let Some(decision) = history.decided_before {
+        let absurd = Absurd { at: decision.at, what: "decides, but nothing is prepared with its identity" };
+        let start = prepared(run.before).filter(|start| start.identity == decision.identity);
+        let start = start.ok_or(Breach::Absurd(absurd))?;
+        if decision.commit {
+            start.pages.into_iter().for_each(|(record, page)| due[record] = page);
+        }
+    }
     for write in history.surviving_writes() {
         due[usize::from(write.record)][usize::from(write.offset)] = write.value;
     }

@@ -16,10 +16,34 @@ pub enum End {
         /// The answer's value.
         value: u8,
     },
+    /// Its own prepare was accepted, at this event, with this answer.
+    Prepared {
+        /// The event's place in the list.
+        at: usize,
+        /// Whether the answer was 11: then it is lost.
+        cut: bool,
+        /// Its identity.
+        identity: u8,
+        /// How many records it had changed: with none it just commits.
+        changed: u8,
+        /// The decision on it, once that is stored.
+        decision: Option<Decision>,
+    },
     /// Its own abort or an ancestor's was accepted at this event.
     Aborted(usize),
     /// A crash or an answer 11 to another's event ended it at this event.
     Crashed(usize),
+}
+
+/// A decision that was stored.
+#[derive(Clone, Copy, Debug, PartialEq, Eq)]
+pub struct Decision {
+    /// The place of its event in the list.
+    pub at: usize,
+    /// The identity that the event names.
+    pub identity: u8,
+    /// To commit, or else to abort.
+    pub commit: bool,
 }
 
 /// A transaction is one accepted begin, not a number.
@@ -72,6 +96,8 @@ pub struct History {
     pub writes: Vec<Write>,
     /// For each event the transaction that it belongs to.
     pub owner: Vec<Option<usize>>,
+    /// The decision on a transaction that was prepared before the first event, once it is stored.
+    pub decided_before: Option<Decision>,
     /// Transactions and the records that they had changed before the first event.
     carried: Vec<(usize, u8)>,
 }
@@ -92,7 +118,7 @@ pub fn tell(events: &[u8], answers: &[u8]) -> Result<History, Absurd> {
 
 /// Tells the history of a portion, before which these transactions are live, parents before children.
 pub fn tell_from(earlier: &[Earlier], events: &[u8], answers: &[u8]) -> Result<History, Absurd> {
-    let mut teller = Teller { history: History::default(), bearers: [None; 32] };
+    let mut teller = Teller { history: History::default(), bearers: [None; 32], waiting: None };
     earlier.iter().for_each(|transaction| teller.earlier(transaction));
     for (at, (word, answer)) in events.chunks_exact(4).zip(answers.chunks_exact(2)).enumerate() {
         teller.event(at, Word::of(word), answer[0], answer[1])?;
@@ -106,6 +132,8 @@ struct Teller {
     history: History,
     /// Who bears each number now.
     bearers: [Option<usize>; 32],
+    /// Who is prepared and waits for a decision.
+    waiting: Option<usize>,
 }
 
 impl Teller {
@@ -131,7 +159,7 @@ impl Teller {
             if word.names_transaction() && owner.is_none() {
                 return Err(Absurd { at, what: "accepted, but nobody bears the number that it names" });
             }
-            self.accepted(at, word, owner, cut, value);
+            self.accepted(at, word, owner, cut, value)?;
         }
         if cut {
             self.end_all(End::Crashed(at));
@@ -160,7 +188,7 @@ impl Teller {
         Ok(place)
     }
 
-    fn accepted(&mut self, at: usize, word: Word, owner: Option<usize>, cut: bool, value: u8) {
+    fn accepted(&mut self, at: usize, word: Word, owner: Option<usize>, cut: bool, value: u8) -> Result<(), Absurd> {
         match (word.kind, owner) {
             (Kind::Write, Some(transaction)) => {
                 let Word { record, offset, value, .. } = word;
@@ -175,7 +203,51 @@ impl Teller {
                 }
             }
             (Kind::Crash, _) => self.end_all(End::Crashed(at)),
+            (Kind::Prepare, Some(transaction)) => self.prepare(at, word, transaction, cut)?,
+            // For another identity nothing is done, and no page is written.
+            (Kind::Decide, _) if value > 0 => {
+                self.decide(Decision { at, identity: word.value, commit: word.offset == 1 })?;
+            }
+            (Kind::Query, _) => self.query(at, word.value, value)?,
             _ => {}
+        }
+        Ok(())
+    }
+
+    /// Who changed nothing just commits; else it waits, or is lost where the prepare was cut.
+    fn prepare(&mut self, at: usize, word: Word, transaction: usize, cut: bool) -> Result<(), Absurd> {
+        let changed = self.history.changed_records(transaction);
+        self.end(transaction, End::Prepared { at, cut, identity: word.value, changed, decision: None });
+        if cut || changed == 0 {
+            return Ok(());
+        }
+        match self.waiting.replace(transaction) {
+            Some(_) => Err(Absurd { at, what: "prepares while another is prepared" }),
+            None => Ok(()),
+        }
+    }
+
+    /// A decision is on the one that waits, or else on one that was prepared before the first event.
+    fn decide(&mut self, taken: Decision) -> Result<(), Absurd> {
+        let Some(waiting) = self.waiting.take() else {
+            return match self.history.decided_before.replace(taken) {
+                Some(_) => Err(Absurd { at: taken.at, what: "decides, but nothing is prepared" }),
+                None => Ok(()),
+            };
+        };
+        match &mut self.history.transactions[waiting].end {
+            End::Prepared { identity, decision, .. } if *identity == taken.identity => *decision = Some(taken),
+            _ => return Err(Absurd { at: taken.at, what: "decides for another than is prepared" }),
+        }
+        Ok(())
+    }
+
+    fn query(&self, at: usize, asked: u8, value: u8) -> Result<(), Absurd> {
+        let Some(waiting) = self.waiting else { return Ok(()) };
+        let own = matches!(self.history.transactions[waiting].end, End::Prepared { identity, .. } if identity == asked);
+        match value == u8::from(own) {
+            true => Ok(()),
+            false => Err(Absurd { at, what: "says of another than is prepared that it is" }),
         }
     }
 
@@ -208,8 +280,24 @@ impl History {
     /// Whether it is live after the last event, or committed to one that is: its fate is open, unless
     /// the last event counts as a crash.
     pub fn is_open(&self, transaction: usize) -> bool {
-        let last = self.line(transaction).find(|up| !self.committed(*up));
-        last.is_some_and(|last| self.transactions[last].end == End::Never)
+        self.end_of_line(transaction) == Some(End::Never)
+    }
+
+    /// Whether it is prepared and waits for its decision after the last event, or committed to one that
+    /// does: a crash doesn't change that.
+    pub fn is_waiting(&self, transaction: usize) -> bool {
+        let end = self.end_of_line(transaction);
+        matches!(end, Some(End::Prepared { cut: false, changed: 1.., decision: None, .. }))
+    }
+
+    /// Whether its fate isn't decided after the last event.
+    pub fn is_undecided(&self, transaction: usize) -> bool {
+        self.is_open(transaction) || self.is_waiting(transaction)
+    }
+
+    /// How the first of its line ended that didn't commit.
+    fn end_of_line(&self, transaction: usize) -> Option<End> {
+        self.line(transaction).find(|up| !self.committed(*up)).map(|last| self.transactions[last].end)
     }
 
     fn committed(&self, transaction: usize) -> bool {
@@ -235,6 +323,10 @@ impl History {
                 (End::Committed { .. }, Some(parent)) => self.transactions[parent].survives,
                 (End::Committed { cut: false, .. }, None) => true,
                 (End::Committed { cut: true, value, .. }, None) => value > self.changed_records(place),
+                // With no change it just commits; else it is lost until the decision to commit is stored.
+                (End::Prepared { changed, decision, cut: false, .. }, None) => {
+                    changed == 0 || decision.is_some_and(|decision| decision.commit)
+                }
                 _ => false,
             };
             self.transactions[place].survives = survives;

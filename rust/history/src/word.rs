@@ -17,6 +17,12 @@ pub enum Kind {
     Crash,
     /// 2: names a transaction, and nothing more is told of it.
     Lock,
+    /// 9.
+    Prepare,
+    /// 10.
+    Decide,
+    /// 11.
+    Query,
     /// All else names no transaction.
     Other,
 }
@@ -47,6 +53,9 @@ impl Word {
             5 => Kind::Commit,
             6 => Kind::Abort,
             7 => Kind::Crash,
+            9 => Kind::Prepare,
+            10 => Kind::Decide,
+            11 => Kind::Query,
             _ => Kind::Other,
         };
         Word {
@@ -58,8 +67,8 @@ impl Word {
         }
     }
 
-    /// A crash and a recover name no transaction, though they have the field.
+    /// A crash, a recover, a decide and a query name no transaction, though they have the field.
     pub fn names_transaction(&self) -> bool {
-        !matches!(self.kind, Kind::Crash | Kind::Other)
+        !matches!(self.kind, Kind::Crash | Kind::Decide | Kind::Query | Kind::Other)
     }
 }

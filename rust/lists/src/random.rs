@@ -1,10 +1,10 @@
 //! Random lists that are mostly accepted: deep nesting, contention, locks to read and to write, reuse of
-//! numbers, cuts at every count, crashes in recovery, bad events.
+//! numbers, cuts at every count, crashes in recovery, prepares and decisions, bad events.
 
 use crate::sketch::{Pair, Sketch};
-use crate::Rng;
+use crate::{stores, Rng};
 use nekahuiro::limits::{COUNT_LIMIT, EVENT_BYTES, PAGE_BYTES, RECORDS, TRANSACTIONS, TRANSACTION_NAMES};
-use nekahuiro::{Event, Fields, Transaction};
+use nekahuiro::{CommitPage, Event, Fields, Transaction};
 
 /// What a list is like, in percent where nothing else is said.
 #[derive(Clone, Debug)]
@@ -27,6 +27,8 @@ pub struct Taste {
     pub deep: usize,
     /// Commits and recoveries with a small count.
     pub cuts: usize,
+    /// Prepares, decisions and queries.
+    pub joint: usize,
     /// Plain crashes.
     pub crashes: usize,
     /// Events with a number at random.
@@ -60,6 +62,7 @@ impl Taste {
             crowd: rng.one_of([1, 2, 3, 5, 9, TRANSACTIONS]),
             deep: rng.one_of([10, 60, 95]),
             cuts: rng.one_of([0, 10, 40, 80]),
+            joint: rng.one_of([0, 0, 8, 25, 50]),
             crashes: rng.one_of([0, 1, 4]),
             strays: rng.one_of([0, 3, 15]),
             bad: rng.one_of([0, 1, 5]),
@@ -68,9 +71,9 @@ impl Taste {
     }
 }
 
-/// A random list for a store whose page 0 names this many records.
-pub fn list(rng: &mut Rng, taste: &Taste, committed: u32) -> Vec<u8> {
-    let mut maker = Maker { sketch: Sketch::new(committed), rng, taste, mood: MOODS[0] };
+/// A random list for a store with this page 0.
+pub fn list(rng: &mut Rng, taste: &Taste, page: CommitPage) -> Vec<u8> {
+    let mut maker = Maker { sketch: Sketch::new(page), rng, taste, mood: MOODS[0] };
     let mut words = Vec::with_capacity(taste.length * EVENT_BYTES);
     for _ in 0..taste.length {
         words.extend(maker.word());
@@ -102,8 +105,12 @@ impl Maker<'_> {
     fn astray(&mut self, fields: Fields) -> Fields {
         let live = self.sketch.live();
         match self.rng.below(8) {
-            0..=1 if fields.kind <= 6 => Fields { transaction: self.rng.below(TRANSACTION_NAMES) as u8, ..fields },
-            2..=4 if fields.kind <= 6 => Fields { transaction: self.rng.pick(&live).copied().unwrap_or(0), ..fields },
+            0..=1 if names_transaction(fields) => {
+                Fields { transaction: self.rng.below(TRANSACTION_NAMES) as u8, ..fields }
+            }
+            2..=4 if names_transaction(fields) => {
+                Fields { transaction: self.rng.pick(&live).copied().unwrap_or(0), ..fields }
+            }
             5..=6 if (2..=4).contains(&fields.kind) => Fields { record: self.rng.below(RECORDS) as u8, ..fields },
             7 => Fields { kind: 8, count: self.count(4), ..Fields::default() },
             _ => fields,
@@ -129,6 +136,11 @@ impl Maker<'_> {
         }
         if self.rng.percent(self.taste.crashes) {
             return Fields { kind: 7, ..Fields::default() };
+        }
+        if self.rng.percent(self.taste.joint) {
+            if let Some(fields) = self.joint() {
+                return fields;
+            }
         }
         if self.rng.below(self.taste.patience) == 0 {
             self.mood = MOODS[self.rng.below(MOODS.len())];
@@ -190,6 +202,35 @@ impl Maker<'_> {
         }
     }
 
+    /// A prepare, a decision or a query: mostly in turn, now and then beside another or for another.
+    fn joint(&mut self) -> Option<Fields> {
+        let prepared = self.sketch.prepared.map(|(_, identity)| identity);
+        let other = stores::any_identity(self.rng);
+        let identity = prepared.filter(|_| self.rng.percent(80)).unwrap_or(other);
+        let fields = Fields { value: identity, ..Fields::default() };
+        let decides = if prepared.is_some() { 55 } else { 10 };
+        match self.rng.below(100) {
+            draw if draw < decides => {
+                let commit = self.rng.percent(60);
+                let count = self.count(self.sketch.due_to_decide(commit, identity));
+                Some(Fields { kind: 10, offset: u8::from(commit), count, ..fields })
+            }
+            draw if draw < decides + 10 => Some(Fields { kind: 11, ..fields }),
+            _ => {
+                // Seldom by a child or one with a live child.
+                let able = match self.rng.below(20) {
+                    0 => self.sketch.live(),
+                    1..=3 => self.sketch.leaves(),
+                    4..=6 => self.sketch.tops(false),
+                    _ => self.sketch.tops(true),
+                };
+                let transaction = self.rng.pick(&able).copied()?;
+                let count = self.count(self.sketch.due_to_prepare(transaction));
+                Some(Fields { kind: 9, transaction, count, value: other, ..fields })
+            }
+        }
+    }
+
     /// Who asks for which lock, and whether to write: mostly for one that its own line retains or for any;
     /// now and then a reader would write, a writer asks for less, a stranger for what is retained.
     fn wanted(&mut self, asker: u8) -> (Pair, bool) {
@@ -237,7 +278,7 @@ impl Maker<'_> {
     }
 
     fn follow(&mut self, fields: Fields) {
-        let Fields { kind, transaction, record, count, value, .. } = fields;
+        let Fields { kind, transaction, record, offset, count, value } = fields;
         let count = u32::from(count);
         match kind {
             8 => self.sketch.recover(count),
@@ -248,7 +289,13 @@ impl Maker<'_> {
             3 => self.sketch.write(transaction, record),
             5 => self.sketch.commit(transaction, count),
             6 => self.sketch.abort(transaction, value == 1),
+            9 => self.sketch.prepare(transaction, count, value),
+            10 => self.sketch.decide(offset == 1, count, value),
             _ => {}
         }
     }
+}
+
+fn names_transaction(fields: Fields) -> bool {
+    (1..=6).contains(&fields.kind) || fields.kind == 9
 }

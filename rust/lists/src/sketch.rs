@@ -2,6 +2,7 @@
 //! It is a guess: where it is wrong an event is refused, which does no harm.
 
 use nekahuiro::limits::{DEPTH_LIMIT, RECORDS, TRANSACTIONS};
+use nekahuiro::CommitPage;
 
 #[derive(Clone, Copy, Default)]
 struct Live {
@@ -24,8 +25,10 @@ struct Lock {
 pub struct Sketch {
     /// Whether the store is up.
     pub up: bool,
-    /// Records named by page 0.
+    /// Records named by a committed page 0.
     pub committed: u32,
+    /// What a transaction that is prepared changed, and its identity.
+    pub prepared: Option<(u16, u8)>,
     live: [Option<Live>; TRANSACTIONS],
     locks: [Lock; RECORDS],
     denied: Option<Pair>,
@@ -132,6 +135,34 @@ impl Sketch {
         }
     }
 
+    /// Page writes that the prepare of a transaction makes.
+    pub fn due_to_prepare(&self, transaction: u8) -> u32 {
+        match self.at(transaction) {
+            Some(live) if live.parent.is_none() && live.wrote != 0 => live.wrote.count_ones() + 1,
+            _ => 0,
+        }
+    }
+
+    /// Page writes that a decision makes.
+    pub fn due_to_decide(&self, commit: bool, identity: u8) -> u32 {
+        match self.prepared {
+            Some((map, prepared)) if prepared == identity => {
+                if commit {
+                    map.count_ones() + 2
+                } else {
+                    1
+                }
+            }
+            _ => 0,
+        }
+    }
+
+    /// Top transactions without a live child; with `changed`, those that changed a record.
+    pub fn tops(&self, changed: bool) -> Vec<u8> {
+        let top = |t: &u8| self.at(*t).is_some_and(|live| live.parent.is_none() && (!changed || live.wrote != 0));
+        self.leaves().into_iter().filter(top).collect()
+    }
+
     fn at(&self, transaction: u8) -> Option<Live> {
         self.live.get(usize::from(transaction)).copied().flatten()
     }
@@ -141,9 +172,16 @@ impl Sketch {
         std::iter::successors(Some(transaction), |t| self.at(*t)?.parent).fold(0, |line, t| line | bit(t))
     }
 
-    /// A run starts down, over a page 0 that names this many records.
-    pub fn new(committed: u32) -> Sketch {
-        Sketch { committed, ..Sketch::default() }
+    /// A run starts down, over this page 0.
+    pub fn new(page: CommitPage) -> Sketch {
+        match page {
+            CommitPage::Committed(map) => Sketch { committed: map.records().count() as u32, ..Sketch::default() },
+            CommitPage::Prepared(map, identity) => {
+                let map = map.records().fold(0, |map, record| map | 1 << record.number());
+                Sketch { prepared: Some((map, identity.0)), ..Sketch::default() }
+            }
+            CommitPage::Empty | CommitPage::Damaged(_) => Sketch::default(),
+        }
     }
 
     /// A begin.
@@ -160,6 +198,10 @@ impl Sketch {
     /// A lock, to write or only to read.
     pub fn lock(&mut self, transaction: u8, record: u8, to_write: bool) {
         if self.at(transaction).is_none() || !self.is_leaf(transaction) {
+            return;
+        }
+        if self.prepared.is_some_and(|(map, _)| map >> record & 1 == 1) {
+            self.denied = Some((transaction, record));
             return;
         }
         let line = self.line(transaction);
@@ -190,6 +232,9 @@ impl Sketch {
             return;
         }
         let due = self.due(transaction);
+        if due > 0 && self.prepared.is_some() {
+            return;
+        }
         if count < due {
             self.crash();
             self.committed = if count > live.wrote.count_ones() { live.wrote.count_ones() } else { 0 };
@@ -220,9 +265,37 @@ impl Sketch {
         }
     }
 
+    /// A prepare with a count, under an identity.
+    pub fn prepare(&mut self, transaction: u8, count: u32, identity: u8) {
+        let Some(live) = self.at(transaction).filter(|_| self.tops(false).contains(&transaction)) else { return };
+        let due = self.due_to_prepare(transaction);
+        if due > 0 && self.prepared.is_some() {
+            return;
+        }
+        if count < due {
+            self.crash();
+            return;
+        }
+        self.abort(transaction, false);
+        self.prepared = (due > 0).then_some((live.wrote, identity)).or(self.prepared);
+    }
+
+    /// A decision with a count, on an identity.
+    pub fn decide(&mut self, commit: bool, count: u32, identity: u8) {
+        let due = self.due_to_decide(commit, identity);
+        let Some((map, _)) = self.prepared.filter(|_| due > 0) else { return };
+        if count > 0 {
+            self.prepared = None;
+        }
+        if count < due {
+            self.crash();
+            self.committed = if count > 0 { map.count_ones() } else { 0 };
+        }
+    }
+
     /// A crash.
     pub fn crash(&mut self) {
-        *self = Sketch::new(self.committed);
+        *self = Sketch { committed: self.committed, prepared: self.prepared, ..Sketch::default() };
     }
 
     /// A recover with a count.

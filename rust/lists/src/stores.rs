@@ -1,4 +1,4 @@
-//! Start stores: fresh, used, with a commit under way, and damaged in every way.
+//! Start stores: fresh, used, with a commit under way, with a transaction prepared, and damaged in every way.
 
 use crate::Rng;
 use nekahuiro::limits::{PAGE_BYTES, RECORDS, STORE_BYTES};
@@ -27,8 +27,16 @@ pub fn committed(rng: &mut Rng, map: u16) -> Bytes {
     store
 }
 
+/// Random records with a transaction prepared that changed the records in `map`.
+pub fn prepared(rng: &mut Rng, map: u16, identity: u8) -> Bytes {
+    let mut store = noise(rng);
+    set_head(&mut store, 0x13, map, (map.count_ones() as u8) << 3);
+    store[4] = identity;
+    store
+}
+
 /// The ways in which page 0 can be damaged.
-pub const DAMAGES: usize = 9;
+pub const DAMAGES: usize = 13;
 
 /// Random records under a page 0 that is damaged in this way.
 pub fn damaged(rng: &mut Rng, way: usize) -> Bytes {
@@ -37,13 +45,32 @@ pub fn damaged(rng: &mut Rng, way: usize) -> Bytes {
     let mut store = if rng.percent(50) { used(rng) } else { committed(rng, map) };
     match way {
         0 => store[0] = (store[0] & 15) | pick_other(rng, 1, 16) << 4,
-        1 => store[0] = 0x10 | rng.one_of([1, 2, 3, 4, 6, 7, 8, 15]),
+        1 => store[0] = 0x10 | rng.one_of([1, 2, 4, 6, 7, 8, 15]),
         2 => set_head(&mut store, 0x15, 0, 0),
         3 => set_head(&mut store, 0x15, map, pick_other(rng, map.count_ones() as u8, 32) << 3),
         4 => store[3] |= 1 + rng.below(7) as u8,
         5 => store[4 + rng.below(PAGE_BYTES - 4)] = 1 << rng.below(8),
         6 => set_head(&mut store, 0x10, map, ones),
         7 => set_head(&mut store, 0x10, 0, (1 + rng.below(31) as u8) << 3),
+        8 => {
+            set_head(&mut store, 0x13, 0, 0);
+            store[4] = any_identity(rng);
+        }
+        9 => {
+            set_head(&mut store, 0x13, map, pick_other(rng, map.count_ones() as u8, 32) << 3);
+            store[4] = any_identity(rng);
+        }
+        10 => {
+            let identity = any_identity(rng);
+            store = prepared(rng, map, identity);
+            match rng.below(3) {
+                0 => store[0] = pick_other(rng, 1, 16) << 4 | 3,
+                1 => store[3] |= 1 + rng.below(7) as u8,
+                _ => store[5 + rng.below(PAGE_BYTES - 5)] = 1 << rng.below(8),
+            }
+        }
+        // A fifth byte under a page that isn't prepared.
+        11 => store[4] = 1 + rng.below(255) as u8,
         _ => {
             for byte in &mut store[..PAGE_BYTES] {
                 *byte = rng.byte();
@@ -56,17 +83,40 @@ pub fn damaged(rng: &mut Rng, way: usize) -> Bytes {
 /// Any of the above.
 pub fn any(rng: &mut Rng) -> Bytes {
     match rng.below(10) {
-        0..=4 => fresh(),
-        5..=6 => used(rng),
-        7..=8 => {
-            let map = rng.one_of([0x8000, 0x0001, 0x9000, 0x1000, 0xFFFF, 0x5555]);
-            let map = if rng.percent(50) { map } else { 1 + rng.below(0xFFFF) as u16 };
+        0..=3 => fresh(),
+        4..=5 => used(rng),
+        6..=7 => {
+            let map = any_map(rng);
             committed(rng, map)
+        }
+        8 => {
+            let (map, identity) = (any_map(rng), any_identity(rng));
+            prepared(rng, map, identity)
         }
         _ => {
             let way = rng.below(DAMAGES);
             damaged(rng, way)
         }
+    }
+}
+
+/// The map of a page that names records, often of few.
+fn any_map(rng: &mut Rng) -> u16 {
+    let map = rng.one_of([0x8000, 0x0001, 0x9000, 0x1000, 0xFFFF, 0x5555]);
+    if rng.percent(50) {
+        map
+    } else {
+        1 + rng.below(0xFFFF) as u16
+    }
+}
+
+/// An identity, often the least, the greatest or one that comes again.
+pub fn any_identity(rng: &mut Rng) -> u8 {
+    let usual = rng.one_of([0, 255, 7]);
+    if rng.percent(80) {
+        usual
+    } else {
+        rng.byte()
     }
 }
 

@@ -13,10 +13,10 @@ use std::fmt;
 /// ```
 #[derive(Clone, Copy, Debug, PartialEq, Eq)]
 pub struct Answer {
-    /// 0 done, 1 to 10 and 14 refused, 11 cut by a crash.
+    /// 0 done, 1 to 10, 13, 14 and 27 refused, 11 cut by a crash.
     pub number: u8,
-    /// The new transaction's number for begin, the byte for read, the page writes made for commit
-    /// and recover; else 0.
+    /// The new transaction's number for begin, the byte for read, the page writes made for commit,
+    /// recover, prepare and decide, 1 for a query of what is prepared; else 0.
     pub value: u8,
 }
 
@@ -50,7 +50,9 @@ impl Answer {
     pub fn refusal(self) -> Option<String> {
         Some(match self.number {
             DONE | CUT => return None,
-            1 => "bad event: no such kind, mode or report, or a field that it doesn't use isn't 0".to_string(),
+            1 => {
+                "bad event: no such kind, mode, report or decision, or a field that it doesn't use isn't 0".to_string()
+            }
             2 => "the store is down: recover first".to_string(),
             3 => "the store is up already".to_string(),
             4 => "page 0 is damaged".to_string(),
@@ -60,7 +62,12 @@ impl Answer {
             8 => "the lock can't be granted now".to_string(),
             9 => "the transaction doesn't hold the lock, or only to read and would write".to_string(),
             10 => "a child is still live".to_string(),
+            13 => {
+                "another transaction is prepared: until its decision none that changed a record can commit or prepare"
+                    .to_string()
+            }
             14 => "a child is still live: its parent can't lock, read or write until it ends".to_string(),
+            27 => "a child can't prepare: only a top transaction can".to_string(),
             number => format!("unknown number {number}"),
         })
     }
@@ -101,6 +108,8 @@ pub enum Refusal {
     Work,
     /// 25: the state isn't sound, or its bytes encode no state.
     State,
+    /// 27: the depot doesn't take this message in its state.
+    Message,
     /// A number that this edition doesn't know.
     Other(u8),
 }
@@ -116,6 +125,7 @@ impl Refusal {
             23 => Refusal::Record,
             24 => Refusal::Work,
             25 => Refusal::State,
+            27 => Refusal::Message,
             other => Refusal::Other(other),
         }
     }
@@ -130,6 +140,7 @@ impl Refusal {
             Refusal::Record => 23,
             Refusal::Work => 24,
             Refusal::State => 25,
+            Refusal::Message => 27,
             Refusal::Other(number) => number,
         }
     }
@@ -146,6 +157,7 @@ impl fmt::Display for Refusal {
             Refusal::Record => write!(f, "records are numbered from 0 to {}", RECORDS - 1),
             Refusal::Work => write!(f, "the working buffer has exactly {WORK_BYTES} bytes"),
             Refusal::State => write!(f, "the state isn't one that the last portion left with this store"),
+            Refusal::Message => write!(f, "the depot doesn't take this message in its state"),
             Refusal::Other(_) => write!(f, "an unknown refusal"),
         }
     }

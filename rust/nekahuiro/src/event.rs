@@ -1,7 +1,7 @@
 //! Events and their words: six fields in 32 bits, most significant first.
 
 use crate::limits::EVENT_BYTES;
-use crate::{Record, Transaction};
+use crate::{Identity, Record, Transaction};
 
 /// A field of the event word: how far from the right it stands, and how wide it is.
 struct Field {
@@ -31,17 +31,19 @@ impl Field {
 /// A number too large for its field keeps its low bits only.
 #[derive(Clone, Copy, Debug, Default, PartialEq, Eq)]
 pub struct Fields {
-    /// 1 begin, 2 lock, 3 write, 4 read, 5 commit, 6 abort, 7 crash, 8 recover; 4 bits.
+    /// 1 begin, 2 lock, 3 write, 4 read, 5 commit, 6 abort, 7 crash, 8 recover, 9 prepare, 10 decide,
+    /// 11 query; 4 bits.
     pub kind: u8,
     /// The transaction named; 5 bits.
     pub transaction: u8,
     /// The record named; 4 bits.
     pub record: u8,
-    /// The place of a byte in its record; 5 bits.
+    /// The place of a byte in its record; or 1 in a decide to commit, 0 in one to abort; 5 bits.
     pub offset: u8,
     /// The page writes that happen before the power goes; 6 bits.
     pub count: u8,
-    /// The byte to write; or the mode of a lock: 0 write, 1 read; or 1 in an abort with a report; 8 bits.
+    /// The byte to write; or the mode of a lock: 0 write, 1 read; or 1 in an abort with a report; or an
+    /// identity; 8 bits.
     pub value: u8,
 }
 
@@ -144,6 +146,29 @@ pub enum Event {
         /// After how many page writes the power goes, 0 to 63.
         count: u8,
     },
+    /// Prepare: the top transaction ends, and its changes wait for the decision on an identity.
+    Prepare {
+        /// Who prepares.
+        transaction: Transaction,
+        /// After how many page writes the power goes, 0 to 63.
+        count: u8,
+        /// Under which identity.
+        identity: Identity,
+    },
+    /// Carry out the decision on an identity.
+    Decide {
+        /// To commit, or else to abort.
+        commit: bool,
+        /// After how many page writes the power goes, 0 to 63.
+        count: u8,
+        /// On which identity.
+        identity: Identity,
+    },
+    /// Ask whether a transaction is prepared with an identity.
+    Query {
+        /// With which identity.
+        identity: Identity,
+    },
 }
 
 impl Event {
@@ -173,6 +198,13 @@ impl Event {
             }
             Event::Crash => Fields { kind: 7, ..none },
             Event::Recover { count } => Fields { kind: 8, count, ..none },
+            Event::Prepare { transaction, count, identity } => {
+                Fields { kind: 9, transaction: transaction.number(), count, value: identity.0, ..none }
+            }
+            Event::Decide { commit, count, identity } => {
+                Fields { kind: 10, offset: commit as u8, count, value: identity.0, ..none }
+            }
+            Event::Query { identity } => Fields { kind: 11, value: identity.0, ..none },
         }
     }
 
@@ -195,6 +227,9 @@ impl Event {
             6 => Event::Abort { transaction, report: value == 1 },
             7 => Event::Crash,
             8 => Event::Recover { count },
+            9 => Event::Prepare { transaction, count, identity: Identity(value) },
+            10 => Event::Decide { commit: offset == 1, count, identity: Identity(value) },
+            11 => Event::Query { identity: Identity(value) },
             _ => return None,
         };
         // A word with a stray bit or another value isn't the word of the event that its fields tell.

@@ -37,12 +37,37 @@
 //! # Ok::<(), Box<dyn std::error::Error>>(())
 //! ```
 //!
+//! Two ends commit together: the one with the store, the gateway, prepares a transaction and waits; the
+//! other, a [`Depot`], asks it, decides once, and tells its decision as often as it is asked.
+//!
+//! ```
+//! use nekahuiro::{vote, Depot, Event, Message, Order, Record, Store};
+//!
+//! let mut depot = Depot::new();
+//! assert_eq!(depot.receive(Message::Start)?, Order::Prepare);
+//!
+//! let list = "recover 63, begin none, lock 0 3, write 0 3 2 A5, prepare 0 63 7";
+//! let events: Vec<Event> = list.split(',').map(str::parse).collect::<Result<_, _>>()?;
+//! let mut store = Store::fresh();
+//! let answers = store.play(&events)?;
+//! let record = Record::new(3).ok_or("no such record")?;
+//! assert_eq!(store.settled(record)[2], 0); // it waits, also through power cuts
+//!
+//! let yes = vote(&events[4], answers[4]).ok_or("a prepare is answered by a vote")?;
+//! assert_eq!(yes, Message::Yes);
+//! assert_eq!(depot.receive(yes)?, Order::Commit);
+//! store.play(&["recover 63".parse()?, "decide commit 63 7".parse()?])?;
+//! assert_eq!(store.settled(record)[2], 0xA5);
+//! # Ok::<(), Box<dyn std::error::Error>>(())
+//! ```
+//!
 //! Events that come one by one are played in portions of any length: [`Store::portion`] takes a
 //! [`State`] and a [`Work`] that the caller keeps from one portion to the next.
 
 mod age;
 mod answer;
 mod commit_page;
+mod depot;
 mod event;
 pub mod limits;
 mod numbers;
@@ -56,8 +81,9 @@ mod work;
 pub use age::{Age, Clock, Limit, Verdict};
 pub use answer::{page_writes, Answer, Refusal, CUT, DONE};
 pub use commit_page::{CommitPage, Map, Page};
+pub use depot::{vote, Depot, Message, Order, Stage};
 pub use event::{encode, Event, Fields};
-pub use numbers::{Record, Transaction};
+pub use numbers::{Identity, Record, Transaction};
 pub use state::State;
 pub use store::{Place, Store};
 pub use words::{describe, why_bad, BadWords};

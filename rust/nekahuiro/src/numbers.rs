@@ -1,4 +1,4 @@
-//! Transaction and record numbers: two types, since a 3 of one is no 3 of the other.
+//! Transaction numbers, record numbers and identities: three types, since a 3 of one is no 3 of another.
 
 use crate::limits::{RECORDS, TRANSACTION_NAMES};
 use std::fmt;
@@ -60,6 +60,17 @@ impl Record {
     /// All records, rising.
     pub fn all() -> impl Iterator<Item = Record> {
         (0..RECORDS as u8).map(Record)
+    }
+}
+
+/// The identity of a transaction that two ends commit together, 0 to 255. It is all that messages between
+/// them carry.
+#[derive(Clone, Copy, Debug, PartialEq, Eq, PartialOrd, Ord, Hash)]
+pub struct Identity(pub u8);
+
+impl fmt::Display for Identity {
+    fn fmt(&self, f: &mut fmt::Formatter) -> fmt::Result {
+        self.0.fmt(f)
     }
 }
 

@@ -1,4 +1,4 @@
-//! The four operations over plain byte slices, just as C sees them.
+//! The operations over plain byte slices, and those of the depot over bytes, just as C sees them.
 //!
 //! They take anything: a slice of a wrong length is refused with the number of the refusal.
 //! Slices can't be null and can't overlap, which is all that the C interface asks of its caller.
@@ -40,6 +40,8 @@ mod linked {
             limit: u32,
             age: *mut i64,
         ) -> u8;
+        pub fn nekahuiro_depot(state: *mut u8, message: u8, reply: *mut u8) -> u8;
+        pub fn nekahuiro_vote(kind: u8, number: u8, value: u8) -> u8;
     }
 }
 
@@ -89,4 +91,16 @@ pub fn fresh(store: &mut [u8]) -> u8 {
 pub fn age(store: &[u8], record: u8, clock: u32, limit: u32, age: &mut i64) -> u8 {
     // SAFETY: a live slice with its length, and a live integer, borrowed alone.
     unsafe { linked::nekahuiro_age(store.as_ptr(), store.len(), record, clock, limit, age) }
+}
+
+/// One message to the depot: 0 with its state and the reply set; else 27 with nothing written.
+pub fn depot(state: &mut u8, message: u8, reply: &mut u8) -> u8 {
+    // SAFETY: two live bytes, each borrowed alone.
+    unsafe { linked::nekahuiro_depot(state, message, reply) }
+}
+
+/// The gateway's vote after an event of this kind with this answer: 1 yes, 2 no, 0 none.
+pub fn vote(kind: u8, number: u8, value: u8) -> u8 {
+    // SAFETY: it takes and gives plain bytes.
+    unsafe { linked::nekahuiro_vote(kind, number, value) }
 }

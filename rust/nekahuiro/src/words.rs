@@ -1,7 +1,7 @@
-//! Events in words: `write 1 3 2 A5`. Values are two hex digits, all else is decimal.
+//! Events in words: `write 1 3 2 A5`. Values are two hex digits, all else is decimal, identities too.
 
 use crate::limits::{COUNT_LIMIT, EVENT_BYTES, PAGE_BYTES, RECORDS, TRANSACTION_NAMES};
-use crate::{Event, Fields, Record, Transaction};
+use crate::{Event, Fields, Identity, Record, Transaction};
 use std::fmt;
 use std::str::{FromStr, SplitWhitespace};
 
@@ -23,7 +23,7 @@ impl fmt::Display for BadWords {
 impl std::error::Error for BadWords {}
 
 /// How each event is written.
-const FORMS: [(&str, &str); 9] = [
+const FORMS: [(&str, &str); 12] = [
     ("begin", "begin none | begin PARENT"),
     ("lock", "lock TRANSACTION RECORD"),
     ("read-lock", "read-lock TRANSACTION RECORD"),
@@ -33,10 +33,14 @@ const FORMS: [(&str, &str); 9] = [
     ("abort", "abort TRANSACTION | abort TRANSACTION report"),
     ("crash", "crash"),
     ("recover", "recover COUNT"),
+    ("prepare", "prepare TRANSACTION COUNT IDENTITY"),
+    ("decide", "decide commit COUNT IDENTITY | decide abort COUNT IDENTITY"),
+    ("query", "query IDENTITY"),
 ];
 
 /// The names of the kinds of events, from 1.
-const KINDS: [&str; 8] = ["begin", "lock", "write", "read", "commit", "abort", "crash", "recover"];
+const KINDS: [&str; 11] =
+    ["begin", "lock", "write", "read", "commit", "abort", "crash", "recover", "prepare", "decide", "query"];
 
 impl fmt::Display for Event {
     fn fmt(&self, f: &mut fmt::Formatter) -> fmt::Result {
@@ -54,6 +58,11 @@ impl fmt::Display for Event {
             Event::Abort { transaction, report: true } => write!(f, "abort {transaction} report"),
             Event::Crash => write!(f, "crash"),
             Event::Recover { count } => write!(f, "recover {count}"),
+            Event::Prepare { transaction, count, identity } => write!(f, "prepare {transaction} {count} {identity}"),
+            Event::Decide { commit, count, identity } => {
+                write!(f, "decide {} {count} {identity}", if *commit { "commit" } else { "abort" })
+            }
+            Event::Query { identity } => write!(f, "query {identity}"),
         }
     }
 }
@@ -71,10 +80,11 @@ pub fn why_bad(word: [u8; EVENT_BYTES]) -> Option<String> {
     if Event::of(word).is_some() {
         return None;
     }
-    let Fields { kind, value, .. } = Fields::of(word);
+    let Fields { kind, offset, value, .. } = Fields::of(word);
     Some(match KINDS.get(usize::from(kind).wrapping_sub(1)) {
         Some(&"lock") if value > 1 => format!("lock in mode {value}: there are 0 to write and 1 to read"),
         Some(&"abort") if value > 1 => format!("abort with value {value}: there are 0, and 1 with a report"),
+        Some(&"decide") if offset > 1 => format!("decide with offset {offset}: there are 1 to commit and 0 to abort"),
         Some(name) => format!("{name} with a field that it doesn't use and that isn't 0"),
         None => format!("there is no kind {kind}"),
     })
@@ -106,6 +116,11 @@ impl FromStr for Event {
             "commit" => Event::Commit { transaction: words.transaction()?, count: words.count()? },
             "abort" => Event::Abort { transaction: words.transaction()?, report: words.report() },
             "crash" => Event::Crash,
+            "prepare" => {
+                Event::Prepare { transaction: words.transaction()?, count: words.count()?, identity: words.identity()? }
+            }
+            "decide" => Event::Decide { commit: words.decision()?, count: words.count()?, identity: words.identity()? },
+            "query" => Event::Query { identity: words.identity()? },
             _ => Event::Recover { count: words.count()? },
         };
         words.end()?;
@@ -179,6 +194,20 @@ impl Words<'_> {
             self.rest.next();
         }
         said
+    }
+
+    /// Whether it is to commit, or else to abort.
+    fn decision(&mut self) -> Result<bool, BadWords> {
+        let word = self.next("decision")?.to_string();
+        match word.to_ascii_lowercase().as_str() {
+            "commit" => Ok(true),
+            "abort" => Ok(false),
+            _ => self.bad(format!("`{word}` is no decision")),
+        }
+    }
+
+    fn identity(&mut self) -> Result<Identity, BadWords> {
+        self.below("identity", 256, 10).map(Identity)
     }
 
     fn record(&mut self) -> Result<Record, BadWords> {

@@ -19,6 +19,19 @@ pub enum Mode {
     Write,
 }
 
+/// The identity under which a transaction is prepared: the depot knows it by this alone.
+#[derive(Clone, Copy, Debug, PartialEq, Eq)]
+pub struct Identity(pub u8);
+
+/// What the depot decided for a prepared transaction.
+#[derive(Clone, Copy, Debug, PartialEq, Eq)]
+pub enum Decision {
+    /// Its changes are to stand.
+    Commit,
+    /// They are to go.
+    Abort,
+}
+
 /// An event with no stray bits.
 #[derive(Clone, Copy, Debug, PartialEq, Eq)]
 pub enum Event {
@@ -38,10 +51,16 @@ pub enum Event {
     Crash,
     /// Recover, with the number of page writes before the power goes.
     Recover(u8),
+    /// Prepare under an identity, with the number of page writes before the power goes.
+    Prepare(Transaction, u8, Identity),
+    /// Decide what is prepared under an identity, with the number of page writes before the power goes.
+    Decide(Decision, u8, Identity),
+    /// Ask whether a transaction is prepared under an identity.
+    Query(Identity),
 }
 
-/// The event that a word tells, or none if the word is bad: an unknown kind, a stray bit or a value that
-/// the kind doesn't take.
+/// The event that a word tells, or none if the word is bad: an unknown kind, a stray bit or a value or
+/// decision that the kind doesn't take.
 pub fn decode(word: [u8; EVENT_BYTES]) -> Option<Event> {
     let bits = u32::from_be_bytes(word);
     let field = |shift: u32, width: u32| ((bits >> shift) & ((1 << width) - 1)) as u8;
@@ -76,6 +95,16 @@ pub fn decode(word: [u8; EVENT_BYTES]) -> Option<Event> {
         }
         7 => (Event::Crash, bits << 4 == 0),
         8 => (Event::Recover(count), named == 0 && no_record && no_offset && no_value),
+        9 => (Event::Prepare(transaction, count, Identity(value)), no_record && no_offset),
+        10 => {
+            let decision = match offset {
+                0 => Decision::Abort,
+                1 => Decision::Commit,
+                _ => return None,
+            };
+            (Event::Decide(decision, count, Identity(value)), named == 0 && no_record)
+        }
+        11 => (Event::Query(Identity(value)), named == 0 && no_record && no_offset && no_count),
         _ => return None,
     };
     unused_are_zero.then_some(event)

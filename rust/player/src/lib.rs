@@ -73,9 +73,9 @@ pub fn run(store: &mut [u8], events: &[u8], work: &mut [u8], answers: &mut [u8])
 /// }
 /// ```
 pub fn portion(volatile: &mut Volatile, store: &mut [u8], events: &[u8], work: &mut [u8], answers: &mut [u8]) -> u8 {
-    match open(store, events, work, answers) {
-        Ok(store) if volatile.up && store.commit_page() != store::CommitPage::Empty => BAD_STATE,
-        Ok(store) => play(Player::new(store, volatile), events, answers),
+    match open(store, events, work, answers).map(|store| Player::new(store, volatile)) {
+        Ok(player) if !player.is_sound() => BAD_STATE,
+        Ok(player) => play(player, events, answers),
         Err(number) => number,
     }
 }

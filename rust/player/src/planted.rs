@@ -1,7 +1,7 @@
 //! Known bugs that a test build can plant, to show that the tests find them.
 
-/// A bug to plant: slips, the five shortcuts that the rules warn of, and slips in modes, reports and in what
-/// a live child bars.
+/// A bug to plant: slips, the five shortcuts that the rules warn of, and slips in modes, reports, in what
+/// a live child bars, and in what is prepared and decided.
 #[derive(Clone, Copy, Debug, PartialEq, Eq)]
 pub enum Bug {
     /// A parent with a version of its own keeps it when its child commits one.
@@ -38,11 +38,32 @@ pub enum Bug {
     ChildTriedAfterGrant,
     /// A live child stops an abort too.
     ChildStopsAbort,
+    /// A crash frees the records of the prepared transaction.
+    CrashFreesPrepared,
+    /// A transaction with changes may commit or prepare beside one that is prepared.
+    CommitBesidePrepared,
+    /// A decision for another identity ends the prepared transaction.
+    DecisionForAnother,
+    /// An abort decision writes the home pages.
+    AbortDecisionWritesHome,
+    /// A commit decision leaves page 0 committed.
+    CommitDecisionLeavesPage,
+    /// That a child can't prepare is asked before whether another is prepared.
+    ChildTriedBeforePrepared,
+    /// Recovery takes a prepared transaction for one that failed.
+    RecoverEmptiesPrepared,
+    /// A prepare with no changes is refused beside a prepared transaction.
+    UnchangedBarredToo,
 }
 
 impl Bug {
+    /// Whether it is about what is prepared and decided.
+    pub fn is_of_two_phases(self) -> bool {
+        self as u8 >= Bug::CrashFreesPrepared as u8
+    }
+
     /// All of them.
-    pub const ALL: [Bug; 17] = [
+    pub const ALL: [Bug; 25] = [
         Bug::ParentKeepsItsVersion,
         Bug::GrantBlindToRetainers,
         Bug::CutOffByOne,
@@ -60,5 +81,13 @@ impl Bug {
         Bug::ReportLetsParentHold,
         Bug::ChildTriedAfterGrant,
         Bug::ChildStopsAbort,
+        Bug::CrashFreesPrepared,
+        Bug::CommitBesidePrepared,
+        Bug::DecisionForAnother,
+        Bug::AbortDecisionWritesHome,
+        Bug::CommitDecisionLeavesPage,
+        Bug::ChildTriedBeforePrepared,
+        Bug::RecoverEmptiesPrepared,
+        Bug::UnchangedBarredToo,
     ];
 }

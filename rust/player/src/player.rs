@@ -1,9 +1,9 @@
 //! One event at a time: the refusals in the order of the table, then the effect.
 
-use crate::event::{decode, Event, Mode, Record, Transaction};
+use crate::event::{decode, Decision, Event, Identity, Mode, Record, Transaction};
 use crate::limits::EVENT_BYTES;
 use crate::planted::Bug;
-use crate::store::{committed_page, empty_page, CommitPage, Page, Place, Store};
+use crate::store::{committed_page, empty_page, prepared_page, CommitPage, Page, Place, Store};
 use crate::volatile::Volatile;
 
 /// An answer: its number, then its value.
@@ -26,7 +26,9 @@ enum Refusal {
     NotGrantable = 8,
     NotHeld = 9,
     LiveChild = 10,
+    OtherPrepared = 13,
     ChildAtWork = 14,
+    ChildPrepares = 27,
 }
 
 type Outcome = Result<Answer, Refusal>;
@@ -35,6 +37,8 @@ type Outcome = Result<Answer, Refusal>;
 pub struct Player<'s> {
     store: Store<'s>,
     volatile: &'s mut Volatile,
+    /// What page 0 says.
+    page: CommitPage,
     #[cfg(feature = "planted")]
     bug: Option<Bug>,
 }
@@ -43,11 +47,17 @@ impl<'s> Player<'s> {
     /// A run on a store, from what the volatile remembers.
     pub fn new(store: Store<'s>, volatile: &'s mut Volatile) -> Self {
         Player {
+            page: store.commit_page(),
             store,
             volatile,
             #[cfg(feature = "planted")]
             bug: None,
         }
+    }
+
+    /// Whether the run can go on from what the volatile remembers.
+    pub fn is_sound(&self) -> bool {
+        self.volatile.goes_with(&self.page)
     }
 
     /// Plants a bug.
@@ -82,6 +92,9 @@ impl<'s> Player<'s> {
             Event::Read(transaction, record, offset) => self.read(transaction, record, offset),
             Event::Commit(transaction, count) => self.commit(transaction, count),
             Event::Abort(transaction, report) => self.abort(transaction, report),
+            Event::Prepare(transaction, count, identity) => self.prepare(transaction, count, identity),
+            Event::Decide(decision, count, identity) => Ok(self.decide(decision, count, identity)),
+            Event::Query(identity) => Ok(Answer(DONE, u8::from(self.waits(identity)))),
         }
     }
 
@@ -101,6 +114,10 @@ impl<'s> Player<'s> {
         let child_is_tried_late = self.planted(Bug::ChildTriedAfterGrant);
         if !child_is_tried_late {
             self.childless(transaction)?;
+        }
+        // Nobody gets what the prepared transaction changed.
+        if matches!(&self.page, CommitPage::Prepared(changed, _) if changed.contains(&record)) {
+            return Err(Refusal::NotGrantable);
         }
         // Asking for what is held, or for less, changes nothing.
         if self.volatile.locks.held(transaction, record) >= Some(mode) {
@@ -171,8 +188,9 @@ impl<'s> Player<'s> {
 
     fn commit(&mut self, transaction: Transaction, count: u8) -> Outcome {
         self.live(transaction)?;
-        if self.volatile.tree.has_child(transaction) {
-            return Err(Refusal::LiveChild);
+        self.has_no_child(transaction)?;
+        if self.is_top(transaction) {
+            self.none_other_prepared(transaction)?;
         }
         let Some(ended) = self.volatile.tree.remove(transaction) else { return Err(Refusal::NotLive) };
         let Some(parent) = ended.parent else {
@@ -194,6 +212,62 @@ impl<'s> Player<'s> {
             }
         }
         Ok(Answer(DONE, 0))
+    }
+
+    /// Ends a top transaction whose changes then wait for the decision; one without changes just commits.
+    fn prepare(&mut self, transaction: Transaction, count: u8, identity: Identity) -> Outcome {
+        self.live(transaction)?;
+        self.has_no_child(transaction)?;
+        let child_is_tried_early = self.planted(Bug::ChildTriedBeforePrepared);
+        if child_is_tried_early && !self.is_top(transaction) {
+            return Err(Refusal::ChildPrepares);
+        }
+        self.none_other_prepared(transaction)?;
+        if !self.is_top(transaction) {
+            return Err(Refusal::ChildPrepares);
+        }
+        let Some(ended) = self.volatile.tree.remove(transaction) else { return Err(Refusal::NotLive) };
+        self.volatile.locks.discard(&[transaction]);
+        let mut script: Vec<(Place, Page)> =
+            ended.versions.iter().map(|(record, page)| (Place::Intention(*record), *page)).collect();
+        if !ended.versions.is_empty() {
+            let changed: Vec<Record> = ended.versions.keys().copied().collect();
+            script.push((Place::Commit, prepared_page(&changed, identity)));
+        }
+        Ok(self.write_pages(&script, count))
+    }
+
+    /// Carries out the decision on what is prepared; a decision for another does nothing.
+    fn decide(&mut self, decision: Decision, count: u8, identity: Identity) -> Answer {
+        if !self.waits(identity) && !self.planted(Bug::DecisionForAnother) {
+            return Answer(DONE, 0);
+        }
+        let CommitPage::Prepared(changed, _) = self.store.commit_page() else { return Answer(DONE, 0) };
+        let mut home = self.copies_home(&changed);
+        let committed = (Place::Commit, committed_page(&changed));
+        let emptied = (Place::Commit, empty_page());
+        let script = match decision {
+            Decision::Commit => {
+                home.insert(0, committed);
+                home.push(if self.planted(Bug::CommitDecisionLeavesPage) { committed } else { emptied });
+                home
+            }
+            Decision::Abort if self.planted(Bug::AbortDecisionWritesHome) => {
+                home.push(emptied);
+                home
+            }
+            Decision::Abort => vec![emptied],
+        };
+        self.write_pages(&script, count)
+    }
+
+    fn waits(&self, identity: Identity) -> bool {
+        matches!(self.page, CommitPage::Prepared(_, prepared) if prepared == identity)
+    }
+
+    /// The intention pages of these records, to be written home.
+    fn copies_home(&self, named: &[Record]) -> Vec<(Place, Page)> {
+        named.iter().map(|record| (Place::Home(*record), self.store.page(Place::Intention(*record)))).collect()
     }
 
     /// The page writes of a top commit: intentions, commit page, home pages, empty page.
@@ -225,6 +299,9 @@ impl<'s> Player<'s> {
         let made = due.min(count as usize + slip);
         for (place, page) in &script[..made] {
             self.store.write(*place, page);
+        }
+        if script[..made].iter().any(|(place, _)| *place == Place::Commit) {
+            self.page = self.store.commit_page();
         }
         if cut {
             self.crash();
@@ -279,7 +356,13 @@ impl<'s> Player<'s> {
         }
     }
 
+    /// What is prepared outlasts it.
     fn crash(&mut self) -> Answer {
+        if self.planted(Bug::CrashFreesPrepared) {
+            if let CommitPage::Prepared(changed, _) = &mut self.page {
+                changed.clear();
+            }
+        }
         self.volatile.tree.clear();
         self.volatile.locks.clear();
         self.volatile.up = false;
@@ -290,12 +373,14 @@ impl<'s> Player<'s> {
         if self.volatile.up {
             return Err(Refusal::Up);
         }
-        let script = match self.store.commit_page() {
+        let script = match &self.page {
             CommitPage::Damaged => return Err(Refusal::Damaged),
-            CommitPage::Empty => Vec::new(),
+            CommitPage::Prepared(..) if self.planted(Bug::RecoverEmptiesPrepared) => {
+                vec![(Place::Commit, empty_page())]
+            }
+            CommitPage::Empty | CommitPage::Prepared(..) => Vec::new(),
             CommitPage::Committed(named) => {
-                let home = |record: &Record| (Place::Home(*record), self.store.page(Place::Intention(*record)));
-                let mut script: Vec<(Place, Page)> = named.iter().map(home).collect();
+                let mut script = self.copies_home(named);
                 script.push((Place::Commit, empty_page()));
                 script
             }
@@ -306,6 +391,24 @@ impl<'s> Player<'s> {
 
     fn live(&self, transaction: Transaction) -> Result<(), Refusal> {
         self.volatile.tree.is_live(transaction).then_some(()).ok_or(Refusal::NotLive)
+    }
+
+    /// Who has a live child can't end but by an abort.
+    fn has_no_child(&self, transaction: Transaction) -> Result<(), Refusal> {
+        (!self.volatile.tree.has_child(transaction)).then_some(()).ok_or(Refusal::LiveChild)
+    }
+
+    fn is_top(&self, transaction: Transaction) -> bool {
+        self.volatile.tree.get(transaction).is_some_and(|node| node.parent.is_none())
+    }
+
+    /// Page 0 has room for one: while another is prepared, who has changed a record can't commit or prepare.
+    fn none_other_prepared(&self, transaction: Transaction) -> Result<(), Refusal> {
+        let Some(node) = self.volatile.tree.get(transaction) else { return Ok(()) };
+        let changes = !node.versions.is_empty() || self.planted(Bug::UnchangedBarredToo);
+        let waits = matches!(self.page, CommitPage::Prepared(..));
+        let barred = changes && waits && !self.planted(Bug::CommitBesidePrepared);
+        (!barred).then_some(()).ok_or(Refusal::OtherPrepared)
     }
 
     /// Who has a live child leaves the records to it.

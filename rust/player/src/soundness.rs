@@ -4,7 +4,7 @@
 
 use crate::event::{Mode, Record, Transaction};
 use crate::limits::{DEPTH_LIMIT, TRANSACTIONS};
-use crate::store::Page;
+use crate::store::{CommitPage, Page};
 use std::collections::BTreeMap;
 
 /// What is said of a live transaction.
@@ -58,13 +58,15 @@ pub enum Fault {
     Version,
     /// A transaction while down.
     Down,
-    /// The commit page isn't empty while up.
+    /// The commit page is neither empty nor prepared while up.
     Page,
+    /// A lock, held or retained, of a record that the prepared transaction changed.
+    Prepared,
 }
 
 impl Facts {
     /// The first thing that makes the state unsound, if anything does.
-    pub fn fault(&self, page_is_empty: bool) -> Option<Fault> {
+    pub fn fault(&self, page: &CommitPage) -> Option<Fault> {
         let checks = [
             (Fault::Number, self.live.keys().all(|t| usize::from(t.0) < TRANSACTIONS)),
             (Fault::Parent, self.parents().all(|(_, parent)| parent.is_none_or(|p| self.live.contains_key(&p)))),
@@ -75,7 +77,7 @@ impl Facts {
         ];
         // Past these the parents form a tree, so that lines end.
         let tree = checks.into_iter().find(|(_, holds)| !holds).map(|(fault, _)| fault);
-        tree.or_else(|| self.fault_of_locks()).or_else(|| self.fault_of_phase(page_is_empty))
+        tree.or_else(|| self.fault_of_locks()).or_else(|| self.fault_of_phase(page))
     }
 
     fn fault_of_locks(&self) -> Option<Fault> {
@@ -104,11 +106,13 @@ impl Facts {
         checks.into_iter().find(|(_, holds)| !holds).map(|(fault, _)| fault)
     }
 
-    fn fault_of_phase(&self, page_is_empty: bool) -> Option<Fault> {
-        match self.up {
-            false if !self.live.is_empty() => Some(Fault::Down),
-            true if !page_is_empty => Some(Fault::Page),
-            _ => None,
+    fn fault_of_phase(&self, page: &CommitPage) -> Option<Fault> {
+        let mut locked = self.holders.keys().chain(self.retainers.keys()).map(|(record, _)| record);
+        match page {
+            _ if !self.up => (!self.live.is_empty()).then_some(Fault::Down),
+            CommitPage::Empty => None,
+            CommitPage::Prepared(changed, _) => locked.any(|r| changed.contains(r)).then_some(Fault::Prepared),
+            CommitPage::Committed(_) | CommitPage::Damaged => Some(Fault::Page),
         }
     }
 

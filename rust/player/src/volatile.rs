@@ -4,6 +4,7 @@ use crate::event::Record;
 use crate::limits::RECORDS;
 use crate::locks::{Locks, Share};
 use crate::soundness::{Begun, Facts};
+use crate::store::CommitPage;
 use crate::tree::{Node, Tree};
 
 /// What the player remembers; at the start it is down and nothing is live.
@@ -32,9 +33,20 @@ impl Volatile {
         facts
     }
 
+    /// Whether it can go on over a store with this page 0: while up nothing is committed and not yet
+    /// copied home, and nobody has to do with a lock of what a prepared transaction changed.
+    pub(crate) fn goes_with(&self, page: &CommitPage) -> bool {
+        match page {
+            _ if !self.up => true,
+            CommitPage::Empty => true,
+            CommitPage::Prepared(changed, _) => changed.iter().all(|record| self.locks.shares(*record).is_empty()),
+            CommitPage::Committed(_) | CommitPage::Damaged => false,
+        }
+    }
+
     /// A volatile that remembers these facts, if they are sound over a store with this page 0.
-    pub fn of(facts: &Facts, page_is_empty: bool) -> Option<Volatile> {
-        if facts.fault(page_is_empty).is_some() {
+    pub fn of(facts: &Facts, page: &CommitPage) -> Option<Volatile> {
+        if facts.fault(page).is_some() {
             return None;
         }
         let mut volatile = Volatile { up: facts.up, ..Volatile::default() };

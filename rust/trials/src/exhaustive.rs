@@ -43,10 +43,24 @@ pub const REPORTED: &str = "begin 0, begin 1, lock 1 0, read-lock 1 0, lock 2 0,
     write 2 0 0 22, commit 2 63, abort 1, abort 1 report, abort 2 report, lock 0 0, read 0 0 0, write 0 0 31 33, \
     begin none, read-lock 1 0, lock 1 15";
 
+/// One transaction over one record, prepared and decided with every cut, for its own identity and another.
+pub const PREPARING: &str = "begin none, lock 0 0, write 0 0 0 11, prepare 0 63 7, prepare 0 0 7, prepare 0 1 7, \
+    decide commit 63 7, decide commit 0 7, decide commit 1 7, decide commit 2 7, decide abort 63 7, decide abort 0 7, \
+    decide commit 63 0, query 7, query 0, commit 0 63, crash, recover 63, recover 1";
+
+/// A top transaction, 0, and its child, 1, beside one that is prepared with record 0 and identity 255.
+pub const BESIDE: &str = "lock 1 0, lock 1 15, read-lock 0 0, write 1 15 0 11, commit 1 63, commit 0 63, prepare 0 63 0, \
+    prepare 1 63 0, abort 1, decide commit 63 255, decide abort 63 255, decide abort 63 0, query 255, crash, recover 0, \
+    begin none, begin 0";
+
+/// What BESIDE begins with.
+pub const BESIDE_PREFIX: &str = "recover 63, begin none, begin 0";
+
 /// Events that are bad or name what there isn't.
 pub const STRAY: &str =
-    "00000000, 90000000, recover 63, begin none, begin 0, begin 24, 1F800001, lock 0 0, lock 31 0, \
-    20004000, 20000002, 30000100, write 0 0 0 11, 40000001, commit 0 63, 50080000, 60000002, 70000001, 80800000, crash";
+    "00000000, C0000000, recover 63, begin none, begin 0, begin 24, 1F800001, lock 0 0, lock 31 0, \
+    20004000, 20000002, 30000100, write 0 0 0 11, 40000001, commit 0 63, 50080000, 60000002, 70000001, 80800000, crash, \
+    90004000, A0008000";
 
 /// How the lists are chosen.
 #[derive(Clone, Copy, PartialEq, Eq)]

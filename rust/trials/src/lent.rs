@@ -2,9 +2,10 @@
 
 use nekahuiro::limits::{PAGE_BYTES, RECORDS, TRANSACTIONS};
 use nekahuiro::{Record, State, Transaction, Work};
-use nekahuiro_lists::stores::{self, Bytes};
+use nekahuiro_lists::stores::Bytes;
 use nekahuiro_player::event::{Mode, Record as PlayersRecord, Transaction as PlayersTransaction};
 use nekahuiro_player::soundness::{Begun, Facts, Fault};
+use nekahuiro_player::store::commit_page;
 
 /// Why a struct may not be lent.
 #[derive(Clone, Copy, Debug, PartialEq, Eq, PartialOrd, Ord)]
@@ -87,16 +88,11 @@ fn bit(transaction: PlayersTransaction) -> u32 {
 /// The facts of a struct that may be lent with this store, or why it may not.
 pub fn judge(state: &State, work: &Work, store: &Bytes) -> Result<Facts, Unsound> {
     let facts = facts(state, work);
-    match facts.fault(is_empty(store)) {
+    match facts.fault(&commit_page(store)) {
         Some(fault) => Err(Unsound::Facts(fault)),
         None if encode(&facts) != *state => Err(Unsound::Struct),
         None => Ok(facts),
     }
-}
-
-/// Whether the commit page is empty.
-pub fn is_empty(store: &Bytes) -> bool {
-    store[..PAGE_BYTES] == stores::fresh()[..PAGE_BYTES]
 }
 
 /// Which bytes of the working buffer hold versions.

@@ -2,6 +2,8 @@
 
 pub mod case;
 pub mod check;
+pub mod ends;
+pub mod every_order;
 pub mod exhaustive;
 pub mod lent;
 pub mod listed;

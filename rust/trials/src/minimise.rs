@@ -116,7 +116,7 @@ fn plainer_fields(mut case: Case, fails: &impl Fn(&Case) -> bool) -> Case {
 
 /// Smaller is plainer; a count is plainest where nothing is cut.
 fn weight(f: Fields) -> u32 {
-    let count = if f.kind == 5 || f.kind == 8 { COUNT_LIMIT - f.count } else { f.count };
+    let count = if matches!(f.kind, 5 | 8..=10) { COUNT_LIMIT - f.count } else { f.count };
     u32::from(f.value) + u32::from(f.offset) + u32::from(f.record) + u32::from(count)
 }
 

@@ -6,6 +6,7 @@ use nekahuiro::limits::{ANSWER_BYTES, EVENT_BYTES};
 use nekahuiro::{raw, State, Work};
 use nekahuiro_lists::stores::Bytes;
 use nekahuiro_lists::Rng;
+use nekahuiro_player::store::commit_page;
 use nekahuiro_player::Volatile;
 use std::sync::atomic::{AtomicU64, Ordering};
 use std::sync::Mutex;
@@ -32,7 +33,7 @@ impl Board {
 
     /// A board on which a state was put; none if it isn't sound.
     pub fn with(state: State, store: Bytes, work: Work) -> Option<Board> {
-        let volatile = Volatile::of(&lent::facts(&state, &work), lent::is_empty(&store))?;
+        let volatile = Volatile::of(&lent::facts(&state, &work), &commit_page(&store))?;
         Some(Board { state, store, work, volatile, players_store: store })
     }
 

@@ -28,12 +28,8 @@ pub fn case(seed: u64, number: u64) -> Case {
 fn random_list(rng: &mut Rng, case: &Case) -> Vec<u8> {
     let mut page: Page = [0; nekahuiro::limits::PAGE_BYTES];
     page.copy_from_slice(&case.store[..nekahuiro::limits::PAGE_BYTES]);
-    let named = match CommitPage::of(&page) {
-        CommitPage::Committed(map) => map.records().count(),
-        _ => 0,
-    };
     let taste = Taste::any(rng);
-    list(rng, &taste, named as u32)
+    list(rng, &taste, CommitPage::of(&page))
 }
 
 /// What was played.

@@ -10,6 +10,11 @@ pub fn lists() -> u64 {
     number("NEKAHUIRO_LISTS", 1_000_000)
 }
 
+/// How often identities are given where two ends commit together: NEKAHUIRO_ROUNDS.
+pub fn rounds() -> u64 {
+    number("NEKAHUIRO_ROUNDS", 100_000)
+}
+
 /// How long the exhaustive lists are: NEKAHUIRO_LENGTH shortens or lengthens them all.
 pub fn length(usual: usize) -> usize {
     let change = std::env::var("NEKAHUIRO_LENGTH").ok().and_then(|text| text.parse::<isize>().ok());

@@ -78,6 +78,16 @@ fn the_stamp_is_read_through_a_committed_map() {
 }
 
 #[test]
+fn what_is_only_prepared_has_no_say() {
+    for identity in [0, 7, 255] {
+        let mut store = stores::prepared(&mut Rng::new(5), 0x1000, identity);
+        store[32 * 4..][..4].copy_from_slice(&[0, 0, 0, 7]);
+        store[32 * 20..][..4].copy_from_slice(&[0, 0, 0, 1]);
+        assert_eq!(engine(&store, 3, 5, 4), Ok(Age::Live(4)));
+    }
+}
+
+#[test]
 fn the_whole_range_of_ages() {
     let mut store = stores::fresh();
     assert_eq!(engine(&store, 0, u32::MAX, u32::MAX), Ok(Age::Live(4_294_967_295)));

@@ -3,7 +3,8 @@
 use nekahuiro_lists::stores::{self, Bytes};
 use nekahuiro_lists::Rng;
 use nekahuiro_trials::exhaustive::{
-    Choice, Family, CONTENDED, CRASHING, INHERITED, MODES, NESTED, REPORTED, SHARED, SHARED_PREFIX, STRAY,
+    Choice, Family, BESIDE, BESIDE_PREFIX, CONTENDED, CRASHING, INHERITED, MODES, NESTED, PREPARING, REPORTED, SHARED,
+    SHARED_PREFIX, STRAY,
 };
 use nekahuiro_trials::{settings, Program};
 use std::time::Instant;
@@ -11,6 +12,11 @@ use std::time::Instant;
 /// Records 0 and 15 are committed and not yet copied home.
 fn committed() -> Bytes {
     stores::committed(&mut Rng::new(7), 0x8001)
+}
+
+/// The records of a map are changed by a transaction that is prepared.
+fn prepared(map: u16, identity: u8) -> Bytes {
+    stores::prepared(&mut Rng::new(9), map, identity)
 }
 
 fn play(name: &str, store: Bytes, alphabet: &str, prefix: &str, length: usize, choice: Choice) {
@@ -67,4 +73,15 @@ fn locks_to_read_and_to_write() {
 #[test]
 fn aborts_with_a_report() {
     play("reported, accepted", committed(), REPORTED, "recover 63, begin none", 6, Choice::AcceptedButLast);
+}
+
+#[test]
+fn prepares_and_decisions() {
+    play("preparing, fresh", stores::fresh(), PREPARING, "recover 63", 5, Choice::Every);
+    play("preparing, prepared", prepared(0x8001, 7), PREPARING, "", 4, Choice::Every);
+    play("preparing, accepted, fresh", stores::fresh(), PREPARING, "recover 63", 6, Choice::AcceptedButLast);
+    play("preparing, accepted, prepared", prepared(0x8001, 7), PREPARING, "recover 0", 5, Choice::AcceptedButLast);
+    play("beside, prepared", prepared(0x8000, 255), BESIDE, BESIDE_PREFIX, 4, Choice::Every);
+    play("beside, accepted", prepared(0x8000, 255), BESIDE, BESIDE_PREFIX, 6, Choice::AcceptedButLast);
+    play("preparing, damaged", stores::damaged(&mut Rng::new(3), 9), PREPARING, "", 3, Choice::Every);
 }

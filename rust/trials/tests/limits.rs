@@ -1,6 +1,6 @@
 //! The numbers of the rules stand in three places: the C header, the wrapper and the player.
 
-use nekahuiro::{limits, State};
+use nekahuiro::{limits, Answer, Event, Message, Order, Stage, State};
 use nekahuiro_player::limits as player;
 
 fn header() -> String {
@@ -13,7 +13,8 @@ fn defined(name: &str) -> usize {
     let header = header();
     let start = format!("#define {name} ");
     let line = header.lines().find(|line| line.starts_with(&start)).unwrap_or_else(|| panic!("{name} isn't defined"));
-    line[start.len()..].trim().parse().unwrap_or_else(|_| panic!("{name} isn't a number: {line}"))
+    let number = line[start.len()..].split("/*").next().unwrap_or_default();
+    number.trim().parse().unwrap_or_else(|_| panic!("{name} isn't a number: {line}"))
 }
 
 #[test]
@@ -32,6 +33,47 @@ fn header_wrapper_and_player_have_the_same_numbers() {
     ];
     for (name, wrapper, player) in rows {
         assert_eq!((defined(name), player), (wrapper, wrapper), "{name}");
+    }
+}
+
+#[test]
+fn header_and_wrapper_have_the_same_kinds_and_numbers() {
+    let kinds = [
+        ("BEGIN", "begin none"),
+        ("LOCK", "lock 0 0"),
+        ("WRITE", "write 0 0 0 00"),
+        ("READ", "read 0 0 0"),
+        ("COMMIT", "commit 0 0"),
+        ("ABORT", "abort 0"),
+        ("CRASH", "crash"),
+        ("RECOVER", "recover 0"),
+        ("PREPARE", "prepare 0 0 0"),
+        ("DECIDE", "decide abort 0 0"),
+        ("QUERY", "query 0"),
+    ];
+    for (name, words) in kinds {
+        let event: Event = words.parse().expect(words);
+        assert_eq!(defined(&format!("NEKAHUIRO_{name}")), usize::from(event.fields().kind), "{name}");
+    }
+    let decide = |words: &str| usize::from(words.parse::<Event>().expect(words).fields().offset);
+    assert_eq!(defined("NEKAHUIRO_DECIDE_COMMIT"), decide("decide commit 0 0"));
+    assert_eq!(defined("NEKAHUIRO_DECIDE_ABORT"), decide("decide abort 0 0"));
+    for number in ["ONE_PREPARED", "CHILD_AT_WORK", "NOT_TAKEN", "LIVE_CHILD"] {
+        let number = defined(&format!("NEKAHUIRO_{number}")) as u8;
+        let text = Answer { number, value: 0 }.to_string();
+        assert!(text.starts_with(&format!("refused {number}: ")) && !text.contains("unknown"), "{text}");
+    }
+    for stage in Stage::ALL {
+        let name = format!("NEKAHUIRO_{}", stage.to_string().to_uppercase());
+        assert_eq!(defined(&name), stage as usize, "{name}");
+    }
+    for message in Message::ALL {
+        let name = format!("NEKAHUIRO_{}", message.to_string().to_uppercase().replace('-', "_"));
+        assert_eq!(defined(&name), message as usize, "{name}");
+    }
+    for order in Order::ALL {
+        let name = format!("NEKAHUIRO_ORDER_{}", order.to_string().to_uppercase());
+        assert_eq!(defined(&name), order as usize, "{name}");
     }
 }
 

@@ -1,8 +1,11 @@
 //! Copies of the ordinary player with one bug each: the same tests must find every one.
 
 use nekahuiro_lists::stores;
+use nekahuiro_lists::Rng;
 use nekahuiro_player::planted::Bug;
-use nekahuiro_trials::exhaustive::{Choice, Family, CONTENDED, CRASHING, INHERITED, MODES, NESTED, REPORTED};
+use nekahuiro_trials::exhaustive::{
+    Choice, Family, BESIDE, BESIDE_PREFIX, CONTENDED, CRASHING, INHERITED, MODES, NESTED, PREPARING, REPORTED,
+};
 use nekahuiro_trials::{random, settings, Program};
 
 #[test]
@@ -24,9 +27,15 @@ fn exhaustive_lists_find_every_planted_bug() {
 
 /// A failing list of up to this many events after the first two.
 fn shortest(bug: Bug, length: usize) -> Option<String> {
-    let wide: &[&str] = if length <= 6 { &[NESTED, CONTENDED, CRASHING, REPORTED] } else { &[] };
-    wide.iter().chain(&[INHERITED, MODES]).find_map(|alphabet| {
-        let (program, store, prefix) = (Program::Planted(bug), stores::fresh(), "recover 63, begin none");
+    let on_fresh = |alphabet| (alphabet, "recover 63, begin none", stores::fresh());
+    let beside = (BESIDE, BESIDE_PREFIX, stores::prepared(&mut Rng::new(9), 0x8000, 255));
+    let families = match bug.is_of_two_phases() {
+        true => vec![on_fresh(PREPARING), beside],
+        false if length <= 6 => [NESTED, CONTENDED, CRASHING, REPORTED, INHERITED, MODES].map(on_fresh).to_vec(),
+        false => [INHERITED, MODES].map(on_fresh).to_vec(),
+    };
+    families.into_iter().find_map(|(alphabet, prefix, store)| {
+        let program = Program::Planted(bug);
         Family { program, store, alphabet, prefix, length, choice: Choice::AcceptedButLast }.play().err()
     })
 }

@@ -5,8 +5,9 @@ use nekahuiro::{raw, Event, Refusal, State, Store, Work};
 use nekahuiro_history::{
     first_half, second_half, second_list, tell, tell_from, Earlier, End, Run, Transaction as Told,
 };
-use nekahuiro_lists::{stores, timing, worked, Rng};
-use nekahuiro_trials::exhaustive::{NESTED, SHARED, SHARED_PREFIX};
+use nekahuiro_lists::stores::{self, Bytes};
+use nekahuiro_lists::{timing, worked, Rng};
+use nekahuiro_trials::exhaustive::{BESIDE, BESIDE_PREFIX, NESTED, PREPARING, SHARED, SHARED_PREFIX};
 use nekahuiro_trials::portions::{check_cut, rng, share, Board};
 use nekahuiro_trials::{lent, listed, random, settings, Case};
 use std::sync::atomic::{AtomicU64, Ordering};
@@ -73,12 +74,14 @@ fn a_chain_of_portions_is_longer_than_any_list() {
 
 #[test]
 fn short_lists_cut_at_every_place() {
-    cut_at_every_place(NESTED, "recover 63, begin none, begin 0, lock 1 0");
-    cut_at_every_place(SHARED, SHARED_PREFIX);
+    cut_at_every_place(stores::fresh(), NESTED, "recover 63, begin none, begin 0, lock 1 0");
+    cut_at_every_place(stores::fresh(), SHARED, SHARED_PREFIX);
+    cut_at_every_place(stores::fresh(), PREPARING, "recover 63, begin none, lock 0 0, write 0 0 31 44");
+    cut_at_every_place(stores::prepared(&mut Rng::new(9), 0x8000, 255), BESIDE, BESIDE_PREFIX);
 }
 
 /// Every list of three events over an alphabet, after a beginning, cut in two.
-fn cut_at_every_place(alphabet: &str, beginning: &str) {
+fn cut_at_every_place(store: Bytes, alphabet: &str, beginning: &str) {
     let letters = listed::words(alphabet);
     let letters: Vec<&[u8]> = letters.chunks_exact(EVENT_BYTES).collect();
     let length = settings::length(3) as u32;
@@ -90,12 +93,12 @@ fn cut_at_every_place(alphabet: &str, beginning: &str) {
             let letter = number / (letters.len() as u64).pow(place) % letters.len() as u64;
             events.extend(letters[letter as usize]);
         }
-        let mut whole = Store::fresh();
+        let mut whole = Store::of(&store).map_err(|refusal| refusal.to_string())?;
         let due = whole.play_words(&events).map_err(|refusal| refusal.to_string())?;
         let due: Vec<u8> = due.iter().flat_map(|answer| answer.bytes()).collect();
         let mut ends = Vec::new();
         for at in 0..=events.len() / EVENT_BYTES {
-            let mut board = Board::new(stores::fresh(), &mut rng);
+            let mut board = Board::new(store, &mut rng);
             let (early, late) = events.split_at(at * EVENT_BYTES);
             let answers = [board.play(early)?, board.play(late)?].concat();
             if answers != due || board.store != *whole.bytes() {
@@ -138,6 +141,7 @@ fn a_history_can_begin_anywhere() {
         let lives_on = |told: &&Told| match told.end {
             End::Never => true,
             End::Committed { at: end, .. } | End::Aborted(end) | End::Crashed(end) => end >= at,
+            End::Prepared { at: end, .. } => end >= at,
         };
         let mut due: Vec<_> = whole.transactions.iter().filter(lives_on).map(fate).collect();
         let later = |told: &Told| (told.begun.map(|begun| begun + at), told.number, told.survives);

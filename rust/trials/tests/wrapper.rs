@@ -40,6 +40,11 @@ fn junk_text_is_an_error_with_a_reason_and_a_mend() {
         "\0",
         "63",
         "recover",
+        "prepare",
+        "decide",
+        "query",
+        "commit",
+        "256",
     ];
     let mut rng = Rng::new(6);
     for _ in 0..100_000 {
@@ -48,6 +53,27 @@ fn junk_text_is_an_error_with_a_reason_and_a_mend() {
             assert!(!bad.reason.is_empty() && !bad.mend.is_empty());
         }
     }
+}
+
+#[test]
+fn prepare_decide_and_query_in_words() {
+    let rows = [
+        ("prepare 3 2 7", 0x9180_0207),
+        ("decide commit 1 255", 0xA000_41FF),
+        ("Decide ABORT 63 0", 0xA000_3F00),
+        ("query 42", 0xB000_002A),
+    ];
+    for (words, bits) in rows {
+        let event: Event = words.parse().unwrap();
+        assert_eq!(event.word(), u32::to_be_bytes(bits), "{words}");
+        assert_eq!(event.to_string(), words.to_lowercase());
+    }
+    for bad in
+        ["prepare 3 2", "prepare 3 2 256", "prepare 3 64 0", "decide 1 2", "decide maybe 1 2", "query", "query A5"]
+    {
+        assert!(bad.parse::<Event>().is_err(), "{bad}");
+    }
+    assert_eq!(why_bad([0xA0, 0, 0x80, 0]).unwrap(), "decide with offset 2: there are 1 to commit and 0 to abort");
 }
 
 #[test]

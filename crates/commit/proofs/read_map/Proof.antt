@@ -1,10 +1,10 @@
--- `read_map` reads page 0 and takes what `read_commit` says of it.
+-- `read_map` reads page 0 and takes what `read_page` says of it.
 use mathlib.Core.Path.{ap, _∙_}
 use mathlib.Core.List.{List}
 use Prim.Native.Nat.{ℕ}
 use Rattle.rules.specs.Store.{readCommit}
 use Rattle.rules.specs.Editions.{geometry1}
-use Rattle.commitpage.specs.Heard.{heard}
+use Rattle.commitpage.specs.Heard.{understood}
 use borrow.Author.Needs.{needs}
 use Rattle.commit.proofs.read_map.Statement.{statement}
 use Rattle.commit.proofs.read_map.Tie as tie
@@ -12,11 +12,11 @@ use Rattle.commit.proofs.read_map.Tie as tie
 get-page-requires : tie.Need-get-page-requires
 get-page-requires c κs = search needs
 
-read-commit-requires : tie.Need-read-commit-requires
-read-commit-requires c κs = search needs
+read-page-requires : tie.Need-read-page-requires
+read-page-requires c κs = search needs
 
 returns : tie.Need-returns
-returns c = c .read-commit .ensures ∙ ap (λ (p : List ℕ). heard (readCommit geometry1 p)) (c .before .get-page .ensures)
+returns c = c .read-page .ensures ∙ ap understood (c .before .get-page .ensures)
 
 pub read-map-spec : {M : Type 1} → statement M
-read-map-spec = tie.close (tie.spec get-page-requires read-commit-requires returns)
+read-map-spec = tie.close (tie.spec get-page-requires read-page-requires returns)

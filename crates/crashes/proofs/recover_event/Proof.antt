@@ -28,7 +28,7 @@ returns-2 : tie.Need-returns-2
 returns-2 c = λ parent depth line held retained writers work I. recover-refuses-4 _ I (c .before .before .before .before .before .before .before .args .k) (c .before .before .before .before .if1 .left) _ (c .before .before .read-map .ensures) (not-true _ (c .if2 .taken))
 
 recover-pages-requires : tie.Need-recover-pages-requires
-recover-pages-requires c κs = (search needs, map-is _ _ (c .before .before .before .read-map .ensures) (not-false _ (c .before .if2 .left)))
+recover-pages-requires c κs = (search needs, map-is _ _ (c .before .before .before .read-map .ensures))
 
 same-length-2 : tie.Need-same-length-2
 same-length-2 c = search needs

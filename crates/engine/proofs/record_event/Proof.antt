@@ -32,21 +32,21 @@ read-event-requires c κs = let F = c .before .before .before .before .before .b
 
 returns : tie.Need-returns
 unfolding same
-returns c = let a = c .before .before .before .before .before .before .before .args in let pre = c .before .before .before .before .before .before .before .pre in
+returns c = let a = c .before .before .before .before .before .before .before .args in let pre = c .before .before .before .before .before .before .before .pre in λ identity H.
     retold _ _ _ _ _ (means-lock (a .e) (c .before .before .before .match .keys1) ∙ ap₂ (λ (t r : ℕ). some (lock t r (accessOf (a .e .value)))) (sym (pre .0)) (sym (pre .1)) ∙ ap (λ (q : Access). some (lock (transactionOf (a .t)) (recordOf (a .r)) q)) (access-is (a .e .value)))
-    (c .lock-event .ensures _ _ _ _ _ _ (pre .5) (pre .6))
+    (c .lock-event .ensures _ identity _ _ _ _ _ (pre .5) (pre .6) H)
 
 same-length : tie.Need-same-length
 same-length c = search needs
 
 returns-2 : tie.Need-returns-2
-returns-2 c = retold _ _ _ _ _ (means-write (c .before .before .before .before .before .before .before .before .before .before .args .e) (c .before .before .before .before .before .before .match .keys2) ∙ ap₂ (λ (t r : ℕ). some (write t r (c .before .before .before .before .before .before .before .before .before .before .args .e .offset) (c .before .before .before .before .before .before .before .before .before .before .args .e .value))) (sym (c .before .before .before .before .before .before .before .before .before .before .pre .0)) (sym (c .before .before .before .before .before .before .before .before .before .before .pre .1))) (c .before .before .write-event .ensures _ _ _ (c .before .before .before .before .before .before .before .before .before .before .pre .5) (c .before .before .before .before .before .before .before .before .before .before .pre .6))
+returns-2 c = λ identity H. retold _ _ _ _ _ (means-write (c .before .before .before .before .before .before .before .before .before .before .args .e) (c .before .before .before .before .before .before .match .keys2) ∙ ap₂ (λ (t r : ℕ). some (write t r (c .before .before .before .before .before .before .before .before .before .before .args .e .offset) (c .before .before .before .before .before .before .before .before .before .before .args .e .value))) (sym (c .before .before .before .before .before .before .before .before .before .before .pre .0)) (sym (c .before .before .before .before .before .before .before .before .before .before .pre .1))) (c .before .before .write-event .ensures _ _ _ (c .before .before .before .before .before .before .before .before .before .before .pre .5) (c .before .before .before .before .before .before .before .before .before .before .pre .6))
 
 same-length-2 : tie.Need-same-length-2
 same-length-2 c = search needs
 
 returns-3 : tie.Need-returns-3
-returns-3 c = retold _ _ _ _ _ (means-read (c .before .before .before .before .before .before .before .before .args .e) (omega arith) ∙ ap₂ (λ (t r : ℕ). some (read t r (c .before .before .before .before .before .before .before .before .args .e .offset))) (sym (c .before .before .before .before .before .before .before .before .pre .0)) (sym (c .before .before .before .before .before .before .before .before .pre .1))) (c .read-event .ensures _ _ _ (c .before .before .before .before .before .before .before .before .pre .5) (c .before .before .before .before .before .before .before .before .pre .6))
+returns-3 c = λ identity H. retold _ _ _ _ _ (means-read (c .before .before .before .before .before .before .before .before .args .e) (omega arith) ∙ ap₂ (λ (t r : ℕ). some (read t r (c .before .before .before .before .before .before .before .before .args .e .offset))) (sym (c .before .before .before .before .before .before .before .before .pre .0)) (sym (c .before .before .before .before .before .before .before .before .pre .1))) (c .read-event .ensures _ _ _ (c .before .before .before .before .before .before .before .before .pre .5) (c .before .before .before .before .before .before .before .before .pre .6))
 
 pub record-event-spec : {M : Type 1} → statement M
 record-event-spec =

@@ -7,7 +7,7 @@ use native.Mathlib.Omega.{arith}
 use lib.ListN.{length, getD, set}
 use borrow.Author.Needs.{needs}
 use Rattle.arrays.specs.Kin.{Kin}
-use Rattle.events.specs.Whole.{arrays}
+use Rattle.events.specs.Whole.{arrays, Reserves}
 use Rattle.events.proofs.Parents.{parent-named}
 use Rattle.portions.proofs.Playing.{Playing, playing-none, playing-next, playing-all}
 use Rattle.portions.proofs.portion.Statement.{statement}
@@ -16,6 +16,7 @@ use Rattle.portions.proofs.portion.Reads as reads
 use Rattle.portions.proofs.portion.Lts as lts
 use Rattle.portions.proofs.put_answer.Reads as put-answer-reads
 use Rattle.engine.proofs.step.Reads as step-reads
+use Rattle.commit.proofs.read_held.Reads as read-held-reads
 use Rattle.event.proofs.Event.of_word.Reads as of-word-reads
 use Rattle.event.proofs.Event.table.Reads as table-reads
 use Rattle.event.proofs.Event.word_at.Reads as word-at-reads
@@ -23,13 +24,13 @@ use Rattle.transactions.proofs.children_of.Reads as children-of-reads
 use Rattle.transactions.proofs.live_set.Reads as live-set-reads
 
 abbrev Inv-loop : tie.InvT-loop
-Inv-loop e store₀ events work₀ answers₀ up₀ parent₀ depth₀ line₀ held₀ retained₀ writers₀ live₀ children₀ table n k₀ store work answers up parent depth line held retained writers live children k =
+Inv-loop e store₀ events work₀ answers₀ up₀ parent₀ depth₀ line₀ held₀ retained₀ writers₀ live₀ children₀ reserved₀ identity₀ table n k₀ store work answers up parent depth line held retained writers live children reserved identity k =
     (k ≤ n) × (n ≡ length events / 4) × (n ≤ 4096) × (4 * n ≤ length events) × (2 * n ≤ length answers₀)
     × Playing (arrays up₀ parent₀ depth₀ line₀ held₀ retained₀ writers₀ work₀ store₀) events answers₀ n k (arrays up parent depth line held retained writers work store) answers
-    × Kin parent depth live children
+    × Kin parent depth live children × Reserves store reserved identity
 
 abbrev μ-loop : tie.MeasureT-loop
-μ-loop e store₀ events work₀ answers₀ up₀ parent₀ depth₀ line₀ held₀ retained₀ writers₀ live₀ children₀ table n k₀ store work answers up parent depth line held retained writers live children k =
+μ-loop e store₀ events work₀ answers₀ up₀ parent₀ depth₀ line₀ held₀ retained₀ writers₀ live₀ children₀ reserved₀ identity₀ table n k₀ store work answers up parent depth line held retained writers live children reserved identity k =
     n - k
 
 live-set-requires : tie.Need-live-set-requires Inv-loop μ-loop
@@ -38,32 +39,35 @@ live-set-requires c κs = search needs
 children-of-requires : tie.Need-children-of-requires Inv-loop μ-loop
 children-of-requires c κs = (search needs, search needs, parent-named _ (c .before .before .before .before .before .before .before .before .before .before .before .before .before .before .pre .0))
 
+read-held-requires : tie.Need-read-held-requires Inv-loop μ-loop
+read-held-requires c κs = search needs
+
 table-requires : tie.Need-table-requires Inv-loop μ-loop
 table-requires c κs = search needs
 
 loop-holds : tie.Need-loop-holds Inv-loop μ-loop
-loop-holds c = (search needs, refl, omega arith, omega arith, omega arith, playing-none _ _ _ _ (c .before .before .before .before .before .before .before .before .before .before .before .before .before .before .before .before .pre .0), let h = c .before .children-of .ensures in record { lives = c .before .before .before .before .live-set .ensures; under = h .1; named = parent-named _ (c .before .before .before .before .before .before .before .before .before .before .before .before .before .before .before .before .pre .0); long = h .0 })
+loop-holds c = (search needs, refl, omega arith, omega arith, omega arith, playing-none _ _ _ _ (c .before .before .before .before .before .before .before .before .before .before .before .before .before .before .before .before .before .before .pre .0), let h = c .before .before .before .children-of .ensures in record { lives = c .before .before .before .before .before .before .live-set .ensures; under = h .1; named = parent-named _ (c .before .before .before .before .before .before .before .before .before .before .before .before .before .before .before .before .before .before .pre .0); long = h .0 }, sym (c .before .read-held .ensures))
 
 word-at-requires : tie.Need-word-at-requires Inv-loop μ-loop
 word-at-requires c κs = search needs
 
 of-word-requires : tie.Need-of-word-requires Inv-loop μ-loop
-of-word-requires c κs = c .before .before .before .before .before .before .before .before .before .before .before .before .before .before .before .table .ensures
+of-word-requires c κs = c .before .before .before .before .before .before .before .before .before .before .before .before .before .before .before .before .before .table .ensures
 
 step-requires : tie.Need-step-requires Inv-loop μ-loop
-step-requires c κs = (c .of-word .ensures .1, c .before .before .before .before .before .before .before .before .before .before .before .before .before .before .before .loop .inv .5 .intact, c .before .before .before .before .before .before .before .before .before .before .before .before .before .before .before .loop .inv .6)
+step-requires c κs = (c .of-word .ensures .1, c .before .before .before .before .before .before .before .before .before .before .before .before .before .before .before .before .before .loop .inv .5 .intact, c .before .before .before .before .before .before .before .before .before .before .before .before .before .before .before .before .before .loop .inv .6, c .before .before .before .before .before .before .before .before .before .before .before .before .before .before .before .before .before .loop .inv .7)
 
 put-answer-requires : tie.Need-put-answer-requires Inv-loop μ-loop
-put-answer-requires c κs = let l = c .before .before .before .before .before .before .before .before .before .before .before .before .before .before .before .before .before .before .before .before .before .loop in let e = l .inv .5 .long in let q : l .k < _ = c .before .before .before .before .before .before .before .before .before .before .before .before .before .before .before .before .before .before .before .before .loop-test .taken in let b = l .inv .2 in let d = l .inv .4 in (omega arith, omega arith)
+put-answer-requires c κs = let l = c .before .before .before .before .before .before .before .before .before .before .before .before .before .before .before .before .before .before .before .before .before .before .before .loop in let e = l .inv .5 .long in let q : l .k < _ = c .before .before .before .before .before .before .before .before .before .before .before .before .before .before .before .before .before .before .before .before .before .before .loop-test .taken in let b = l .inv .2 in let d = l .inv .4 in (omega arith, omega arith)
 
 add-k : tie.Need-add-k Inv-loop μ-loop
-add-k c = let q = c .before .before .before .before .before .before .before .before .before .before .before .before .before .before .before .before .before .before .before .before .before .before .before .loop-test .taken in let b = c .before .before .before .before .before .before .before .before .before .before .before .before .before .before .before .before .before .before .before .before .before .before .before .before .loop .inv .2 in search needs
+add-k c = let q = c .before .before .before .before .before .before .before .before .before .before .before .before .before .before .before .before .before .before .before .before .before .before .before .before .before .loop-test .taken in let b = c .before .before .before .before .before .before .before .before .before .before .before .before .before .before .before .before .before .before .before .before .before .before .before .before .before .before .loop .inv .2 in search needs
 
 loop-less : tie.Need-loop-less Inv-loop μ-loop
-loop-less c = let q = c .before .before .before .before .before .before .before .before .before .before .before .before .before .before .before .before .before .before .before .before .before .before .before .loop-test .taken in search needs
+loop-less c = let q = c .before .before .before .before .before .before .before .before .before .before .before .before .before .before .before .before .before .before .before .before .before .before .before .before .before .loop-test .taken in search needs
 
 loop-again : tie.Need-loop-again Inv-loop μ-loop
-loop-again c = let l = c .before .before .before .before .before .before .before .before .before .before .before .before .before .before .before .before .before .before .before .before .before .before .before .before .loop in let q : l .k < _ = c .before .before .before .before .before .before .before .before .before .before .before .before .before .before .before .before .before .before .before .before .before .before .before .loop-test .taken in let b = l .inv .0 in (omega arith, l .inv .1, l .inv .2, l .inv .3, l .inv .4, playing-next _ _ _ (c .before .before .before .before .before .before .before .before .before .before .before .before .before .before .before .before .before .before .before .before .before .before .before .before .before .before .before .before .before .before .before .before .before .before .before .before .before .before .before .before .before .args .events .now) (c .before .before .before .before .before .before .before .before .before .before .before .before .before .before .before .before .before .before .before .before .before .before .before .before .before .before .before .before .before .before .before .before .before .before .before .before .before .before .before .before .before .args .answers .now) (l .answers) _ _ (l .k) _ _ _ (l .inv .5) q (l .inv .4) (c .before .before .before .before .before .before .before .before .before .before .word-at .ensures) (c .before .before .before .before .before .before .before .before .before .of-word .ensures .0) (c .before .before .before .before .before .before .before .before .step .ensures .0) (c .before .before .put-answer .ensures), c .before .before .before .before .before .before .before .before .step .ensures .1)
+loop-again c = let l = c .before .before .before .before .before .before .before .before .before .before .before .before .before .before .before .before .before .before .before .before .before .before .before .before .before .before .loop in let q : l .k < _ = c .before .before .before .before .before .before .before .before .before .before .before .before .before .before .before .before .before .before .before .before .before .before .before .before .before .loop-test .taken in let b = l .inv .0 in (omega arith, l .inv .1, l .inv .2, l .inv .3, l .inv .4, playing-next _ _ _ (c .before .before .before .before .before .before .before .before .before .before .before .before .before .before .before .before .before .before .before .before .before .before .before .before .before .before .before .before .before .before .before .before .before .before .before .before .before .before .before .before .before .before .before .before .before .args .events .now) (c .before .before .before .before .before .before .before .before .before .before .before .before .before .before .before .before .before .before .before .before .before .before .before .before .before .before .before .before .before .before .before .before .before .before .before .before .before .before .before .before .before .before .before .before .before .args .answers .now) (l .answers) _ _ (l .k) _ _ _ (l .inv .5) q (l .inv .4) (c .before .before .before .before .before .before .before .before .before .before .word-at .ensures) (c .before .before .before .before .before .before .before .before .before .of-word .ensures .0) (c .before .before .before .before .before .before .before .before .step .ensures .0) (c .before .before .put-answer .ensures), c .before .before .before .before .before .before .before .before .step .ensures .1 .0, c .before .before .before .before .before .before .before .before .step .ensures .1 .1)
 
 same-length : tie.Need-same-length Inv-loop μ-loop
 same-length c = search needs
@@ -85,6 +89,7 @@ portion-spec =
     μ-loop
     live-set-requires
     children-of-requires
+    read-held-requires
     table-requires
     loop-holds
     word-at-requires

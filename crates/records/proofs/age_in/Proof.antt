@@ -12,7 +12,7 @@ use Rattle.records.proofs.age_in.Lts as lts
 use Rattle.age.proofs.Minutes.judged_by.Reads as judged-by-reads
 use Rattle.age.proofs.Reading.new.Reads as new-reads
 use Rattle.age.proofs.Reading.since.Reads as since-reads
-use Rattle.commitpage.proofs.read_commit.Reads as read-commit-reads
+use Rattle.commitpage.proofs.read_page.Reads as read-page-reads
 use Rattle.records.proofs.settled_page.Reads as settled-page-reads
 use Rattle.records.proofs.stamp_on.Reads as stamp-on-reads
 use Rattle.page.proofs.get_page.Reads as get-page-reads
@@ -22,8 +22,8 @@ get-page-requires : tie.Need-get-page-requires
 get-page-requires c κs = search needs
 
 -- src/lib.rt:81:9
-read-commit-requires : tie.Need-read-commit-requires
-read-commit-requires c κs = search needs
+read-page-requires : tie.Need-read-page-requires
+read-page-requires c κs = search needs
 
 -- src/lib.rt:83:55
 settled-page-requires : tie.Need-settled-page-requires
@@ -50,7 +50,7 @@ returns : tie.Need-returns
 unfolding toldAs
 returns c =
     let a = c .before .before .before .before .before .before .before .before .before .args in
-    let read = c .before .before .before .before .before .before .read-commit in
+    let read = c .before .before .before .before .before .before .read-page in
     told-good (a .store .now) (c .before .before .before .before .before .before .before .get-page .result) (read .result) (recordOf (a .r)) (a .clock .0) (a .limit .0)
     (c .before .before .before .before .settled-page .result) (c .before .before .new .result .0) (c .before .since .result .0) (meaning (c .judged-by .result))
     (c .before .before .before .before .before .before .before .get-page .ensures) (read .ensures) (c .before .before .before .before .before .if1 .taken) (record-small (a .r))
@@ -61,15 +61,15 @@ returns-2 : tie.Need-returns-2
 unfolding toldAs
 returns-2 c =
     let a = c .before .before .before .before .args in
-    told-bad (a .store .now) (c .before .before .get-page .result) (c .before .read-commit .result) (recordOf (a .r)) (a .clock .0) (a .limit .0)
-    (c .before .before .get-page .ensures) (c .before .read-commit .ensures) (c .if1 .left)
+    told-bad (a .store .now) (c .before .before .get-page .result) (c .before .read-page .result) (recordOf (a .r)) (a .clock .0) (a .limit .0)
+    (c .before .before .get-page .ensures) (c .before .read-page .ensures) (c .if1 .left)
 
 pub age-in-spec : {M : Type 1} → statement M
 age-in-spec =
     tie.close
     (tie.spec
     get-page-requires
-    read-commit-requires
+    read-page-requires
     settled-page-requires
     stamp-on-requires
     new-requires

@@ -20,6 +20,12 @@ pub fn draw(svg: &mut Svg, told: &Told, scale: &Scale, layout: &Layout, top: f64
             draw_event(svg, told, scale, at, rows[*owner] + ROW / 2.0);
         }
     }
+    for (told_of, row) in told.history.transactions.iter().zip(&rows) {
+        if let End::Prepared { decision: Some(decision), .. } = told_of.end {
+            let sign = if decision.commit { "\u{2713}" } else { "\u{2717}" };
+            draw_decision(svg, scale, decision.at, row + ROW / 2.0, sign);
+        }
+    }
     for bar in &layout.bars {
         draw_badge(svg, told, scale, bar, rows[bar.transaction] + ROW / 2.0);
     }
@@ -28,13 +34,20 @@ pub fn draw(svg: &mut Svg, told: &Told, scale: &Scale, layout: &Layout, top: f64
 fn draw_box(svg: &mut Svg, told: &Told, scale: &Scale, bar: &Bar, y: f64) {
     let transaction = &told.history.transactions[bar.transaction];
     let fate = told.fate(bar.transaction);
-    let open = if transaction.end == End::Never { " open" } else { "" };
+    let waits = told.history.is_waiting(bar.transaction) && transaction.parent.is_none();
+    let open = if transaction.end == End::Never || waits { " open" } else { "" };
     let x = scale.left(bar.first) + 1.0;
     let width = scale.left(bar.last) + scale.step - 1.0 - x;
     let ending = match transaction.end {
         End::Never => "still live at the end".to_string(),
         End::Committed { at, cut: false, .. } => format!("committed at event {}", at + 1),
         End::Committed { at, .. } => format!("its commit was cut at event {}", at + 1),
+        End::Prepared { at, cut: true, .. } => format!("its prepare was cut at event {}", at + 1),
+        End::Prepared { at, decision: None, .. } => format!("prepared at event {}", at + 1),
+        End::Prepared { at, decision: Some(decision), .. } => {
+            let verb = if decision.commit { "committed" } else { "aborted" };
+            format!("prepared at event {}, {verb} at event {}", at + 1, decision.at + 1)
+        }
         End::Aborted(at) => format!("aborted at event {}", at + 1),
         End::Crashed(at) => format!("crashed at event {}", at + 1),
     };
@@ -81,6 +94,15 @@ fn draw_event(svg: &mut Svg, told: &Told, scale: &Scale, at: usize, y: f64) {
     }
 }
 
+/// The decision on a prepared transaction, where its bar ends.
+fn draw_decision(svg: &mut Svg, scale: &Scale, at: usize, y: f64, sign: &str) {
+    if scale.has_room_for_text() {
+        svg.text(scale.middle(at), y + 4.0, "end", sign);
+    } else {
+        svg.rect(scale.left(at), y - 2.0, scale.step - 1.0, 9.0, "tick", "");
+    }
+}
+
 fn letters(event: Event) -> Option<(&'static str, String)> {
     Some(match event {
         Event::Begin { .. } => ("event", "B".to_string()),
@@ -90,6 +112,7 @@ fn letters(event: Event) -> Option<(&'static str, String)> {
         Event::Read { record, .. } => ("event", format!("R{record}")),
         Event::Commit { .. } => ("end", "\u{2713}".to_string()),
         Event::Abort { report, .. } => ("end", format!("\u{2717}{}", if report { "\u{2191}" } else { "" })),
-        Event::Crash | Event::Recover { .. } => return None,
+        Event::Prepare { .. } => ("end", "P".to_string()),
+        Event::Crash | Event::Recover { .. } | Event::Decide { .. } | Event::Query { .. } => return None,
     })
 }

@@ -144,7 +144,10 @@ impl Builder<'_> {
     fn last(&self, transaction: usize) -> usize {
         match self.history.transactions[transaction].end {
             End::Never => self.events.saturating_sub(1),
-            End::Committed { at, .. } | End::Aborted(at) | End::Crashed(at) => at,
+            // Until its decision, if it has one.
+            End::Prepared { decision: Some(decision), .. } => decision.at,
+            End::Prepared { cut: false, changed: 1.., .. } => self.events.saturating_sub(1),
+            End::Committed { at, .. } | End::Prepared { at, .. } | End::Aborted(at) | End::Crashed(at) => at,
         }
     }
 }

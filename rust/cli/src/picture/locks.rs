@@ -22,6 +22,8 @@ struct Stretch {
 struct Row {
     held: Vec<Stretch>,
     retained: Vec<Stretch>,
+    /// Where it waits for a decision: from an event to another, and on which identity.
+    prepared: Vec<(usize, usize, u8)>,
 }
 
 /// The locks of the records that were ever locked.
@@ -34,6 +36,14 @@ fn note(stretches: &mut Vec<Stretch>, at: usize, who: &Bearers) {
     match stretches.last_mut() {
         Some(last) if last.who == *who => last.end = at + 1,
         _ => stretches.push(Stretch { first: at, end: at + 1, who: who.clone() }),
+    }
+}
+
+/// Lengthens the last wait, or begins another.
+fn wait(waits: &mut Vec<(usize, usize, u8)>, at: usize, identity: u8) {
+    match waits.last_mut() {
+        Some((_, end, same)) if *end == at && *same == identity => *end = at + 1,
+        _ => waits.push((at, at + 1, identity)),
     }
 }
 
@@ -53,8 +63,12 @@ impl Rows {
                 note(&mut row.held, at, &lock.holders);
                 note(&mut row.retained, at, &lock.retainers);
             }
+            if let Some((identity, records)) = &follower.prepared {
+                records.iter().for_each(|record| wait(&mut rows[usize::from(*record)].prepared, at, identity.0));
+            }
         }
-        let used = |row: &Row| row.held.iter().chain(&row.retained).any(|stretch| !stretch.who.is_empty());
+        let locked = |row: &Row| row.held.iter().chain(&row.retained).any(|stretch| !stretch.who.is_empty());
+        let used = |row: &Row| locked(row) || !row.prepared.is_empty();
         Rows { rows: rows.into_iter().enumerate().filter(|(_, row)| used(row)).collect() }
     }
 
@@ -71,6 +85,15 @@ impl Rows {
             svg.text(16.0, y + 16.0, "label", &format!("record {record}"));
             row.held.iter().for_each(|stretch| stretch.draw(svg, scale, y + 2.0, "held"));
             row.retained.iter().for_each(|stretch| stretch.draw(svg, scale, y + 16.0, "retained"));
+            for (first, end, identity) in &row.prepared {
+                let (left, right) = (scale.left(*first), scale.left(*end));
+                let tip = format!("locked until the decision on identity {identity}");
+                svg.rect(left, y + 2.0, right - left - 1.0, 26.0, "prepared", &tip);
+                let label = format!("p{identity}");
+                if right - left > 4.0 + 6.0 * label.len() as f64 {
+                    svg.text((left + right) / 2.0, y + 18.5, "held-by", &label);
+                }
+            }
         }
     }
 }

@@ -55,7 +55,7 @@ impl Told<'_> {
     pub fn fate(&self, transaction: usize) -> &'static str {
         match self.history.transactions[transaction].survives {
             true => "survives",
-            false if self.history.is_open(transaction) => "undecided",
+            false if self.history.is_undecided(transaction) => "undecided",
             false => "lost",
         }
     }
@@ -147,18 +147,22 @@ fn legend(svg: &mut Svg, told: &Told, scale: &Scale, top: f64) {
     };
     entry(svg, "survives", "survives");
     entry(svg, "lost", "lost");
-    if (0..told.history.transactions.len()).any(|place| told.history.is_open(place)) {
+    if (0..told.history.transactions.len()).any(|place| told.history.is_undecided(place)) {
         entry(svg, "undecided", "undecided");
     }
     entry(svg, "held", "lock held by");
     entry(svg, "held-to-read", "0r: to read");
     entry(svg, "retained", "lock retained by");
+    if told.events.iter().flatten().any(|event| matches!(event, Event::Prepare { .. })) || told.start.prepared.is_some()
+    {
+        entry(svg, "prepared", "p7: prepared, identity 7");
+    }
     entry(svg, "up", "store up");
     entry(svg, "down", "store down");
     let letters = [
         "L lock, W write, R read, each with its record; L3r: only to read",
         "struck through: refused",
-        "\u{2713} commit, cut: cut and lost",
+        "P prepare, \u{2713} commit, cut: cut and lost",
         "\u{25B2} recover",
         "\u{2717} abort, \u{2717}\u{2191} with a report",
     ];
@@ -170,7 +174,7 @@ fn legend(svg: &mut Svg, told: &Told, scale: &Scale, top: f64) {
     ];
     let crash =
         if scale.has_room_for_text() { "red line: crash; cut at 2: after 2 page writes" } else { "red line: crash" };
-    let lines = [crash, "a bar inside a bar is a child", "dashed: still live"];
+    let lines = [crash, "a bar inside a bar is a child", "dashed: still live or waiting"];
     let signs = if scale.has_room_for_text() { &letters[..] } else { &marks[..] };
     svg.text(16.0, top + 30.0, "legend", &signs.join(" \u{b7} "));
     svg.text(16.0, top + 46.0, "legend", &lines.join(" \u{b7} "));

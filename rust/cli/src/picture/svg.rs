@@ -27,7 +27,7 @@ text { font-family: sans-serif; font-size: 11px; fill: #222 }
 .cut { fill: #b3261e; font-weight: bold }
 .recover { fill: #14533d } .recover-cut { fill: #b3261e }
 .up { fill: #7cc6a4 } .down { fill: #cfcfcf } .up, .down, .refused-tick { shape-rendering: crispEdges }
-.held { fill: #2f5fa8 } .held-to-read { fill: #5f93d6 } .held-by { fill: #fff; font-size: 10px; font-weight: bold; text-anchor: middle }
+.prepared { fill: #8a6d1d } .held { fill: #2f5fa8 } .held-to-read { fill: #5f93d6 } .held-by { fill: #fff; font-size: 10px; font-weight: bold; text-anchor: middle }
 .retained { fill: #c3d5f2 } .retained-to-read { fill: #e3ecf9 } .retained-by { fill: #23406e; font-size: 9px; text-anchor: middle }
 .grid { stroke: #eee }
 .crash { stroke: #b3261e; stroke-width: 2; stroke-dasharray: 6 3 }

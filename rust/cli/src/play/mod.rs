@@ -36,7 +36,7 @@ pub const COMMAND: Command = Command {
     summary: "play a list of events on a store",
     help: "\
 `./nekahuiro help` says how a list is written. Each event has an answer of two bytes, told in hex: a
-number (00 done, 01 to 0A and 0E refused, 0B cut by a crash), then a value. --trace tells it in words;
+number (00 done, 01 to 0A, 0D, 0E and 1B refused, 0B cut by a crash), then a value. --trace tells it in words;
 a lock is to write unless it is said to be to read. include/nekahuiro.h has all the numbers.
 
 When the list has been read, the command has the folders of its files for itself until they are
@@ -124,7 +124,7 @@ fn verdict(options: &Options, played: &Played, expected: Option<&[Answer]>) -> O
 }
 
 fn play(options: &Options, mut store: Store, mut left: Kept, words: Vec<u8>) -> Outcome<Played> {
-    let (start, earlier) = (Follower::of(&left.state), left.earlier());
+    let (start, earlier) = (Follower::of(&left.state, store.commit_page()), left.earlier());
     let played = if options.portions.is_some() || options.state.is_some() {
         portions(&mut store, &mut left, &words, options.portions.unwrap_or(EVENTS))
     } else {

@@ -32,7 +32,7 @@ pub fn text(options: &Options, played: &Played) -> String {
     if accepted < answers.len() && !options.trace {
         let _ = writeln!(text, "why an event was refused: --trace tells it");
     }
-    let open = (0..history.transactions.len()).any(|place| history.is_open(place));
+    let open = (0..history.transactions.len()).any(|place| history.is_undecided(place));
     match options.state {
         Some(path) => {
             let _ = writeln!(text, "{}: {}", visible(path), left.in_words());

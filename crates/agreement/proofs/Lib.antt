@@ -1,0 +1,6 @@
+-- Every argument about depot and gateway.
+pub mod Table
+pub mod Follows
+pub mod Yes
+pub mod Agreement
+pub mod Needed

@@ -1,0 +1,36 @@
+-- `mark_prepared` is one page write: made where something is left of the count, else the count is spent.
+use mathlib.Core.Path.{ap, _∙_}
+use native.Mathlib.Omega.{arith}
+use Rattle.rules.specs.Store.{pagesOf}
+use Rattle.laws.specs.Functions.{updated}
+use Rattle.commit.proofs.Phases.{phase-one, phase-spent}
+use borrow.Author.Needs.{needs}
+use Rattle.commit.proofs.mark_prepared.Statement.{statement}
+use Rattle.commit.proofs.mark_prepared.Tie as tie
+use Rattle.commit.proofs.mark_prepared.Reads as reads
+use Rattle.commit.proofs.mark_prepared.Lts as lts
+use Rattle.commitpage.proofs.prepared_page.Reads as prepared-page-reads
+use Rattle.page.proofs.put_page.Reads as put-page-reads
+
+prepared-page-requires : tie.Need-prepared-page-requires
+prepared-page-requires c κs = search needs
+
+put-page-requires : tie.Need-put-page-requires
+put-page-requires c κs = search needs
+
+sub-result : tie.Need-sub-result
+sub-result c = search needs
+
+same-length : tie.Need-same-length
+same-length c = search needs
+
+returns : tie.Need-returns
+returns c = phase-one (omega arith) (c .before .before .put-page .ensures ∙ ap (λ p. updated 0 p (pagesOf (c .before .before .before .before .before .before .before .args .store .now))) (c .before .before .before .prepared-page .ensures))
+
+returns-2 : tie.Need-returns-2
+returns-2 c = phase-spent (omega arith)
+
+pub mark-prepared-spec : {M : Type 1} → statement M
+mark-prepared-spec =
+    tie.close
+    (tie.spec prepared-page-requires put-page-requires sub-result same-length returns returns-2)

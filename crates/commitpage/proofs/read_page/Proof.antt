@@ -1,0 +1,29 @@
+-- What is read of the page in both ways, joined.
+use mathlib.Core.Path.{ap₂, _∙_}
+use mathlib.Core.Bool.{not, _||_}
+use Rattle.laws.specs.Tests.{same}
+use Rattle.commitpage.specs.declared.CommitMap.{CommitMap}
+use Rattle.commitpage.specs.declared.PreparedMap.{PreparedMap}
+use Rattle.commitpage.proofs.Places.{understood-is}
+use borrow.Author.Needs.{needs}
+use Rattle.commitpage.proofs.read_page.Statement.{statement}
+use Rattle.commitpage.proofs.read_page.Tie as tie
+use Rattle.commitpage.proofs.read_page.Reads as reads
+use Rattle.commitpage.proofs.read_page.Lts as lts
+use Rattle.commitpage.proofs.read_commit.Reads as read-commit-reads
+use Rattle.commitpage.proofs.read_prepared.Reads as read-prepared-reads
+
+read-commit-requires : tie.Need-read-commit-requires
+read-commit-requires c κs = search needs
+
+read-prepared-requires : tie.Need-read-prepared-requires
+read-prepared-requires c κs = search needs
+
+returns : tie.Need-returns
+unfolding same
+returns c =
+    ap₂ (λ (a : CommitMap) (b : PreparedMap). record { good = a .good || not (same (b .map) 0); map = a .map }) (c .before .before .read-commit .ensures) (c .before .read-prepared .ensures)
+    ∙ understood-is (c .before .before .before .args .page)
+
+pub read-page-spec : {M : Type 1} → statement M
+read-page-spec = tie.close (tie.spec read-commit-requires read-prepared-requires returns)

@@ -1,0 +1,59 @@
+-- The end of the transaction, or the crash.
+use mathlib.Core.Path.{_≡_, refl, sym, subst⁻¹, _∙_}
+use mathlib.Core.Bool.{Bool, true, false, not, _&&_}
+use mathlib.Core.List.{List}
+use Prim.Native.Nat.{ℕ, _-_, _<_, _≤_}
+use native.Mathlib.Omega.{arith}
+use lib.ListN.{length, getD}
+use Rattle.arrays.proofs.Kin.{kin-retired}
+use Rattle.commits.proofs.Commits.{top-steps, top-cut}
+use borrow.Author.Needs.{needs}
+use Rattle.commits.proofs.end_top.Statement.{statement}
+use Rattle.commits.proofs.end_top.Tie as tie
+use Rattle.commits.proofs.end_top.Reads as reads
+use Rattle.commits.proofs.end_top.Lts as lts
+use Rattle.crashes.proofs.fall.Reads as fall-reads
+use Rattle.locks.proofs.discard.Reads as discard-reads
+use Rattle.sets.proofs.single.Reads as single-reads
+use Rattle.transactions.proofs.retire.Reads as retire-reads
+use Rattle.transactions.proofs.strike.Reads as strike-reads
+
+fall-requires : tie.Need-fall-requires
+fall-requires c κs = search needs
+
+returns : tie.Need-returns
+returns c = (λ e C work store store′ I R n q L size. top-cut _ I (c .before .before .before .before .before .before .before .before .before .before .before .args .t) R n e C q store′ _ _ L size (c .before .before .before .before .before .before .before .before .before .before .if1 .taken) _ _ _ _ _ _ _ (c .fall .ensures .0), c .fall .ensures .1)
+
+single-requires : tie.Need-single-requires
+single-requires c κs = search needs
+
+discard-requires : tie.Need-discard-requires
+discard-requires c κs = search needs
+
+element-copy-out-strike : tie.Need-element-copy-out-strike
+element-copy-out-strike c = search needs
+
+strike-requires : tie.Need-strike-requires
+strike-requires c κs = (c .before .before .before .before .before .before .before .before .before .pre .7 .named _, c .before .before .before .before .before .before .before .before .before .pre .0)
+
+retire-requires : tie.Need-retire-requires
+retire-requires c κs = search needs
+
+returns-2 : tie.Need-returns-2
+returns-2 c = let e = c .retire .ensures in let f = c .before .before .before .before .before .before .before .before .discard .ensures in let s = c .before .before .before .before .strike .ensures in (
+  λ v C work store store′ I R n q L size. top-steps _ I (c .before .before .before .before .before .before .before .before .before .before .before .before .before .before .args .t) R n v C q store′ _ _ L size (c .before .before .before .before .before .before .before .before .before .before .before .before .before .if1 .left) _ _ _ _ _ _ _ (c .before .before .before .before .before .before .before .before .before .single .ensures) (e .0) (e .1) (e .2) (f .0) (f .1) (f .2),
+  kin-retired _ _ _ _ _ _ _ _ (c .before .before .before .before .before .before .before .before .before .before .before .before .before .before .args .t) _ (c .before .before .before .before .before .before .before .before .before .before .before .before .before .before .pre .7) refl (c .before .before .before .before .before .before .before .before .before .before .before .before .before .before .pre .7 .named (c .before .before .before .before .before .before .before .before .before .before .before .before .before .before .args .t)) (e .0) (e .1) (s .0) (s .1),
+)
+
+pub end-top-spec : {M : Type 1} → statement M
+end-top-spec =
+    tie.close
+    (tie.spec
+    fall-requires
+    returns
+    single-requires
+    discard-requires
+    element-copy-out-strike
+    strike-requires
+    retire-requires
+    returns-2)

@@ -1,0 +1,78 @@
+-- Refusal 10; then a child's commit, or a top transaction.
+use mathlib.Core.Path.{_≡_, refl, sym, ap, subst⁻¹, _∙_}
+use mathlib.Core.Bool.{Bool, true, false, not, _&&_}
+use mathlib.Core.List.{List}
+use Prim.Native.Nat.{ℕ, _-_, _<_, _≤_}
+use native.Mathlib.Omega.{arith}
+use lib.ListN.{length, getD}
+use Rattle.laws.specs.Tests.{same}
+use Rattle.commits.proofs.Commits.{settling-refuses, child-settling, commits-only, else-top, settling-reserves}
+use Rattle.commits.specs.Settling.{settling}
+use Rattle.events.specs.Whole.{Ready}
+use Rattle.events.proofs.Parents.{child-test}
+use Rattle.events.proofs.Steps.{numbered}
+use borrow.Author.Needs.{needs}
+use Rattle.commits.proofs.settle_event.Statement.{statement}
+use Rattle.commits.proofs.settle_event.Tie as tie
+use Rattle.commits.proofs.settle_event.Reads as reads
+use Rattle.commits.proofs.settle_event.Lts as lts
+use Rattle.commits.proofs.commit_child.Reads as commit-child-reads
+use Rattle.commits.proofs.settle_top.Reads as settle-top-reads
+use Rattle.numbers.proofs.TransactionNumber.number.Reads as number-reads
+use Rattle.transactions.proofs.has_child.Reads as has-child-reads
+
+number-requires : tie.Need-number-requires
+number-requires c κs = search needs
+
+has-child-requires : tie.Need-has-child-requires
+has-child-requires c κs = search needs
+
+returns : tie.Need-returns
+returns c = (λ I R. (numbered _ _ _ (λ t r. settling (c .before .before .before .before .before .before .args .prepares) t (c .before .before .before .before .before .before .args .k) (c .before .before .before .before .before .before .args .i)) Ready _ _ 0 0 (c .before .before .before .number .ensures .0) (refl) (λ A. settling-refuses _ I (c .before .before .before .before .before .before .args .prepares) _ (c .before .before .before .before .before .before .args .k) (c .before .before .before .before .before .before .args .i) A (sym (child-test _ _ _ _ _ (c .before .before .before .before .before .before .pre .10) (let h = c .before .before .before .number .ensures .1 in omega arith) (c .before .has-child .ensures)) ∙ c .if1 .taken)) R, c .before .before .before .before .before .before .pre .11), c .before .before .before .before .before .before .pre .10)
+
+cast-d : tie.Need-cast-d
+cast-d c = search needs
+
+element-copy-out-d : tie.Need-element-copy-out-d
+element-copy-out-d c = search needs
+
+commit-child-requires : tie.Need-commit-child-requires
+unfolding same
+commit-child-requires c κs = let e = c .before .before .before .before .before .before .before .before .before .before .before .before .before .before .number .ensures .0 in let h : 0 < getD (c .before .before .before .before .before .before .before .before .before .before .before .before .before .before .before .before .before .args .depth .now) (c .before .before .before .before .before .before .before .before .before .before .before .before .before .before .number .result) 0 = subst⁻¹ (λ (n : ℕ). 0 < getD (c .before .before .before .before .before .before .before .before .before .before .before .before .before .before .before .before .before .args .depth .now) n 0) e (c .before .before .before .before .before .before .before .before .before .before .before .before .before .before .before .before .before .pre .8) in let m = commits-only (c .before .before .before .before .before .before .before .before .before .before .before .before .before .before .before .before .before .args .prepares) (getD (c .before .before .before .before .before .before .before .before .before .before .before .before .before .before .before .before .before .args .depth .now) (c .before .before .before .before .before .before .before .before .before .before .before .before .before .before .number .result) 0) (c .before .before .before .before .before .before .before .before .before .if2 .taken) .1 in (c .before .before .before .before .before .before .before .before .before .before .before .before .before .before .number .ensures .1, search needs, search needs, search needs, search needs, search needs, search needs, search needs, omega arith, refl, c .before .before .before .before .before .before .before .before .before .before .before .before .before .before .before .before .before .pre .9, c .before .before .before .before .before .before .before .before .before .before .before .before .before .before .before .before .before .pre .10)
+
+same-length : tie.Need-same-length
+same-length c = search needs
+
+returns-2 : tie.Need-returns-2
+unfolding same
+returns-2 c = (λ I R. let A = subst⁻¹ (Ready _) (c .before .before .before .before .before .before .before .before .before .before .before .before .before .before .before .before .before .number .ensures .0) R in let n = (sym (child-test _ _ _ _ _ (c .before .before .before .before .before .before .before .before .before .before .before .before .before .before .before .before .before .before .before .before .pre .10) (let h = c .before .before .before .before .before .before .before .before .before .before .before .before .before .before .before .before .before .number .ensures .1 in omega arith) (c .before .before .before .before .before .before .before .before .before .before .before .before .before .before .before .has-child .ensures)) ∙ c .before .before .before .before .before .before .before .before .before .before .before .before .before .before .if1 .left) in let T = child-settling _ _ _ (c .before .before .before .before .before .before .before .before .before .before .before .before .before .before .before .before .before .before .before .before .args .prepares) _ (c .before .before .before .before .before .before .before .before .before .before .before .before .before .before .before .before .before .before .before .before .args .k) (c .before .before .before .before .before .before .before .before .before .before .before .before .before .before .before .before .before .before .before .before .args .i) (commits-only (c .before .before .before .before .before .before .before .before .before .before .before .before .before .before .before .before .before .before .before .before .args .prepares) (getD (c .before .before .before .before .before .before .before .before .before .before .before .before .before .before .before .before .before .before .before .before .args .depth .now) (c .before .before .before .before .before .before .before .before .before .before .before .before .before .before .before .before .before .number .result) 0) (c .before .before .before .before .before .before .before .before .before .before .before .before .if2 .taken) .0) (c .before .before .commit-child .ensures .0 _ _ _ I A n) in (numbered _ _ _ (λ t r. settling (c .before .before .before .before .before .before .before .before .before .before .before .before .before .before .before .before .before .before .before .before .args .prepares) t (c .before .before .before .before .before .before .before .before .before .before .before .before .before .before .before .before .before .before .before .before .args .k) (c .before .before .before .before .before .before .before .before .before .before .before .before .before .before .before .before .before .before .before .before .args .i)) Ready _ _ 0 0 (c .before .before .before .before .before .before .before .before .before .before .before .before .before .before .before .before .before .number .ensures .0) (refl) (λ A. T) R, c .before .before .before .before .before .before .before .before .before .before .before .before .before .before .before .before .before .before .before .before .pre .11), c .before .before .commit-child .ensures .1)
+
+settle-top-requires : tie.Need-settle-top-requires
+unfolding same
+settle-top-requires c κs = (c .before .before .before .before .before .before .before .before .before .before .before .before .before .before .before .before .before .before .number .ensures .1, c .before .before .before .before .before .before .before .before .before .before .before .before .before .before .before .before .before .before .before .before .before .pre .0, c .before .before .before .before .before .before .before .before .before .before .before .before .before .before .before .before .before .before .before .before .before .pre .1, c .before .before .before .before .before .before .before .before .before .before .before .before .before .before .before .before .before .before .before .before .before .pre .2, c .before .before .before .before .before .before .before .before .before .before .before .before .before .before .before .before .before .before .before .before .before .pre .3, c .before .before .before .before .before .before .before .before .before .before .before .before .before .before .before .before .before .before .before .before .before .pre .4, c .before .before .before .before .before .before .before .before .before .before .before .before .before .before .before .before .before .before .before .before .before .pre .5, c .before .before .before .before .before .before .before .before .before .before .before .before .before .before .before .before .before .before .before .before .before .pre .6, c .before .before .before .before .before .before .before .before .before .before .before .before .before .before .before .before .before .before .before .before .before .pre .7, refl, else-top (c .before .before .before .before .before .before .before .before .before .before .before .before .before .before .before .before .before .before .before .before .before .args .prepares) (getD (c .before .before .before .before .before .before .before .before .before .before .before .before .before .before .before .before .before .before .before .before .before .args .depth .now) (c .before .before .before .before .before .before .before .before .before .before .before .before .before .before .before .before .before .before .number .result) 0) (c .before .before .before .before .before .before .before .before .before .before .before .before .before .if2 .left), c .before .before .before .before .before .before .before .before .before .before .before .before .before .before .before .before .before .before .before .before .before .pre .10, c .before .before .before .before .before .before .before .before .before .before .before .before .before .before .before .before .before .before .before .before .before .pre .11)
+
+same-length-2 : tie.Need-same-length-2
+same-length-2 c = search needs
+
+same-length-3 : tie.Need-same-length-3
+same-length-3 c = search needs
+
+returns-3 : tie.Need-returns-3
+returns-3 c = (λ I R. let A = subst⁻¹ (Ready _) (c .before .before .before .before .before .before .before .before .before .before .before .before .before .before .before .before .before .before .before .before .before .number .ensures .0) R in let P = c .before .before .settle-top .ensures .0 I A (sym (child-test _ _ _ _ _ (c .before .before .before .before .before .before .before .before .before .before .before .before .before .before .before .before .before .before .before .before .before .before .before .before .pre .10) (let h = c .before .before .before .before .before .before .before .before .before .before .before .before .before .before .before .before .before .before .before .before .before .number .ensures .1 in omega arith) (c .before .before .before .before .before .before .before .before .before .before .before .before .before .before .before .before .before .before .before .has-child .ensures)) ∙ c .before .before .before .before .before .before .before .before .before .before .before .before .before .before .before .before .before .before .if1 .left) in (numbered _ _ _ (λ t r. settling (c .before .before .before .before .before .before .before .before .before .before .before .before .before .before .before .before .before .before .before .before .before .before .before .before .args .prepares) t (c .before .before .before .before .before .before .before .before .before .before .before .before .before .before .before .before .before .before .before .before .before .before .before .before .args .k) (c .before .before .before .before .before .before .before .before .before .before .before .before .before .before .before .before .before .before .before .before .before .before .before .before .args .i)) Ready _ _ 0 0 (c .before .before .before .before .before .before .before .before .before .before .before .before .before .before .before .before .before .before .before .before .before .number .ensures .0) (refl) (λ A. P .0) R, P .1), c .before .before .settle-top .ensures .1)
+
+pub settle-event-spec : {M : Type 1} → statement M
+settle-event-spec =
+    tie.close
+    (tie.spec
+    number-requires
+    has-child-requires
+    returns
+    cast-d
+    element-copy-out-d
+    commit-child-requires
+    same-length
+    returns-2
+    settle-top-requires
+    same-length-2
+    same-length-3
+    returns-3)

@@ -1,0 +1,62 @@
+-- Refusals 13 and 27; then the page writes, what is prepared then, and the end of the transaction.
+use mathlib.Core.Path.{_≡_, refl, sym, ap, subst⁻¹, _∙_}
+use mathlib.Core.Bool.{Bool, true, false, not, _&&_}
+use mathlib.Core.List.{List}
+use Prim.Native.Nat.{ℕ, _-_, _<_, _≤_}
+use native.Mathlib.Omega.{arith}
+use lib.ListN.{length, getD}
+use Rattle.laws.specs.Tests.{same}
+use Rattle.commits.proofs.Commits.{settling-13, settling-27, settling-ends, settling-reserves}
+use borrow.Author.Needs.{needs}
+use Rattle.commits.proofs.settle_top.Statement.{statement}
+use Rattle.commits.proofs.settle_top.Tie as tie
+use Rattle.commits.proofs.settle_top.Reads as reads
+use Rattle.commits.proofs.settle_top.Lts as lts
+use Rattle.commits.proofs.end_top.Reads as end-top-reads
+use Rattle.commits.proofs.reread.Reads as reread-reads
+use Rattle.commits.proofs.write_pages.Reads as write-pages-reads
+use Rattle.commitpage.proofs.map_of.Reads as map-of-reads
+
+map-of-requires : tie.Need-map-of-requires
+map-of-requires c κs = search needs
+
+returns : tie.Need-returns
+unfolding same
+returns c = (λ I R n. (settling-13 _ I _ R n _ _ _ (c .before .before .map-of .ensures) (c .before .before .before .before .before .before .pre .12) (c .before .before .before .before .before .before .args .prepares) (c .before .before .before .before .before .before .args .k) (c .before .before .before .before .before .before .args .i) (λ e. sym (c .before .before .before .before .before .before .pre .9) ∙ c .before .before .before .before .before .before .pre .10 e) (c .if1 .taken), c .before .before .before .before .before .before .pre .12), c .before .before .before .before .before .before .pre .11)
+
+returns-2 : tie.Need-returns-2
+unfolding same
+returns-2 c = (λ I R n. (settling-27 _ I _ R n _ _ _ (c .before .before .before .map-of .ensures) (c .before .before .before .before .before .before .before .pre .12) (c .before .before .before .before .before .before .before .args .prepares) (c .before .before .before .before .before .before .before .args .k) (c .before .before .before .before .before .before .before .args .i) (λ e. sym (c .before .before .before .before .before .before .before .pre .9) ∙ c .before .before .before .before .before .before .before .pre .10 e) (c .before .if1 .left) (λ e. c .if2 .taken (c .before .before .before .before .before .before .before .pre .9 ∙ e)), c .before .before .before .before .before .before .before .pre .12), c .before .before .before .before .before .before .before .pre .11)
+
+write-pages-requires : tie.Need-write-pages-requires
+write-pages-requires c κs = search needs
+
+reread-requires : tie.Need-reread-requires
+reread-requires c κs = search needs
+
+end-top-requires : tie.Need-end-top-requires
+end-top-requires c κs = (c .before .before .before .before .before .before .before .before .before .before .before .before .before .before .before .before .before .before .before .before .before .before .before .before .pre .0, c .before .before .before .before .before .before .before .before .before .before .before .before .before .before .before .before .before .before .before .before .before .before .before .before .pre .1, c .before .before .before .before .before .before .before .before .before .before .before .before .before .before .before .before .before .before .before .before .before .before .before .before .pre .2, c .before .before .before .before .before .before .before .before .before .before .before .before .before .before .before .before .before .before .before .before .before .before .before .before .pre .3, c .before .before .before .before .before .before .before .before .before .before .before .before .before .before .before .before .before .before .before .before .before .before .before .before .pre .4, c .before .before .before .before .before .before .before .before .before .before .before .before .before .before .before .before .before .before .before .before .before .before .before .before .pre .5, c .before .before .before .before .before .before .before .before .before .before .before .before .before .before .before .before .before .before .before .before .before .before .before .before .pre .6, c .before .before .before .before .before .before .before .before .before .before .before .before .before .before .before .before .before .before .before .before .before .before .before .before .pre .11)
+
+same-length : tie.Need-same-length
+same-length c = search needs
+
+returns-3 : tie.Need-returns-3
+unfolding same
+returns-3 c = (
+  λ I R n. let T = c .end-top .ensures .0 _ _ _ _ _ I R n (settling-ends _ I _ R n _ _ _ (c .before .before .before .before .before .before .before .before .before .before .before .before .before .before .before .before .before .before .before .before .before .map-of .ensures) (c .before .before .before .before .before .before .before .before .before .before .before .before .before .before .before .before .before .before .before .before .before .before .before .before .before .pre .12) (c .before .before .before .before .before .before .before .before .before .before .before .before .before .before .before .before .before .before .before .before .before .before .before .before .before .args .prepares) (c .before .before .before .before .before .before .before .before .before .before .before .before .before .before .before .before .before .before .before .before .before .before .before .before .before .args .k) (c .before .before .before .before .before .before .before .before .before .before .before .before .before .before .before .before .before .before .before .before .before .before .before .before .before .args .i) (c .before .before .before .before .before .before .before .before .before .before .before .before .before .before .before .before .before .before .before .if1 .left) (sym (c .before .before .before .before .before .before .before .before .before .before .before .before .before .before .before .before .before .before .before .before .before .before .before .before .before .pre .9) ∙ c .before .before .before .before .before .before .before .before .before .before .before .before .before .before .before .before .before .before .if2 .left)) (c .before .before .before .before .before .before .before .before .before .before .before .before .before .before .before .before .write-pages .ensures) (search needs) in
+      (T, settling-reserves _ I _ R n _ _ _ (c .before .before .before .before .before .before .before .before .before .before .before .before .before .before .before .before .before .before .before .before .before .map-of .ensures) (c .before .before .before .before .before .before .before .before .before .before .before .before .before .before .before .before .before .before .before .before .before .before .before .before .before .pre .12) _ _ (c .before .before .before .before .before .before .before .before .before .before .before .before .before .before .before .before .before .before .before .before .before .before .before .before .before .args .prepares) (c .before .before .before .before .before .before .before .before .before .before .before .before .before .before .before .before .before .before .before .before .before .before .before .before .before .args .k) (c .before .before .before .before .before .before .before .before .before .before .before .before .before .before .before .before .before .before .before .before .before .before .before .before .before .args .i) _ _ T (c .before .before .before .before .before .before .before .before .before .before .reread .ensures .0) (c .before .before .before .before .before .before .before .before .before .before .reread .ensures .1)),
+  c .end-top .ensures .1,
+)
+
+pub settle-top-spec : {M : Type 1} → statement M
+settle-top-spec =
+    tie.close
+    (tie.spec
+    map-of-requires
+    returns
+    returns-2
+    write-pages-requires
+    reread-requires
+    end-top-requires
+    same-length
+    returns-3)

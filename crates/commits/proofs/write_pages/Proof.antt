@@ -1,0 +1,47 @@
+-- By whether it prepares.
+use mathlib.Core.Path.{_≡_, refl, sym, ap, subst⁻¹, _∙_}
+use mathlib.Core.Bool.{Bool, true, false, not, _&&_}
+use mathlib.Core.List.{List}
+use Prim.Native.Nat.{ℕ, _-_, _<_, _≤_}
+use native.Mathlib.Omega.{arith}
+use lib.ListN.{length, getD}
+use Rattle.commits.proofs.Commits.{settled-pages}
+use Rattle.commits.specs.Settling.{settlingAt}
+use borrow.Author.Needs.{needs}
+use Rattle.commits.proofs.write_pages.Statement.{statement}
+use Rattle.commits.proofs.write_pages.Tie as tie
+use Rattle.commits.proofs.write_pages.Reads as reads
+use Rattle.commits.proofs.write_pages.Lts as lts
+use Rattle.commit.proofs.commit_pages.Reads as commit-pages-reads
+use Rattle.commit.proofs.prepare_pages.Reads as prepare-pages-reads
+
+prepare-pages-requires : tie.Need-prepare-pages-requires
+prepare-pages-requires c κs = search needs
+
+same-length : tie.Need-same-length
+same-length c = search needs
+
+returns : tie.Need-returns
+unfolding settlingAt
+returns c = settled-pages true _ _ _ _ _ _ _ _ (c .before .before .before .before .if1 .taken) (c .before .before .prepare-pages .ensures)
+
+commit-pages-requires : tie.Need-commit-pages-requires
+commit-pages-requires c κs = search needs
+
+same-length-2 : tie.Need-same-length-2
+same-length-2 c = search needs
+
+returns-2 : tie.Need-returns-2
+unfolding settlingAt
+returns-2 c = settled-pages false _ _ _ _ _ _ _ _ (c .before .before .before .before .if1 .left) (c .before .before .commit-pages .ensures)
+
+pub write-pages-spec : {M : Type 1} → statement M
+write-pages-spec =
+    tie.close
+    (tie.spec
+    prepare-pages-requires
+    same-length
+    returns
+    commit-pages-requires
+    same-length-2
+    returns-2)

@@ -1,0 +1,44 @@
+-- By the decision.
+use mathlib.Core.Path.{_≡_, refl, sym, ap, subst⁻¹, _∙_}
+use mathlib.Core.Bool.{Bool, true, false, not, _&&_}
+use mathlib.Core.List.{List}
+use Prim.Native.Nat.{ℕ, _-_, _<_, _≤_}
+use native.Mathlib.Omega.{arith}
+use lib.ListN.{length, getD}
+use Rattle.decisions.proofs.Decisions.{by-decision}
+use borrow.Author.Needs.{needs}
+use Rattle.decisions.proofs.decide_pages.Statement.{statement}
+use Rattle.decisions.proofs.decide_pages.Tie as tie
+use Rattle.decisions.proofs.decide_pages.Reads as reads
+use Rattle.decisions.proofs.decide_pages.Lts as lts
+use Rattle.commit.proofs.abort_decided.Reads as abort-decided-reads
+use Rattle.commit.proofs.commit_decided.Reads as commit-decided-reads
+
+commit-decided-requires : tie.Need-commit-decided-requires
+commit-decided-requires c κs = search needs
+
+same-length : tie.Need-same-length
+same-length c = search needs
+
+returns : tie.Need-returns
+returns c = by-decision _ _ _ _ _ _ _ (c .before .before .before .before .if1 .taken) (c .before .before .commit-decided .ensures)
+
+abort-decided-requires : tie.Need-abort-decided-requires
+abort-decided-requires c κs = search needs
+
+same-length-2 : tie.Need-same-length-2
+same-length-2 c = search needs
+
+returns-2 : tie.Need-returns-2
+returns-2 c = by-decision _ _ _ _ _ _ _ (c .before .before .before .before .if1 .left) (c .before .before .abort-decided .ensures)
+
+pub decide-pages-spec : {M : Type 1} → statement M
+decide-pages-spec =
+    tie.close
+    (tie.spec
+    commit-decided-requires
+    same-length
+    returns
+    abort-decided-requires
+    same-length-2
+    returns-2)

@@ -1,0 +1,33 @@
+-- 1 where the test holds, else 0.
+use mathlib.Core.Path.{_≡_, refl, sym, ap, subst⁻¹, _∙_}
+use mathlib.Core.Bool.{Bool, true, false, not, _&&_}
+use mathlib.Core.List.{List}
+use Prim.Native.Nat.{ℕ, _-_, _<_, _≤_}
+use native.Mathlib.Omega.{arith}
+use lib.ListN.{length, getD}
+use mathlib.Core.Bool.{cond}
+use Rattle.laws.specs.Tests.{same}
+use Rattle.decisions.proofs.Decisions.{query-steps}
+use borrow.Author.Needs.{needs}
+use Rattle.decisions.proofs.query_event.Statement.{statement}
+use Rattle.decisions.proofs.query_event.Tie as tie
+use Rattle.decisions.proofs.query_event.Reads as reads
+use Rattle.decisions.proofs.query_event.Lts as lts
+use Rattle.decisions.proofs.is_for.Reads as is-for-reads
+
+is-for-requires : tie.Need-is-for-requires
+is-for-requires c κs = search needs
+
+returns : tie.Need-returns
+returns c = λ x I u H. query-steps x I u _ _ _ H _ (c .before .is-for .ensures) 1 (ap (λ (b : Bool). cond b 1 0) (c .if1 .taken))
+
+returns-2 : tie.Need-returns-2
+returns-2 c = λ x I u H. query-steps x I u _ _ _ H _ (c .before .is-for .ensures) 0 (ap (λ (b : Bool). cond b 1 0) (c .if1 .left))
+
+pub query-event-spec : {M : Type 1} → statement M
+query-event-spec =
+    tie.close
+    (tie.spec
+    is-for-requires
+    returns
+    returns-2)

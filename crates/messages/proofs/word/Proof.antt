@@ -1,0 +1,20 @@
+-- Yes is 1, no is 2.
+use mathlib.Core.Path.{_≡_, refl, sym, ap, _∙_}
+use Rattle.agreement.specs.Messages.{inputOf}
+use Rattle.messages.specs.Codes.{messageCode}
+use Rattle.messages.specs.Votes.{said}
+use Rattle.messages.proofs.word.Statement.{statement}
+use Rattle.messages.proofs.word.Tie as tie
+use Rattle.messages.proofs.word.Reads as reads
+use Rattle.messages.proofs.word.Lts as lts
+
+returns : tie.Need-returns
+unfolding said inputOf messageCode
+returns c = rw (c .if1 .taken) refl
+
+returns-2 : tie.Need-returns-2
+unfolding said inputOf messageCode
+returns-2 c = rw (c .if1 .left) refl
+
+pub word-spec : {M : Type 1} → statement M
+word-spec = tie.close (tie.spec returns returns-2)
