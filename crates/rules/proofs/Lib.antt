@@ -7,6 +7,7 @@ pub mod Medium
 pub mod Tree
 pub mod Bearers
 pub mod Grades
+pub mod Modes
 pub mod Acceptance
 pub mod Locks
 pub mod Owners
