@@ -34,6 +34,7 @@ pub mod Writable
 pub mod AtomicCommits
 pub mod AtomicPrepares
 pub mod AtomicDecides
+pub mod Uncut
 pub mod AtomicPages
 pub mod Words
 pub mod Event
