@@ -74,22 +74,37 @@ const RECOVER: [u8; WORD] = [0x80, 0, 63, 0];
 
 /// Finds the serial list of a run, whose history this is.
 pub fn serial(history: &History, events: &[u8], answers: &[u8]) -> Serial {
-    let tops = (0..history.transactions.len()).filter(|place| history.transactions[*place].parent.is_none());
-    let mut turns: Vec<Turn> = tops
-        .filter(|top| history.transactions[*top].survives)
-        .filter_map(|top| stored(history, top).map(|stored| (top, stored)))
-        .map(|(top, stored)| Turn { transaction: Some(top), stored, events: Vec::new() })
-        .collect();
-    turns.extend(history.decided_before.map(|decision| Turn {
-        transaction: None,
-        stored: decision.at,
-        events: Vec::new(),
-    }));
-    turns.sort_by_key(|turn| turn.stored);
-    for turn in &mut turns {
-        turn.events = placed(history, events, answers, turn);
+    let mut turns = turns(history);
+    let by_top: BTreeMap<_, _> = turns.iter().enumerate().map(|(turn, of)| (of.transaction, turn)).collect();
+    let by_last: BTreeMap<_, _> = turns.iter().enumerate().map(|(turn, of)| (of.stored, turn)).collect();
+    let mut numbers = vec![Numbers::default(); turns.len()];
+    for (at, (bytes, answer)) in events.chunks_exact(WORD).zip(answers.chunks_exact(2)).enumerate() {
+        let word = Word::of(bytes);
+        let accepted = answer[0] == 0 || answer[0] == 11;
+        let owner = history.owner[at].filter(|owner| accepted && history.transactions[*owner].survives);
+        let turn = match owner {
+            Some(owner) => by_top.get(&history.line(owner).last()),
+            None => by_last.get(&at).filter(|_| word.kind == Kind::Decide),
+        };
+        if let Some(turn) = turn {
+            let (number, value) = owner.map_or((None, None), |owner| numbers[*turn].event(history, &word, owner));
+            let value = if word.kind == Kind::Read { Some(answer[1]) } else { value };
+            turns[*turn].events.push(Placed { at, word: word.again(bytes, number), value });
+        }
     }
     Serial { turns }
+}
+
+/// The turns, still without their events.
+fn turns(history: &History) -> Vec<Turn> {
+    let tops = history.transactions.iter().enumerate();
+    let survivors = tops.filter(|(_, told)| told.survives && told.parent.is_none());
+    let last = survivors.filter_map(|(top, _)| stored(history, top).map(|stored| (Some(top), stored)));
+    let last = last.chain(history.decided_before.map(|decision| (None, decision.at)));
+    let mut turns: Vec<Turn> =
+        last.map(|(transaction, stored)| Turn { transaction, stored, events: Vec::new() }).collect();
+    turns.sort_by_key(|turn| turn.stored);
+    turns
 }
 
 /// Where the commit record of a surviving top transaction was written: at its commit, or at the decision
@@ -103,41 +118,24 @@ fn stored(history: &History, top: usize) -> Option<usize> {
     }
 }
 
-/// The events of a turn. Nothing else is live then, so that its begins get the lowest numbers of its own.
-fn placed(history: &History, events: &[u8], answers: &[u8], turn: &Turn) -> Vec<Placed> {
-    let mut numbers = BTreeMap::new();
-    let mut placed = Vec::new();
-    for (at, (bytes, answer)) in events.chunks_exact(WORD).zip(answers.chunks_exact(2)).enumerate() {
-        let word = Word::of(bytes);
-        let ours = history.owner[at].filter(|owner| {
-            let accepted = answer[0] == 0 || answer[0] == 11;
-            let top = history.line(*owner).last();
-            accepted && history.transactions[*owner].survives && top == turn.transaction
-        });
-        let mut value = None;
-        if let Some(owner) = ours {
-            match word.kind {
-                Kind::Begin => {
-                    let free = (0u8..).find(|number| !numbers.values().any(|taken| taken == number));
-                    value = free;
-                    numbers.extend(free.map(|free| (owner, free)));
-                }
-                Kind::Read => value = Some(answer[1]),
-                _ => {}
-            }
-            let number = match word.kind {
-                Kind::Begin => history.transactions[owner].parent.map(|parent| numbers[&parent]),
-                _ => numbers.get(&owner).copied(),
-            };
-            placed.push(Placed { at, word: word.again(bytes, number), value });
-            if matches!(word.kind, Kind::Commit | Kind::Prepare) {
-                numbers.remove(&owner);
-            }
-        } else if word.kind == Kind::Decide && at == turn.stored {
-            placed.push(Placed { at, word: word.again(bytes, None), value });
+/// The numbers of a turn's live transactions. Nothing else is live then, so that its begins get the lowest
+/// that none of them bears.
+#[derive(Clone, Default)]
+struct Numbers(BTreeMap<usize, u8>);
+
+impl Numbers {
+    /// The number that an event names now, and what a begin has to be answered.
+    fn event(&mut self, history: &History, word: &Word, owner: usize) -> (Option<u8>, Option<u8>) {
+        if word.kind == Kind::Begin {
+            let parent = history.transactions[owner].parent.and_then(|parent| self.0.get(&parent).copied());
+            let free = (0u8..).find(|number| !self.0.values().any(|taken| taken == number));
+            self.0.extend(free.map(|free| (owner, free)));
+            return (parent, free);
         }
+        let ends = matches!(word.kind, Kind::Commit | Kind::Prepare);
+        let number = if ends { self.0.remove(&owner) } else { self.0.get(&owner).copied() };
+        (number, None)
     }
-    placed
 }
 
 impl Serial {

@@ -39,13 +39,18 @@ pub fn check(program: Program, case: &Case) -> Result<(Played, Serial), Fault> {
 pub fn holds(program: Program, case: &Case) -> Result<Played, String> {
     match check(program, case) {
         Ok((played, _)) => Ok(played),
-        Err(_) => Err(told(program, case.clone())),
+        Err(_) => Err(told(program, case.clone(), |_| true)),
     }
 }
 
-/// A failing case, made small and told in words, with its serial list.
-pub fn told(program: Program, case: Case) -> String {
-    let small = minimise(case, |case| check(program, case).is_err());
+/// Whether a case isn't as if one transaction came at a time, though its answers tell a history.
+pub fn is_serial(fault: &Fault) -> bool {
+    matches!(fault, Fault::Serial(_))
+}
+
+/// A failing case, made small as long as it fails so, and told in words, with its serial list.
+pub fn told(program: Program, case: Case, so: fn(&Fault) -> bool) -> String {
+    let small = minimise(case, |case| check(program, case).is_err_and(|fault| so(&fault)));
     let Err(fault) = check(program, &small) else { return "the failure doesn't come again".to_string() };
     let mut text = report::tell(&small, &fault, program, Program::Player);
     let played = program.play(&small, 0x5A);

@@ -1,14 +1,14 @@
 //! As if one transaction came at a time: the serial list of random and of all short lists, played on the
 //! library, and that this finds wrong programs by itself.
 
-use nekahuiro_history::{serial, tell, Serial};
+use nekahuiro_history::{serial, tell, Serial, Unlike};
 use nekahuiro_lists::{stores, worked, Rng};
 use nekahuiro_player::planted::Bug;
 use nekahuiro_trials::exhaustive::{
     Choice, Family, BESIDE, BESIDE_PREFIX, CONTENDED, CRASHING, PREPARING, REPORTED, SHARED, SHARED_PREFIX,
 };
-use nekahuiro_trials::serial::{check, check_cut, holds, told, Tally};
-use nekahuiro_trials::{listed, portions, random, settings, Case, Program};
+use nekahuiro_trials::serial::{check, check_cut, holds, is_serial, told, Tally};
+use nekahuiro_trials::{listed, portions, random, settings, Case, Fault, Program};
 
 /// The serial list of a list over a store, event by event: where it stood, and how it is played.
 fn replayed(store: stores::Bytes, list: &str) -> Vec<(usize, String)> {
@@ -122,7 +122,9 @@ fn random_lists() {
     let (tally, lists) = (Tally::default(), settings::lists() / 4);
     let failure = portions::share(lists, |number| {
         let case = random::case(settings::seed() ^ 0x14, number);
-        check(Program::Engine, &case).map(|(_, serial)| tally.add(&serial)).map_err(|_| told(Program::Engine, case))
+        check(Program::Engine, &case)
+            .map(|(_, serial)| tally.add(&serial))
+            .map_err(|_| told(Program::Engine, case, |_| true))
     });
     println!("random lists, one transaction at a time: {}", tally.text());
     assert_eq!(failure, None, "seed {}", settings::seed());
@@ -163,23 +165,42 @@ fn every_short_list() {
     }
 }
 
+/// What a child read stays as it is until its top transaction ends: else a stranger that commits meanwhile
+/// comes first, and the child would read what that one wrote.
+#[test]
+fn who_retains_to_read_keeps_writers_out() {
+    let list = "recover 63, begin none, begin 0, read-lock 1 3, read 1 3 0, commit 1 63, begin none, lock 1 3, \
+        write 1 3 0 09, commit 1 63, begin 0, read-lock 1 3, read 1 3 0, commit 1 63, commit 0 63";
+    let case = Case { store: stores::fresh(), events: listed::words(list) };
+    let fault = check(Program::Planted(Bug::WriteBlindToReadRetainers), &case).err();
+    assert_eq!(fault, Some(Fault::Serial(Unlike::Value { at: 4, due: 0, found: 9 })));
+    assert!(check(Program::Engine, &case).is_ok());
+}
+
 /// Each program is compared with itself only.
 #[test]
 fn one_transaction_at_a_time_alone_finds_wrong_programs() {
     for bug in [
         Bug::GrantBlindToRetainers,
+        Bug::CutOffByOne,
         Bug::ChildCommitFreesLocks,
+        Bug::HomeBeforeCommitPage,
         Bug::EmptiedTooEarly,
         Bug::AbortRestoresHome,
+        Bug::RetainerNeedsNoLock,
+        Bug::ReadOverWriteHolder,
         Bug::WriteUnderReadLock,
+        Bug::ReportKeepsVersions,
+        Bug::ReportLetsParentHold,
+        Bug::CrashFreesPrepared,
         Bug::CommitBesidePrepared,
-        Bug::DecisionForAnother,
-        Bug::RecoverEmptiesPrepared,
+        Bug::AbortDecisionWritesHome,
+        Bug::CommitDecisionLeavesPage,
     ] {
         let program = Program::Planted(bug);
         let found = (0..200_000).find_map(|number| {
             let case = random::case(settings::seed(), number);
-            check(program, &case).is_err().then(|| told(program, case))
+            check(program, &case).is_err_and(|fault| is_serial(&fault)).then(|| told(program, case, is_serial))
         });
         let text = found.unwrap_or_else(|| panic!("{bug:?} was not found in 200,000 lists"));
         println!("{bug:?} was found by one transaction at a time:\n{text}");
