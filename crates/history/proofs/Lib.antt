@@ -21,4 +21,5 @@ pub mod Claims
 pub mod Joined
 pub mod Called
 pub mod Trials
+pub mod EntryTrials
 pub mod Example
