@@ -27,16 +27,16 @@ module _ (f : Form) (M : MediumLaws (f .geometry) (f .medium)) {X : Type 0} (vie
   found s = true
 
   module _ (x : X) (cs : List (Call X)) (S : Starts f view bytes proper x) (P : AllPromised f view bytes proper x cs) where
-    as-chain : AsChain f M view bytes proper x cs (chainFrom f found (bytes x) (lents cs))
+    pub as-chain : AsChain f M view bytes proper x cs (chainFrom f found (bytes x) (lents cs))
     unfolding chainFrom
     as-chain = subst (λ (s : StateOf f). AsChain f M view bytes proper x cs (chain f found s (bytes x) (lents cs))) (S .at-start)
         (calls-chain f M view bytes proper x cs P (S .written) (subst⁻¹ (λ (s : StateOf f). Carried f M s (bytes x)) (S .at-start) (carried-start f M (bytes x) (S .sized))))
 
-    rows-called : rowsCalled f cs ≡ rowsJoined f found (bytes x) (lents cs)
+    pub rows-called : rowsCalled f cs ≡ rowsJoined f found (bytes x) (lents cs)
     unfolding rowsCalled rowsJoined
     rows-called = ap₂ rows (as-chain .same-joined) (as-chain .same-answers)
 
-    settled-called : (r : ℕ) → settledIn f (bytes (left x cs)) r ≡ settledIn f (chainFrom f found (bytes x) (lents cs) .store) r
+    pub settled-called : (r : ℕ) → settledIn f (bytes (left x cs)) r ≡ settledIn f (chainFrom f found (bytes x) (lents cs) .store) r
     settled-called r = ap (λ (bs : List ℕ). settledIn f bs r) (as-chain .same-store)
 
   -- DEMAND 3, of the calls

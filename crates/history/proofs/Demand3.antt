@@ -39,15 +39,21 @@ module _ (f : Form) where
   unfolding runRefusals
   none-sized store events work answers q = same-eq (length store) (f .medium .size) (not-false _ (pass 22 (not (same (length store) (f .medium .size))) _ q .0))
 
-  -- a run that is played has a store of the right length, and plays all its events
-  plays-all : (store events work answers : List ℕ) → Plays f store events work answers → (run f store events work answers ≡ runAll f store events answers) × (length store ≡ f .medium .size)
+  -- a run that is played is refused with nothing
+  pub plays-none : (store events work answers : List ℕ) → Plays f store events work answers → firstOf (runRefusals f store events work answers) ≡ none
   unfolding Plays run runBy
-  plays-all store events work answers h = go (firstOf (runRefusals f store events work answers)) refl h
+  plays-none store events work answers h = go (firstOf (runRefusals f store events work answers)) refl h
     where
-      go : (o : Option ℕ) → firstOf (runRefusals f store events work answers) ≡ o → runBy f store events answers o .answer ≡ 0
-          → (runBy f store events answers (firstOf (runRefusals f store events work answers)) ≡ runAll f store events answers) × (length store ≡ f .medium .size)
-      go none q h = (ap (runBy f store events answers) q, none-sized store events work answers q)
+      go : (o : Option ℕ) → firstOf (runRefusals f store events work answers) ≡ o → runBy f store events answers o .answer ≡ 0 → firstOf (runRefusals f store events work answers) ≡ none
+      go none q h = q
       go (some n) q h = absurd (not-zero store events work answers (q ∙ ap some h))
+
+  -- it has a store of the right length, and plays all its events
+  pub plays-all : (store events work answers : List ℕ) → Plays f store events work answers → (run f store events work answers ≡ runAll f store events answers) × (length store ≡ f .medium .size)
+  unfolding run runBy
+  plays-all store events work answers h =
+      let q = plays-none store events work answers h in
+      (ap (runBy f store events answers) q, none-sized store events work answers q)
 
 -- where none is prepared in the start store the history begins with nothing, and demand 3 says what it says without prepared transactions
 pub plain-store : (f : Form) → MediumLaws (f .geometry) (f .medium) → (store : List ℕ) → f .medium .prepared (f .medium .fromBytes store) ≡ none → startOf f store ≡ nothingYet
@@ -69,7 +75,7 @@ module _ (f : Form) (M : MediumLaws (f .geometry) (f .medium)) where
     reached : Reached f M (start store)
     reached = reached-start f M store (plays-all f store events work answers P .1)
 
-    rows-of : rowsOf f store events work answers ≡ rowsFrom f (start store) (wordsOf events)
+    pub rows-of : rowsOf f store events work answers ≡ rowsFrom f (start store) (wordsOf events)
     unfolding rowsOf runAll
     rows-of = rw (plays-all f store events work answers P .0) (rows-are f (start store) (wordsOf events) (drop (2 * eventsIn f events) answers))
 
@@ -77,7 +83,7 @@ module _ (f : Form) (M : MediumLaws (f .geometry) (f .medium)) where
     unfolding historyOf
     history-of = rw rows-of
 
-    settled-at-end : (r : ℕ) → settledIn f (run f store events work answers .store) r ≡ f .medium .settled (play f (start store) (wordsOf events) .state .store) r
+    pub settled-at-end : (r : ℕ) → settledIn f (run f store events work answers .store) r ≡ f .medium .settled (play f (start store) (wordsOf events) .state .store) r
     unfolding settledIn runAll
     settled-at-end r = rw (plays-all f store events work answers P .0)
         (ap (λ (s : f .medium .Store). f .medium .settled s r) (M .from-to _ (reached-play f M (start store) reached (wordsOf events) .shaped)))

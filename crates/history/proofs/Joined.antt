@@ -44,7 +44,7 @@ module _ (f : Form) (M : MediumLaws (f .geometry) (f .medium)) (sound : StateOf 
       abbrev c : Chain f
       c = chainFrom f sound store ls
 
-      rows-joined : rowsJoined f sound store ls ≡ rowsFrom f s₀ (c .joined)
+      pub rows-joined : rowsJoined f sound store ls ≡ rowsFrom f s₀ (c .joined)
       unfolding rowsJoined chainFrom
       rows-joined = ap (rows (c .joined)) (whole ls .answers) ∙ rows-played f s₀ (c .joined)
 
@@ -60,7 +60,7 @@ module _ (f : Form) (M : MediumLaws (f .geometry) (f .medium)) (sound : StateOf 
       unfolding chainFrom
       carried-joined = whole ls .carried
 
-      settled-joined : (r : ℕ) → settledIn f (c .store) r ≡ f .medium .settled (stateAfter f store (c .joined) .store) r
+      pub settled-joined : (r : ℕ) → settledIn f (c .store) r ≡ f .medium .settled (stateAfter f store (c .joined) .store) r
       settled-joined r = chain-settled (c .state) (c .store) carried-joined r ∙ ap (λ (s : StateOf f). f .medium .settled (s .store) r) state-joined
 
     -- the central law

@@ -13,8 +13,13 @@ pub mod Fair
 pub mod Twins
 pub mod TwoRuns
 pub mod Demand3
+pub mod Entries
+pub mod Tops
+pub mod Awaiting
+pub mod Holder
 pub mod Claims
 pub mod Joined
 pub mod Called
 pub mod Trials
+pub mod EntryTrials
 pub mod Example

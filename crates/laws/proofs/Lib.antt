@@ -9,4 +9,5 @@ pub mod Those
 pub mod Bytes
 pub mod Updated
 pub mod All
+pub mod Counts
 pub mod Compared

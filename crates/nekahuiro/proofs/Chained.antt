@@ -24,6 +24,8 @@ use Rattle.rules.proofs.CutLists.{empty-portion, fits-passes, portions-whole-ed
 use Rattle.rules.proofs.Calls.{AsChain, calls-chain}
 use Rattle.history.specs.Called.{Starts, Demand-3-called-holds}
 use Rattle.history.proofs.Called.{demand-3-called}
+use Rattle.serial.specs.Called.{One-call-at-a-time-holds}
+use Rattle.serial.proofs.Called.{one-call-at-a-time-edition1}
 use Rattle.events.specs.Whole as events
 use Rattle.crashes.proofs.Falls.{zeros-down, zeros-formed}
 use Rattle.engine.proofs.ByKind.{laws1, shaped-of}
@@ -186,10 +188,12 @@ module _ (work store : List ℕ) (cs : List (Call Kept)) (F : FromStart work sto
       (calls-chain edition1 laws1 view bytes Proper x cs (F .calls) (start .written) carried)
 
   pub called-well : Called-well work store cs
-  unfolding Demand-3-called-holds
+  unfolding Demand-3-called-holds One-call-at-a-time-holds
   called-well = record {
     never-25 = ap (mem 25) (as-chain .same-results) ∙ portions.never-25-start edition1 laws1 found (λ s S. refl) store (lents cs) (start .sized);
     demand-3 = demand-3-called edition1 laws1 view bytes Proper x cs start (F .calls);
+    one-at-a-time = λ work′ ds F′ again. one-call-at-a-time-edition1 view bytes Proper x cs start (F .calls)
+        (kept zeros work′ store) ds (starts work′ store (F′ .works) (F′ .stores)) (F′ .calls) refl again;
   }
 
   module _ (A : AllFit edition1 (lents cs)) (one : Call Kept) (joined : one .lent .events ≡ allEvents (lents cs)) (fits : Fits edition1 (one .lent))
@@ -244,7 +248,7 @@ module _ (work store : List ℕ) (cs : List (Call Kept)) (F : FromStart work sto
       same-state = states;
     }
 
--- none is refused with 25, and demand 3 holds over the joined list
+-- none is refused with 25, and over the joined list demand 3 holds, and all is as if one transaction came at a time
 pub calls-hold : Calls-hold
 unfolding Calls-hold
 calls-hold work store cs F = called-well work store cs F

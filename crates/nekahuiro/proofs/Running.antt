@@ -1,4 +1,4 @@
--- What a run leaves that is refused or played; demand 3 of it.
+-- What a run leaves that is refused or played; demand 3 of it, and that it can be played one transaction at a time.
 use mathlib.Core.Path.{_≡_, refl, sym, ap, _∙_}
 use mathlib.Core.List.{List, _++_}
 use mathlib.Core.Logic.{_≢_}
@@ -13,6 +13,8 @@ use Rattle.rules.specs.Run.{runRefusals, runAll, runBy, run, eventsIn, words, p
 use Rattle.rules.specs.Editions.{geometry1, edition1}
 use Rattle.history.specs.Demand3.{Demand-3, Demand-3-holds, Plays}
 use Rattle.history.proofs.Demand3.{demand-3-edition1}
+use Rattle.serial.specs.OneAtATime.{One-run-at-a-time, One-run-at-a-time-holds}
+use Rattle.serial.proofs.Runs.{one-run-at-a-time-edition1}
 use Rattle.events.specs.Whole.{Arrays, view}
 use Rattle.portions.specs.Portion.{whole, played, Portion}
 use Rattle.portions.specs.declared.Engine.{Engine}
@@ -59,6 +61,11 @@ ran-demand : {store events work answers store′ work′ answers′ : List ℕ} 
 unfolding Demand-3-holds Plays
 ran-demand R z = demand-3-edition1 _ _ _ _ (sym (R .answered) ∙ z)
 
+-- ONE TRANSACTION AT A TIME, of a run that is played
+ran-serial : {store events work answers store′ work′ answers′ : List ℕ} {n : ℕ} → Ran store events work answers n store′ work′ answers′ → n ≡ 0 → One-run-at-a-time edition1 store events work answers
+unfolding One-run-at-a-time-holds Plays
+ran-serial R z = one-run-at-a-time-edition1 _ _ _ _ (sym (R .answered) ∙ z)
+
 pub signed : {store events work answers store′ work′ answers′ : List ℕ} {n : ℕ} → Ran store events work answers n store′ work′ answers′
-    → Ran store events work answers n store′ work′ answers′ × (n ≡ 0 → Demand-3 edition1 store events work answers)
-signed R = (R, ran-demand R)
+    → Ran store events work answers n store′ work′ answers′ × ((n ≡ 0 → Demand-3 edition1 store events work answers) × (n ≡ 0 → One-run-at-a-time edition1 store events work answers))
+signed R = (R, (ran-demand R, ran-serial R))

@@ -8,9 +8,11 @@ use Rattle.rules.specs.State.{mem}
 use Rattle.rules.specs.Run.{eventsIn, run}
 use Rattle.rules.specs.Sound.{Sound}
 use Rattle.rules.specs.Portion.{allEvents, allZero, AllFit, Fits}
-use Rattle.rules.specs.Calls.{Call, lents, results, left, answersOf, Promised, AllPromised}
+use Rattle.rules.specs.Calls.{Call, lents, results, left, joinedOf, answersOf, Promised, AllPromised}
 use Rattle.rules.specs.Editions.{edition1, workBytes}
-use Rattle.history.specs.Called.{Demand-3-called}
+use Rattle.history.specs.Called.{rowsCalled, Demand-3-called}
+use Rattle.serial.specs.OneAtATime.{replay}
+use Rattle.serial.specs.Called.{One-call-at-a-time}
 use Rattle.nekahuiro.specs.Portions.{Kept, kept, view, bytes, Proper, zeros}
 
 -- A CALL SINGLES OUT its answer and every byte but those of the working buffer: two calls on x with the same buffers.
@@ -43,10 +45,13 @@ pub record FromStart (work store : List ℕ) (cs : List (Call Kept)) : Type 0 wh
   pub works : length work ≡ workBytes
   pub calls : AllPromised edition1 view bytes Proper (kept zeros work store) cs
 
--- what holds of them: none is refused with 25, and demand 3 over the joined list
+-- what holds of them: none is refused with 25, and over the joined list demand 3 and that all is as if one transaction came at a time
 pub record Called-well (work store : List ℕ) (cs : List (Call Kept)) : Type 0 where
   pub never-25 : mem 25 (results cs) ≡ false
   pub demand-3 : Demand-3-called edition1 view bytes Proper (kept zeros work store) cs
+  -- other calls, whose joined list is the replay
+  pub one-at-a-time : (work′ : List ℕ) (ds : List (Call Kept)) → FromStart work′ store ds → joinedOf edition1 ds ≡ replay edition1 store (rowsCalled edition1 cs)
+      → One-call-at-a-time edition1 view bytes Proper (kept zeros work store) cs (kept zeros work′ store) ds
 
 unfoldable pub Calls-hold : Type 0
 Calls-hold = (work store : List ℕ) (cs : List (Call Kept)) → FromStart work store cs → Called-well work store cs

@@ -8,6 +8,7 @@ ghost use Rattle.rules.specs.Run.{layFresh};
 ghost use Rattle.rules.specs.Age.{ageOf};
 ghost use Rattle.rules.specs.Editions.{edition1, workBytes};
 ghost use Rattle.history.specs.Demand3.{Demand-3};
+ghost use Rattle.serial.specs.OneAtATime.{One-run-at-a-time};
 ghost use Rattle.records.specs.Ages.{ageNumber, ageLeft};
 ghost use Rattle.nekahuiro.specs.Running.{Ran};
 ghost use Rattle.nekahuiro.specs.Portions.{Kept, kept, Portioned-as};
@@ -58,7 +59,8 @@ pub extern "C" fn nekahuiro_age(
 }
 
 // Runs a list of events on a store, with an answer of two bytes for each. 0, or a refusal's number: 22, 24, 20 or 21, in this order, and then
-// touches no buffer. Of a run that is played demand 3 holds: it speaks of `run edition1`, which is what this function leaves.
+// touches no buffer. Of a run that is played demand 3 holds, and that it can be played one transaction at a time: both speak of `run edition1`,
+// which is what this function leaves.
 #[no_mangle]
 pub extern "C" fn nekahuiro_run(
     store: &mut [u8],
@@ -68,6 +70,7 @@ pub extern "C" fn nekahuiro_run(
 ) -> u8
     ensures { λ r. ⌜ Ran (now (store .entry)) (now (events .entry)) (now (work .entry)) (now (answers .entry)) r (now (store .exit)) (now (work .exit)) (now (answers .exit)) ⌝ }
     ensures { λ r. ⌜ (r ≡ 0 → Demand-3 edition1 (now (store .entry)) (now (events .entry)) (now (work .entry)) (now (answers .entry))) ⌝ }
+    ensures { λ r. ⌜ (r ≡ 0 → One-run-at-a-time edition1 (now (store .entry)) (now (events .entry)) (now (work .entry)) (now (answers .entry))) ⌝ }
 {
     let n = lengths::refusal(store.len(), events.len(), work.len(), answers.len());
     if n != 0 {

@@ -12,6 +12,7 @@ use Rattle.rules.proofs.Pages.{Sized, flat-pagesOf, pagesOf-flat, pages
 use Rattle.rules.proofs.AtomicCommits.{commit-sized, commit-crash, recover-sized, unidentified, pending-below, emptied-unprepared, commit-kept, commit-lost, commit-whole, recover-whole, recover-keeps, Agree, agree-recover, clear-kept, clear-lost, clear-whole, clear-unmoved, agree-commit, recover-calm, recover-unmoved, home-calm}
 use Rattle.rules.proofs.AtomicPrepares.{prepare-sized, prepare-idle, prepare-keeps, prepare-calm, prepare-taken, prepare-unmoved, agree-prepare}
 use Rattle.rules.proofs.AtomicDecides.{decide-sized, decide-first, decide-ended, decide-settled, decide-whole, agree-shape, agree-decide}
+use Rattle.rules.proofs.Uncut.{commits-uncut, recovers-uncut, prepares-uncut, decides-uncut, pending-some}
 
 module _ (g : Geometry) where
   module _ (proper : Proper g) where
@@ -48,6 +49,11 @@ module _ (g : Geometry) where
       decide-settled = decide-settled g proper;
       decide-whole = decide-whole g proper;
       decide-shaped = λ s d k S. decide-sized g proper s d k S;
+      prepared-some = pending-some g proper;
+      commit-uncut = commits-uncut g proper;
+      recover-uncut = recovers-uncut g proper;
+      prepare-uncut = prepares-uncut g proper;
+      decide-uncut = decides-uncut g proper;
       Agree = Agree g proper;
       agree-refl = λ s. (refl, λ r. refl);
       agree-settled = λ s c A r. A .1 r;

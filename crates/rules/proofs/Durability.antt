@@ -9,21 +9,20 @@ use Prim.Native.Nat.{ℕ, zero, suc, _+_, _*_, _<_}
 use native.Mathlib.Omega.{arith}
 use Rattle.laws.specs.Tests.{same, under}
 use Rattle.laws.specs.Counting.{count}
-use Rattle.laws.proofs.Tests.{ne-false, Is, is?, yes′, no′, under-lt, lt-under}
-use Rattle.laws.proofs.Those.{count-zero}
+use Rattle.laws.proofs.Tests.{ne-false, Is, is?, yes′, no′, under-lt}
 use Rattle.laws.proofs.Booleans.{or-left}
 use Rattle.rules.specs.Geometry.{Geometry, Proper, records}
-use Rattle.rules.specs.Store.{Page, Pages, readCommit, isDamaged, damaged, emptied, Prepared, readPrepared, preparedMap, isReserved, settled}
+use Rattle.rules.specs.Store.{Page, Pages, damaged, emptied, Prepared, readPrepared, isReserved, settled}
 use Rattle.rules.specs.Versions.{else}
 use Rattle.rules.specs.Commit.{Cut, commitAt, recoverAt, prepareAt, decideAt}
 use Rattle.rules.specs.Form.{atomicPages}
 use Rattle.rules.proofs.Medium.{changedIn, stored, Ranged, isClear, MediumLaws}
-use Rattle.rules.proofs.Map.{mapOf-lt, names-none}
-use Rattle.rules.proofs.PreparedPage.{prepared-is}
+use Rattle.rules.proofs.Map.{mapOf-lt}
 use Rattle.rules.proofs.Cuts.{commitDue, recoverDue, broken, commit-readable, recover-readable}
 use Rattle.rules.proofs.AtomicCommits.{madeOf, namedIn, commit-made, commit-crashed, commit-page, recover-made, recover-crashed, recover-page}
 use Rattle.rules.proofs.Prepares.{prepareDue, ruled, ruled-count, commits-first, commits-then, aborts-first, aborts-then}
 use Rattle.rules.proofs.AtomicPrepares.{prepare-made, prepare-crashed}
+use Rattle.rules.proofs.Uncut.{reservedIn, some-reserved}
 use Rattle.rules.proofs.AtomicPages.{atomic-laws}
 
 -- made of a list of writes that was cut, or wasn't
@@ -64,10 +63,6 @@ module _ (g : Geometry) where
   recover-cut s k e =
       let c = cut-made k (recoverDue (namedIn g s)) (sym (recover-crashed g s k) ∙ e) in (recover-made g s k ∙ c .0, c .1)
 
-  -- how many records the prepared transaction changed
-  unfoldable pub reservedIn : Pages → ℕ
-  reservedIn s = count (records g) (isReserved g s)
-
   module _ (proper : Proper g) where
     -- a prepare of n records that is not cut takes n + 1 page writes, or none for no record; one that is cut at k makes exactly k, fewer than it should
     pub prepare-due : (s : Pages) (v : ℕ → Option Page) (i k : ℕ) → prepareAt g s v i k .crashed ≡ false
@@ -83,14 +78,7 @@ module _ (g : Geometry) where
 
     -- a decision on n records that is not cut takes n + 2 page writes to commit, 1 to abort
     module _ (s : Pages) (p : Prepared) (here : readPrepared g (s 0) ≡ some p) where
-      -- it changed some record
-      pub some-reserved : reservedIn s ≢ 0
-      unfolding reservedIn isReserved preparedMap
-      some-reserved e =
-          let S = prepared-is g (s 0) p here .1 in
-          S .some-record (names-none g (p .map) (S .map-fits) (λ r h. rw (lt-under r (records g) h, here) at (count-zero (records g) (isReserved g s) e r h)))
-
-      pub commit-decision-due : (k : ℕ) → decideAt g s true k .crashed ≡ false → decideAt g s true k .made ≡ reservedIn s + 2
+      pub commit-decision-due : (k : ℕ) → decideAt g s true k .crashed ≡ false → decideAt g s true k .made ≡ reservedIn g s + 2
       unfolding reservedIn namedIn recoverDue
       commit-decision-due zero e = absurd (true≢false (sym (ap (λ (c : Cut Pages). c .crashed) (commits-first g proper s p here)) ∙ e))
       commit-decision-due (suc k) e =
@@ -98,7 +86,7 @@ module _ (g : Geometry) where
           let q = commits-then g proper s p here k in
           let d = recover-due x k (sym (ap (λ (c : Cut Pages). c .crashed) q) ∙ e) in
           ap (λ (c : Cut Pages). c .made) q
-          ∙ ap suc (d ∙ ap (λ (m : ℕ). cond (same m 0) 0 (m + 1)) (ruled-count g proper s p here) ∙ rw (ne-false (count (records g) (isReserved g s)) 0 some-reserved))
+          ∙ ap suc (d ∙ ap (λ (m : ℕ). cond (same m 0) 0 (m + 1)) (ruled-count g proper s p here) ∙ rw (ne-false (count (records g) (isReserved g s)) 0 (some-reserved g proper s p here)))
           ∙ more (count (records g) (isReserved g s))
         where
           more : (m : ℕ) → suc (m + 1) ≡ m + 2

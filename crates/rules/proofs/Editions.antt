@@ -12,4 +12,5 @@ proper1 = record {
   page-fits = le-by-compare 29 256 tt;
   joint-fits = λ e. le-by-compare 29 32 tt;
   word-whole = refl;
+  count-wide = le-by-compare 35 64 tt;
 }

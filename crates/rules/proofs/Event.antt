@@ -1,5 +1,5 @@
 -- Event words and events: what is encoded decodes to itself, what decodes fits its word and encodes to it again.
-use mathlib.Core.Path.{_≡_, refl, sym, _∙_, ap, subst}
+use mathlib.Core.Path.{_≡_, refl, sym, _∙_, ap, subst, subst⁻¹}
 use mathlib.Core.Bool.{Bool, true, false, cond, _&&_, _||_, false≢true}
 use mathlib.Core.Option.{Option, none, some}
 use Prim.Native.Nat.{ℕ, zero, suc, _*_, _^_, _<_}
@@ -11,7 +11,7 @@ use Rattle.laws.proofs.Booleans.{both}
 use Rattle.rules.specs.Geometry.{Geometry, Proper, records, wordSize, pageSize}
 use Rattle.rules.specs.Event.{Access, toWrite, toRead, Event, begin, lock, write, read, commit, abort, crash, recover, prepare, decide, query, Fields, fields, wellFormed, accessOf, accessValue, reportOf, reportValue, decisionOf, decisionOffset, eventOf, decode, encode, fits, open-event}
 use Rattle.rules.proofs.JointKinds.{decide-offset}
-use Rattle.rules.proofs.Words.{of, Bounded, wordOf, fields-bounded, fields-word, word-fields}
+use Rattle.rules.proofs.Words.{of, Bounded, wordOf, fields-bounded, fields-word, word-fields, word-small}
 
 -- the event that fields stand for
 judged : Geometry → Fields → Option Event
@@ -351,3 +351,7 @@ module _ (g : Geometry) where
   encode-decode proper w e small h =
       let same-fields = decode-fields w e h in
       encode-is g e ∙ ap (wordOf g) (sym same-fields) ∙ word-fields g proper w small (ap (λ (f : Fields). f .spare) same-fields ∙ no-spare e)
+
+  -- the word of an event that fits has the word's size
+  pub encode-small : Proper g → (e : Event) → fits g e ≡ true → encode g e < 2 ^ (8 * wordSize g)
+  encode-small proper e h = subst⁻¹ (λ w. w < 2 ^ (8 * wordSize g)) (encode-is g e) (word-small g proper (fieldsOf e) (fits-bounded g e h))

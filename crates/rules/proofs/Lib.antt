@@ -7,6 +7,7 @@ pub mod Medium
 pub mod Tree
 pub mod Bearers
 pub mod Grades
+pub mod Modes
 pub mod Acceptance
 pub mod Locks
 pub mod Owners
@@ -33,6 +34,7 @@ pub mod Writable
 pub mod AtomicCommits
 pub mod AtomicPrepares
 pub mod AtomicDecides
+pub mod Uncut
 pub mod AtomicPages
 pub mod Words
 pub mod Event

@@ -6,8 +6,8 @@ use mathlib.Core.Option.{Option, none, some}
 use Prim.Native.Nat.{ℕ, _<_}
 use lib.ListN.{length}
 use Rattle.laws.specs.Tests.{same, under}
-use Rattle.laws.specs.Counting.{count}
-use Rattle.rules.specs.Geometry.{Geometry, records, pageSize}
+use Rattle.laws.specs.Counting.{any, count}
+use Rattle.rules.specs.Geometry.{Geometry, records, pageSize, uncut}
 use Rattle.rules.specs.Store.{Page}
 use Rattle.rules.specs.Versions.{isSome, else}
 use Rattle.rules.specs.Commit.{Cut}
@@ -83,6 +83,13 @@ pub record MediumLaws (g : Geometry) (m : Medium) : Type 1 where
   pub decide-whole : (s : m .Store) (d : Bool) (k i : ℕ) → m .prepared s ≡ some i → m .decide s d k .crashed ≡ false
       → (m .emptied (m .decide s d k .store) ≡ true) × (0 < m .decide s d k .made)
   pub decide-shaped : (s : m .Store) (d : Bool) (k : ℕ) → Shaped s → Shaped (m .decide s d k .store)
+  -- what is prepared changed some record
+  pub prepared-some : (s : m .Store) (i : ℕ) → m .prepared s ≡ some i → any (records g) (λ r. isSome (m .pending s r)) ≡ true
+  -- with the greatest count that a word can hold, no page writes are cut
+  pub commit-uncut : (s : m .Store) (v : ℕ → Option Page) → m .commit s v (uncut g) .crashed ≡ false
+  pub recover-uncut : (s : m .Store) → m .recover s (uncut g) .crashed ≡ false
+  pub prepare-uncut : (s : m .Store) (v : ℕ → Option Page) (i : ℕ) → m .prepare s v i (uncut g) .crashed ≡ false
+  pub decide-uncut : (s : m .Store) (d : Bool) (i : ℕ) → m .prepared s ≡ some i → m .decide s d (uncut g) .crashed ≡ false
   -- two stores with the same settled records and the same commit page
   pub Agree : m .Store → m .Store → Type 0
   pub agree-refl : (s : m .Store) → Agree s s

@@ -3,7 +3,8 @@ use mathlib.Core.Path.{_≡_, sym, _∙_, ap, subst, subst⁻¹}
 use Prim.Native.Nat.{ℕ, _+_, _*_, _/_, _%_, _^_, _<_}
 use native.Mathlib.Nat.{mod-lt, mod-eq-of-lt, div-one, add-zero, mul-mod-left}
 use native.Mathlib.Omega.{arith}
-use lib.Pow.{pow-pos, high, low, shl-shr, shr-shr, shr-lt, split}
+use lib.Arith.{digits-lt}
+use lib.Pow.{pow-pos, pow-add, high, low, shl-lt, shl-shr, shr-shr, shr-lt, split}
 use Rattle.rules.specs.Geometry.{Geometry, Proper, wordSize}
 use Rattle.rules.specs.Event.{Fields, field, fields, word}
 
@@ -168,3 +169,23 @@ word-fields g proper w small z =
 
     spare-zero : w % 2 ^ S ≡ 0
     spare-zero = ap (λ (f : Fields). f .spare) (sym (fields-are g w)) ∙ z
+
+-- the word of fields that keep to their widths has the word's size
+pub word-small : (g : Geometry) → Proper g → (f : Fields) → Bounded g f → wordOf g f < 2 ^ (8 * wordSize g)
+unfolding wordOf word
+word-small g proper f B =
+    subst (λ n. wordOf g f < 2 ^ n) (proper .word-whole)
+    (shl-lt (4 + 5 + R + 5 + C + 8) S
+    (pack (4 + 5 + R + 5 + C) 8 (pack (4 + 5 + R + 5) C (pack (4 + 5 + R) 5 (pack (4 + 5) R (pack 4 5 (B .kind-fits) (B .transaction-fits)) (B .rec-fits)) (B .offset-fits)) (B .count-fits)) (B .value-fits)))
+  where
+    R : ℕ
+    R = g .recordBits
+
+    C : ℕ
+    C = g .cutBits
+
+    S : ℕ
+    S = g .spareBits
+
+    pack : {x y : ℕ} (j k : ℕ) → x < 2 ^ j → y < 2 ^ k → x * 2 ^ k + y < 2 ^ (j + k)
+    pack {x} {y} j k p q = subst⁻¹ (λ z. x * 2 ^ k + y < z) (pow-add 2 j k) (digits-lt p q)

@@ -1,7 +1,7 @@
 -- The numbers in which editions and forms differ. Nothing else names a number of records, a depth or a width that may change.
 use mathlib.Core.Path.{_≡_}
 use mathlib.Core.Bool.{Bool, true}
-use Prim.Native.Nat.{ℕ, _+_, _*_, _/_, _^_, _≤_, _<_}
+use Prim.Native.Nat.{ℕ, _+_, _-_, _*_, _/_, _^_, _≤_, _<_}
 
 pub record Geometry : Type 0 where
   pub edition : ℕ
@@ -46,6 +46,10 @@ workSize g = records g * g .depthLimit * pageSize
 unfoldable pub wordSize : Geometry → ℕ
 wordSize g = (4 + 5 + g .recordBits + 5 + g .cutBits + 8 + g .spareBits) / 8
 
+-- the greatest count that an event word can hold: no page writes are cut there
+unfoldable pub uncut : Geometry → ℕ
+uncut g = 2 ^ g .cutBits - 1
+
 -- what the formats of the event word and of the commit page ask of a geometry
 pub record Proper (g : Geometry) : Type 0 where
   -- the edition has four bits
@@ -58,8 +62,10 @@ pub record Proper (g : Geometry) : Type 0 where
   pub joint-fits : g .joint ≡ true → 8 + records g + g .onesBits ≤ 8 * 4
   -- the fields of an event word are whole bytes
   pub word-whole : 4 + 5 + g .recordBits + 5 + g .cutBits + 8 + g .spareBits ≡ 8 * wordSize g
+  -- its count can say more page writes than a commit of all records makes
+  pub count-wide : 2 * records g + 2 < 2 ^ g .cutBits
 
 -- opens the definitions of this module: for what is proved by computing
 unfoldable pub open-geometry : Unit {0}
-unfolding records pageCount workSize wordSize
+unfolding records pageCount workSize wordSize uncut
 open-geometry = tt

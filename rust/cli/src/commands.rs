@@ -2,7 +2,7 @@
 
 use crate::command::Command;
 use crate::failure::{visible, Failure, Outcome};
-use crate::{age, bench, demo, depot, encode, fresh, help, play, show};
+use crate::{age, bench, demo, depot, encode, fresh, help, play, serial, show};
 
 /// All commands.
 pub const ALL: &[Command] = &[
@@ -10,6 +10,7 @@ pub const ALL: &[Command] = &[
     fresh::COMMAND,
     play::COMMAND,
     show::COMMAND,
+    serial::COMMAND,
     age::COMMAND,
     depot::COMMAND,
     encode::COMMAND,

@@ -18,6 +18,7 @@ mod output;
 mod pair;
 mod picture;
 mod play;
+mod serial;
 mod show;
 mod staged;
 mod state_file;

@@ -1,4 +1,4 @@
-//! Demand 3, checked on runs that were played.
+//! Demand 3, checked on runs that were played, and the serial list of a run.
 //!
 //! All that is known here of a run is its start store, its list, its answers and its end store.
 //! Nothing is known of locks, versions or page writes.
@@ -9,11 +9,15 @@
 //! * Second half: a second run from the same store, whose list differs only in the values of
 //!   accepted writes of lost transactions ([`second_list`]), gives the same answers but for the
 //!   values of lost transactions' reads, and the same settled records ([`second_half`]).
+//!
+//! And that the run is as if one transaction came at a time ([`serial()`]).
 
+mod serial;
 mod settled;
 mod telling;
 mod word;
 
+pub use serial::{serial, Placed, Serial, Turn, Unlike};
 pub use settled::{prepared, settled, Prepared, Records};
 pub use telling::{tell, tell_from, Absurd, Decision, Earlier, End, History, Transaction, Write};
 use word::{Kind, Word};
@@ -50,6 +54,12 @@ pub enum Breach {
     },
 }
 
+impl From<Absurd> for Breach {
+    fn from(absurd: Absurd) -> Breach {
+        Breach::Absurd(absurd)
+    }
+}
+
 /// A run that was played: four bytes an event, two bytes an answer.
 #[derive(Clone, Copy)]
 pub struct Run<'r> {
@@ -65,7 +75,7 @@ pub struct Run<'r> {
 
 /// Checks the first half and hands out the history.
 pub fn first_half(run: Run) -> Result<History, Breach> {
-    let history = tell(run.events, run.answers).map_err(Breach::Absurd)?;
+    let history = tell(run.events, run.answers)?;
     let mut due = settled(run.before);
     if let Some(decision) = history.decided_before {
         let absurd = Absurd { at: decision.at, what: "decides, but nothing is prepared with its identity" };

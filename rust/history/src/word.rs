@@ -1,5 +1,8 @@
 //! An event word's fields, as far as the history needs them.
 
+/// The bytes of an event word.
+pub const WORD: usize = 4;
+
 /// The kinds that matter for the history.
 #[derive(Clone, Copy, Debug, PartialEq, Eq)]
 pub enum Kind {
@@ -65,6 +68,15 @@ impl Word {
             offset: (bytes[1] & 7) << 2 | bytes[2] >> 6,
             value: bytes[3],
         }
+    }
+
+    /// The same event with this transaction number, or its own, and with nothing cut: no event makes as many
+    /// page writes as the greatest count.
+    pub fn again(&self, bytes: &[u8], number: Option<u8>) -> [u8; WORD] {
+        let number = number.unwrap_or(self.transaction);
+        let whole = matches!(self.kind, Kind::Commit | Kind::Prepare | Kind::Decide);
+        let count = if whole { 63 } else { bytes[2] & 63 };
+        [bytes[0] & 0xF0 | number >> 1, bytes[1] & 0x7F | number << 7, bytes[2] & 0xC0 | count, bytes[3]]
     }
 
     /// A crash, a recover, a decide and a query name no transaction, though they have the field.

@@ -2,7 +2,7 @@
 
 use crate::case::{Case, Played, Program, TAIL};
 use nekahuiro::limits::ANSWER_BYTES;
-use nekahuiro_history::{first_half, second_half, second_list, Breach, History, Run};
+use nekahuiro_history::{first_half, second_half, second_list, Breach, History, Run, Unlike};
 
 /// What is wrong with a case.
 #[derive(Clone, Debug, PartialEq, Eq)]
@@ -19,6 +19,8 @@ pub enum Fault {
     Work,
     /// Demand 3 is broken.
     Demand(Breach),
+    /// It isn't as if one transaction came at a time.
+    Serial(Unlike),
 }
 
 /// Plays a case on a program and compares it with a reference and with demand 3.
@@ -64,7 +66,7 @@ fn check_second(program: Program, case: &Case, played: &Played, history: &Histor
     }
 }
 
-fn run_of<'r>(case: &'r Case, played: &'r Played) -> Run<'r> {
+pub(crate) fn run_of<'r>(case: &'r Case, played: &'r Played) -> Run<'r> {
     let answers = &played.answers[..case.length() * ANSWER_BYTES];
     Run { before: &case.store, events: &case.events, answers, after: &played.store }
 }

@@ -1,7 +1,7 @@
 //! Every short list over a small alphabet of events.
 
 use crate::random::told;
-use crate::{check, listed, settings, Case, Program};
+use crate::{check, listed, settings, Case, Played, Program};
 use nekahuiro::limits::{ANSWER_BYTES, EVENT_BYTES};
 use nekahuiro_lists::stores::Bytes;
 use std::sync::atomic::{AtomicU64, AtomicUsize, Ordering};
@@ -85,6 +85,16 @@ pub struct Family<'f> {
     pub length: usize,
     /// Which lists.
     pub choice: Choice,
+    /// What is checked of each.
+    pub check: Check,
+}
+
+/// A check of a case: what was played, or the failure made small and told in words.
+pub type Check = fn(Program, &Case) -> Result<Played, String>;
+
+/// The program agrees with the player, and demand 3 holds.
+pub fn agrees(program: Program, case: &Case) -> Result<Played, String> {
+    check(program, Program::Player, case).map_err(|_| told(program, Program::Player, case.clone()))
 }
 
 impl Family<'_> {
@@ -156,10 +166,8 @@ impl Walk<'_> {
     /// Plays the list; tells whether longer lists that begin with it are wanted.
     fn leads_on(&mut self, case: &Case) -> Result<bool, String> {
         self.lists += 1;
-        match check(self.family.program, Program::Player, case) {
-            Err(_) => Err(told(self.family.program, Program::Player, case.clone())),
-            Ok(_) if self.family.choice == Choice::Every => Ok(true),
-            Ok(played) => Ok(matches!(played.answers[(case.length() - 1) * ANSWER_BYTES], 0 | 11)),
-        }
+        let played = (self.family.check)(self.family.program, case)?;
+        let accepted = matches!(played.answers[(case.length() - 1) * ANSWER_BYTES], 0 | 11);
+        Ok(accepted || self.family.choice == Choice::Every)
     }
 }

@@ -11,6 +11,7 @@ pub mod minimise;
 pub mod portions;
 pub mod random;
 pub mod report;
+pub mod serial;
 pub mod settings;
 pub mod states;
 

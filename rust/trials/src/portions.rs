@@ -132,28 +132,36 @@ impl Board {
     }
 }
 
-/// Plays a case in portions of random length, at most `longest` events, and compares with a whole run.
-pub fn check_cut(case: &Case, longest: usize, rng: &mut Rng) -> Result<u64, String> {
-    let whole = Program::Engine.play(case, 0x5A);
-    let mut board = Board::new(case.store, rng);
-    let (mut at, mut portions) = (0, 0);
-    while at < case.length() {
-        let end = case.length().min(at + rng.below(longest + 1));
+/// Plays a list in portions of random length, at most `longest` events, with refused ones between; the
+/// joined answers, and how many portions there were.
+pub fn play_cut(board: &mut Board, list: &[u8], longest: usize, rng: &mut Rng) -> Result<(Vec<u8>, u64), String> {
+    let length = list.len() / EVENT_BYTES;
+    let (mut joined, mut at, mut portions) = (Vec::new(), 0, 0);
+    while at < length {
+        let end = length.min(at + rng.below(longest + 1));
         let end = if longest == 1 { at + 1 } else { end };
-        let events = &case.events[at * EVENT_BYTES..end * EVENT_BYTES];
+        let events = &list[at * EVENT_BYTES..end * EVENT_BYTES];
         let place = |text: String| format!("events {at} to {end}: {text}");
         if rng.percent(10) {
             board.refuse(events, rng).map_err(place)?;
         }
-        let answers = board.play(events).map_err(place)?;
-        if answers != whole.answers[at * ANSWER_BYTES..end * ANSWER_BYTES] {
-            return Err(place("the answers aren't those of the whole run".to_string()));
-        }
+        joined.extend(board.play(events).map_err(place)?);
         if rng.percent(30) {
             board.scramble(rng);
         }
         at = end;
         portions += 1;
+    }
+    Ok((joined, portions))
+}
+
+/// Plays a case in portions of random length, at most `longest` events, and compares with a whole run.
+pub fn check_cut(case: &Case, longest: usize, rng: &mut Rng) -> Result<u64, String> {
+    let whole = Program::Engine.play(case, 0x5A);
+    let mut board = Board::new(case.store, rng);
+    let (joined, portions) = play_cut(&mut board, &case.events, longest, rng)?;
+    if let Some(at) = (0..joined.len()).find(|at| joined[*at] != whole.answers[*at]) {
+        return Err(format!("event {}: the answer isn't that of the whole run", at / ANSWER_BYTES));
     }
     match board.store == whole.store {
         true => Ok(portions),

@@ -3,8 +3,8 @@
 use nekahuiro_lists::stores::{self, Bytes};
 use nekahuiro_lists::Rng;
 use nekahuiro_trials::exhaustive::{
-    Choice, Family, BESIDE, BESIDE_PREFIX, CONTENDED, CRASHING, INHERITED, MODES, NESTED, PREPARING, REPORTED, SHARED,
-    SHARED_PREFIX, STRAY,
+    agrees, Choice, Family, BESIDE, BESIDE_PREFIX, CONTENDED, CRASHING, INHERITED, MODES, NESTED, PREPARING, REPORTED,
+    SHARED, SHARED_PREFIX, STRAY,
 };
 use nekahuiro_trials::{settings, Program};
 use std::time::Instant;
@@ -21,7 +21,7 @@ fn prepared(map: u16, identity: u8) -> Bytes {
 
 fn play(name: &str, store: Bytes, alphabet: &str, prefix: &str, length: usize, choice: Choice) {
     let (start, length) = (Instant::now(), settings::length(length));
-    let family = Family { program: Program::Engine, store, alphabet, prefix, length, choice };
+    let family = Family { program: Program::Engine, store, alphabet, prefix, length, choice, check: agrees };
     match family.play() {
         Ok(lists) => println!("{name}: {lists} lists of up to {length} events, {:.1} s", start.elapsed().as_secs_f64()),
         Err(text) => panic!("{name}: {text}"),

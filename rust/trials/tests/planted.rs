@@ -4,7 +4,7 @@ use nekahuiro_lists::stores;
 use nekahuiro_lists::Rng;
 use nekahuiro_player::planted::Bug;
 use nekahuiro_trials::exhaustive::{
-    Choice, Family, BESIDE, BESIDE_PREFIX, CONTENDED, CRASHING, INHERITED, MODES, NESTED, PREPARING, REPORTED,
+    agrees, Choice, Family, BESIDE, BESIDE_PREFIX, CONTENDED, CRASHING, INHERITED, MODES, NESTED, PREPARING, REPORTED,
 };
 use nekahuiro_trials::{random, settings, Program};
 
@@ -36,6 +36,6 @@ fn shortest(bug: Bug, length: usize) -> Option<String> {
     };
     families.into_iter().find_map(|(alphabet, prefix, store)| {
         let program = Program::Planted(bug);
-        Family { program, store, alphabet, prefix, length, choice: Choice::AcceptedButLast }.play().err()
+        Family { program, store, alphabet, prefix, length, choice: Choice::AcceptedButLast, check: agrees }.play().err()
     })
 }

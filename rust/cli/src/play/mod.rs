@@ -140,7 +140,7 @@ fn play(options: &Options, mut store: Store, mut left: Kept, words: Vec<u8>) -> 
 
 /// Plays the words, at most so many events at a time. No words are one empty portion, so that a state
 /// is looked at in any case.
-fn portions(store: &mut Store, kept: &mut Kept, words: &[u8], events: usize) -> Result<Vec<Answer>, Refusal> {
+pub fn portions(store: &mut Store, kept: &mut Kept, words: &[u8], events: usize) -> Result<Vec<Answer>, Refusal> {
     let mut answers = Vec::with_capacity(words.len() / EVENT_BYTES);
     let mut rest = words;
     loop {
@@ -154,7 +154,7 @@ fn portions(store: &mut Store, kept: &mut Kept, words: &[u8], events: usize) -> 
 }
 
 /// What the answers tell; no right engine gives answers that tell nothing.
-fn history(earlier: &[Earlier], words: &[u8], answers: &[Answer]) -> Outcome<History> {
+pub fn history(earlier: &[Earlier], words: &[u8], answers: &[Answer]) -> Outcome<History> {
     let bytes: Vec<u8> = answers.iter().flat_map(|answer| answer.bytes()).collect();
     tell_from(earlier, words, &bytes).map_err(|absurd| {
         let reason = format!("event {}: the engine's answer can't be: {}", absurd.at + 1, absurd.what);
