@@ -22,6 +22,7 @@ mod show;
 mod staged;
 mod state_file;
 mod trace;
+mod waiting;
 
 use failure::{Failure, Outcome};
 use std::ffi::OsString;

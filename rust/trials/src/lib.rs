@@ -13,6 +13,7 @@ pub mod random;
 pub mod report;
 pub mod settings;
 pub mod states;
+pub mod waiting;
 
 pub use case::{Case, Played, Program};
 pub use check::{check, Fault};
