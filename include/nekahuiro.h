@@ -3,15 +3,16 @@
  * Link target/staticlib/libnekahuiro.a, which `rt staticlib nekahuiro` makes. The library is for
  * x86-64. It allocates nothing, keeps nothing between calls, and calls at most memcpy, memmove, memset
  * and memcmp of the C library. `nekahuiro_run` plays a whole list; `nekahuiro_portion` plays events as
- * they come, on a state that the caller keeps. `nekahuiro_depot` and `nekahuiro_vote` are for two ends
- * that commit together.
+ * they come, on a state that the caller keeps. `nekahuiro_waiting` shows transactions of such a state that
+ * wait on each other. `nekahuiro_depot` and `nekahuiro_vote` are for two ends that commit together.
  *
  * What a caller owes to every function here:
- *   - Each pointer points to as many bytes as the size after it says. No pointer is null, not even
- *     where the size is 0.
+ *   - Each pointer points to as many bytes as the size after it says, or rows as the count after it
+ *     says. No pointer is null, not even where the size or count is 0.
  *   - No two buffers of one call overlap, and nobody else touches them while the call runs. Calls on
  *     different buffers may run at the same time.
- *   - Byte buffers need no alignment; `age` is aligned as an int64_t is, `state` as its struct is.
+ *   - Byte buffers, rows and rings need no alignment; `age` is aligned as an int64_t is, `state` as its
+ *     struct is.
  *   - At least NEKAHUIRO_STACK_BYTES of stack are free.
  * Buffers stay the caller's, and their contents may be anything. What each call answers and leaves in
  * every buffer is proved for all contents and all sizes: see docs/PROMISES.md.
@@ -48,6 +49,8 @@ extern "C" {
 #define NEKAHUIRO_ANSWER_BYTES 2
 /* A lent state, see nekahuiro_state. */
 #define NEKAHUIRO_STATE_BYTES 468
+/* Waiting rows that a report takes, see nekahuiro_waiting. */
+#define NEKAHUIRO_ROWS 24
 /* More stack than any call uses. */
 #define NEKAHUIRO_STACK_BYTES 16384
 
@@ -161,9 +164,10 @@ extern "C" {
 #define NEKAHUIRO_BAD_LIST 20      /* events_size isn't a multiple of 4, or above 16384 */
 #define NEKAHUIRO_SHORT_ANSWERS 21 /* answers_size is below two bytes an event */
 #define NEKAHUIRO_BAD_STORE 22     /* store_size isn't NEKAHUIRO_STORE_BYTES */
-#define NEKAHUIRO_BAD_RECORD 23    /* the record is above 15 */
+#define NEKAHUIRO_BAD_RECORD 23    /* the record, or that of a waiting row, is above 15 */
 #define NEKAHUIRO_BAD_WORK 24      /* work_size isn't NEKAHUIRO_WORK_BYTES */
 #define NEKAHUIRO_BAD_STATE 25     /* the state isn't sound, or its bytes encode no state */
+#define NEKAHUIRO_MANY_ROWS 26     /* there are more than NEKAHUIRO_ROWS waiting rows */
 
 /* Plays the events in order on the store and writes one answer each.
  *
@@ -233,6 +237,37 @@ uint8_t nekahuiro_portion(nekahuiro_state *state,
                           const uint8_t *events, size_t events_size,
                           uint8_t *work, size_t work_size,
                           uint8_t *answers, size_t answers_size);
+
+/* Transactions that wait on each other
+ *
+ * A waiting row says that a transaction waits for the lock of a record, which was refused with 8; the mode
+ * is NEKAHUIRO_WRITE_MODE or NEKAHUIRO_READ_MODE. A transaction may have several rows, and a row whose lock
+ * can be granted does no harm.
+ *
+ * A waiting transaction points to each transaction that blocks its lock: to read, each other that holds it
+ * in write mode and each that retains it in write mode and is neither the waiter nor its ancestor; to write,
+ * the same in any mode. It also points to the ancestors of these which are neither the waiter nor its
+ * ancestors. Every transaction points to its live children. What is prepared in the store plays no part.
+ *
+ * A ring of such pointings can't clear by itself: an abort of one of its transactions breaks it.
+ */
+typedef struct nekahuiro_row {
+    uint8_t transaction; /* who waits */
+    uint8_t record;      /* for the lock of which record */
+    uint8_t mode;        /* to write or to read */
+} nekahuiro_row;
+
+typedef struct nekahuiro_ring {
+    uint8_t length;                               /* 0: there is no ring */
+    uint8_t transactions[NEKAHUIRO_TRANSACTIONS]; /* each points to the next, the last to the first; none */
+                                                  /* stands here twice, and zeros come after them */
+} nekahuiro_ring;
+
+/* Answers 0, with a ring written to `ring`, or length 0 and zeros if there is none; any ring may be shown.
+ * Else, tried in this order and with nothing written: 25 (page 0 plays no part); 26; then row by row 5, the
+ * transaction isn't live, 23, 1, the mode is above 1. State and rows are only read. */
+uint8_t nekahuiro_waiting(const nekahuiro_state *state, const nekahuiro_row *rows, size_t count,
+                          nekahuiro_ring *ring);
 
 /* Lays down a fresh store: an empty commit page and zeros elsewhere.
  * Answers 0, or 22 with nothing written. */

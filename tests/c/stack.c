@@ -16,6 +16,7 @@
 static uint8_t store[NEKAHUIRO_STORE_BYTES], work[NEKAHUIRO_WORK_BYTES];
 static uint8_t events[NEKAHUIRO_EVENTS * NEKAHUIRO_EVENT_BYTES], answers[NEKAHUIRO_EVENTS * NEKAHUIRO_ANSWER_BYTES];
 static nekahuiro_state state;
+static nekahuiro_row rows[NEKAHUIRO_ROWS];
 static int played = 0;
 
 static void put(size_t at, uint32_t bits)
@@ -61,6 +62,23 @@ static size_t make_list(void)
     return at;
 }
 
+/* Leaves the store up with a chain of transactions, the top one holding a record that the lowest waits for: every
+ * one of them is in the ring. */
+static uint8_t play_nested(void)
+{
+    size_t at = 0;
+
+    put(at++, 0x80003F00);
+    put(at++, 0x1F800000);
+    put(at++, 0x20000000);
+    for (uint32_t t = 0; t + 1 < NEKAHUIRO_DEPTH_LIMIT; t++)
+        put(at++, 0x10000000 | t << 23);
+    for (size_t i = 0; i < NEKAHUIRO_ROWS; i++)
+        rows[i] = (nekahuiro_row){ NEKAHUIRO_DEPTH_LIMIT - 1, 0, NEKAHUIRO_WRITE_MODE };
+    return nekahuiro_portion(&state, store, sizeof store, events, at * NEKAHUIRO_EVENT_BYTES, work, sizeof work, answers,
+                             sizeof answers);
+}
+
 static void *nothing(void *unused)
 {
     return unused;
@@ -70,6 +88,7 @@ static void *calls(void *unused)
 {
     int64_t age = 0;
     uint8_t depot = NEKAHUIRO_IDLE, reply = 0;
+    nekahuiro_ring ring;
     size_t length = make_list();
 
     played = nekahuiro_fresh(store, sizeof store) == 0
@@ -79,7 +98,8 @@ static void *calls(void *unused)
                                   answers, sizeof answers) == 0
              && nekahuiro_age(store, sizeof store, 3, 5, 10, &age) <= NEKAHUIRO_STALE
              && nekahuiro_depot(&depot, NEKAHUIRO_START, &reply) == 0
-             && nekahuiro_vote(NEKAHUIRO_QUERY, 0, 1) == NEKAHUIRO_YES;
+             && nekahuiro_vote(NEKAHUIRO_QUERY, 0, 1) == NEKAHUIRO_YES && play_nested() == 0
+             && nekahuiro_waiting(&state, rows, NEKAHUIRO_ROWS, &ring) == 0 && ring.length == NEKAHUIRO_DEPTH_LIMIT;
     return unused;
 }
 

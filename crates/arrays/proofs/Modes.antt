@@ -3,17 +3,24 @@ use mathlib.Core.Path.{_≡_, refl, sym, ap, ap₂, _∙_, fun-ext}
 use mathlib.Core.Bool.{Bool, true, false, not, cond, _&&_, _||_, or-false, and-false, and-true}
 use mathlib.Core.List.{List}
 use mathlib.Core.Logic.{_≢_}
-use Prim.Native.Nat.{ℕ, _+_, _*_}
+use Prim.Native.Nat.{ℕ, zero, suc, _+_, _*_}
+use lib.Dec.{eqb·suc-zero}
 use Rattle.laws.specs.Tests.{same}
 use Rattle.laws.specs.Counting.{all}
 use Rattle.laws.proofs.Tests.{same?, Same, is, isnt}
 use Rattle.rules.specs.Geometry.{transactions}
-use Rattle.rules.specs.Event.{Access, toWrite, toRead}
+use Rattle.rules.specs.Event.{Access, toWrite, toRead, accessOf}
 use Rattle.rules.specs.State.{nothing, isLock, isWriting, stronger, Modes, mem}
 use Rattle.rules.specs.Locks.{modeFor, bars, holdersAllow, retainersAllow, grantable, granted, inherited, discarded}
 use Rattle.arrays.specs.View.{Owners, anyMode, writeMode, modeOf, modesOf, Nested}
-use Rattle.arrays.specs.Changes.{barring, openTo, joinedFor, less, leaving, heirsOf, inheriting}
+use Rattle.arrays.specs.Changes.{accessWhen, barring, openTo, joinedFor, less, leaving, heirsOf, inheriting}
 use Rattle.arrays.proofs.Joined.{raises, joined-any, joined-write}
+
+-- a mode or value that isn't 0 asks to read
+pub access-is : (v : ℕ) → accessOf v ≡ accessWhen (not (same v 0))
+unfolding accessOf accessWhen same
+access-is zero = refl
+access-is (suc v) = ap (λ (b : Bool). accessWhen (not b)) (sym (eqb·suc-zero v))
 
 is-writing : (a w : Bool) → isWriting (modeOf a w) ≡ w
 unfolding isWriting modeOf
@@ -36,7 +43,7 @@ unfolding modesOf
 lock-is o n r t = is-lock (anyMode o r t) (writeMode o r t) (n r t)
 
 -- those that bar are in the place that a grant looks at
-bars-is : (a : Access) (o : Owners) → Nested o → (r t : ℕ) → bars a (modesOf o r t) ≡ o (barring a r) t
+pub bars-is : (a : Access) (o : Owners) → Nested o → (r t : ℕ) → bars a (modesOf o r t) ≡ o (barring a r) t
 unfolding bars barring anyMode writeMode
 bars-is toWrite o n r t = lock-is o n r t
 bars-is toRead o n r t = writing-is o r t

@@ -1,6 +1,6 @@
 -- Events by their kind: what is refused before a transaction is looked at, and that every event keeps the arrays sound.
 use mathlib.Core.Path.{_≡_, refl, sym, ap, subst⁻¹, _∙_}
-use mathlib.Core.Bool.{Bool, true, false, not, _&&_, true≢false}
+use mathlib.Core.Bool.{Bool, true, false, not, true≢false}
 use mathlib.Core.List.{List}
 use mathlib.Core.Logic.{_≢_}
 use mathlib.Core.Option.{Option, none, some}
@@ -23,7 +23,6 @@ use Rattle.rules.proofs.AtomicPages.{atomic-laws}
 use Rattle.rules.proofs.Editions.{proper1}
 use Rattle.rules.proofs.Soundness.{sound-step, sound-bad}
 use Rattle.rules.proofs.Waiting.{lock-waits, write-waits, read-waits}
-use Rattle.arrays.specs.Changes.{accessWhen}
 use Rattle.commits.specs.Settling.{settling}
 use Rattle.event.specs.Meaning.{meaning, fieldsOf, InRange}
 use Rattle.event.specs.declared.Event.{Event as Fields}
@@ -42,13 +41,7 @@ pub shaped-of : (store : List ℕ) → length store ≡ 1056 → laws1 .Shaped (
 unfolding pageCount records
 shaped-of store h = laws1 .shaped-from store h
 
--- a value that isn't 0 asks to read
-pub access-is : (v : ℕ) → accessOf v ≡ accessWhen (not (same v 0))
-unfolding accessOf accessWhen same
-access-is zero = refl
-access-is (suc v) = ap (λ (b : Bool). accessWhen (not b)) (sym (eqb·suc-zero v))
-
--- and one that isn't 0 reports an abort
+-- a value that isn't 0 reports an abort
 pub report-is : (v : ℕ) → reportOf v ≡ not (same v 0)
 unfolding reportOf same
 report-is zero = refl

@@ -6,8 +6,10 @@ pub mod Booleans
 pub mod Counting
 pub mod Lowest
 pub mod Those
+pub mod Counts
 pub mod Bytes
 pub mod Updated
 pub mod All
 pub mod Counts
+pub mod Any
 pub mod Compared

@@ -12,7 +12,7 @@ ghost use Rattle.arrays.specs.Changes.{accessWhen, barring, joinedFor, leaving,
 ghost use Rattle.locks.specs.Granting.{Granting};
 
 // The place of those that bar an access to record r: to write, all that have its lock; to read, those that have it in write mode.
-fn barring_place(r: usize, reading: bool) -> usize
+pub fn barring_place(r: usize, reading: bool) -> usize
     requires { ⌜ r < 16 ⌝ }
     ensures { λ k. ⌜ (k ≡ barring (accessWhen reading) r) × (k < 32) ⌝ }
 {

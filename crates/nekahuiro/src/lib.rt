@@ -1,5 +1,5 @@
-// The open operations: a run, a portion, a fresh store, the age of a record, and the two ends of a two-phase commit. Any bytes may come in; each
-// refuses or does what the rules say.
+// The open operations: a run, a portion, a fresh store, the age of a record, the two ends of a two-phase commit, and the report on transactions that
+// wait for each other. Any bytes may come in; each refuses or does what the rules say.
 ghost use mathlib.Core.Path.{_≡_};
 ghost use Prim.Native.Nat.{ℕ};
 ghost use mathlib.Core.List.{List};
@@ -17,7 +17,12 @@ ghost use Rattle.portions.specs.Portion.{whole};
 ghost use Rattle.clauses.specs.Decides.{Decides};
 ghost use Rattle.messages.specs.Codes.{left};
 ghost use Rattle.messages.specs.Votes.{voteOn};
+ghost use Rattle.waitreport.specs.Reported.{Sound-aside, Reported, Reported-copied};
 use portions::Engine;
+use waitreport::Report;
+use waitreport::Ring;
+use waitrows::Row;
+use waitrows::Rows;
 
 const STORE: usize = 1056;
 
@@ -190,4 +195,38 @@ pub extern "C" fn nekahuiro_vote(kind: u8, number: u8, value: u8) -> u8
     ensures { λ r. ⌜ r ≡ voteOn kind number value ⌝ }
 {
     messages::vote(kind, number, value)
+}
+
+// What is lent as a state is one, and sound, its store aside: over a fresh one.
+fn is_state_aside(e: Engine) -> bool
+    ensures { λ r. ⌜ Decides r (Sound-aside e) ⌝ }
+{
+    let mut store = [0u8; STORE];
+    records::lay(&mut store);
+    is_state(e, &store)
+}
+
+// The report by value.
+fn report_of(e: Engine, list: Rows, ring: Ring) -> Report
+    ensures { λ r. ⌜ Reported-copied e list ring (r .number) (r .ring) ⌝ }
+{
+    if is_state_aside(e) {
+        return waitreport::report_sound(e, list, ring);
+    }
+    waitreport::refused(ring, 25)
+}
+
+// Reports on transactions that wait for each other: 0, with a cycle of pointings left at `ring`, or none; or a refusal's number, 25, 26, then row by
+// row 5, 23, 1, in this order, and then `ring` stays.
+#[no_mangle]
+pub extern "C" fn nekahuiro_waiting(state: &Engine, rows: &[Row], ring: &mut Ring) -> u8
+    ensures { λ r. ⌜ Reported (now (state .entry)) (now (rows .entry)) (now (ring .entry)) r (now (ring .exit)) ⌝ }
+{
+    let e = *state;
+    let list = waitrows::copied(rows);
+    let before = *ring;
+    let told = report_of(e, list, before);
+    let after = told.ring;
+    *ring = after;
+    told.number
 }

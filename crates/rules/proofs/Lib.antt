@@ -12,6 +12,8 @@ pub mod Acceptance
 pub mod Locks
 pub mod Owners
 pub mod Again
+pub mod Blocking
+pub mod Pointing
 pub mod Waiting
 pub mod Parts
 pub mod Reserved

@@ -11,6 +11,7 @@ pub mod Step
 pub mod Run
 pub mod Age
 pub mod Sound
+pub mod Waiting
 pub mod Portion
 pub mod Calls
 pub mod Editions

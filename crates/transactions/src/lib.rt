@@ -51,7 +51,7 @@ pub fn strike(live: &mut u32, children: &mut [u32; 32], p: u8, t: u8)
 }
 
 // The members of s, and j if b.
-fn with_if(s: u32, b: bool, j: u8) -> u32
+pub fn with_if(s: u32, b: bool, j: u8) -> u32
     requires { ⌜ j < 24 ⌝ }
     ensures { λ r. ⌜ bits r ≡ (λ k. bits s k || (same k j && b)) ⌝ }
 {

@@ -2,7 +2,7 @@
 
 use crate::command::Command;
 use crate::failure::{visible, Failure, Outcome};
-use crate::{age, bench, demo, depot, encode, fresh, help, play, serial, show};
+use crate::{age, bench, demo, depot, encode, fresh, help, play, serial, show, waiting};
 
 /// All commands.
 pub const ALL: &[Command] = &[
@@ -12,6 +12,7 @@ pub const ALL: &[Command] = &[
     show::COMMAND,
     serial::COMMAND,
     age::COMMAND,
+    waiting::COMMAND,
     depot::COMMAND,
     encode::COMMAND,
     bench::COMMAND,

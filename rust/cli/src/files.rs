@@ -3,6 +3,7 @@
 use crate::failure::{Failure, Outcome};
 use nekahuiro::limits::STORE_BYTES;
 use nekahuiro::Store;
+use std::borrow::Cow;
 use std::fs::{self, File};
 use std::io::{self, ErrorKind, Read};
 use std::path::{Path, PathBuf};
@@ -23,7 +24,7 @@ pub fn read_store(path: &str) -> Outcome<Store> {
     })
 }
 
-/// Reads a list of events, from standard input for `-`.
+/// Reads a list of events or of waiting rows, from standard input for `-`.
 pub fn read_list(path: &str) -> Outcome<Vec<u8>> {
     let mut bytes = Vec::new();
     let read = match path {
@@ -95,6 +96,31 @@ pub fn need_plain(path: &str, what: &str) -> Outcome {
             Err(Failure::new(&reason, &format!("name a plain file as the {what}")))
         }
         _ => Ok(()),
+    }
+}
+
+/// No file may be written that is read or written as something else; each comes with what it is for.
+pub fn need_different(files: &[(&str, &str)]) -> Outcome {
+    let places: Vec<_> = files.iter().map(|(_, name)| place_of(name)).collect();
+    for (at, place) in places.iter().enumerate() {
+        // A device or a pipe may well be both, as a terminal is.
+        let is_device = fs::metadata(place).is_ok_and(|found| !found.is_file());
+        let Some(first) = places[..at].iter().position(|other| other == place).filter(|_| !is_device) else {
+            continue;
+        };
+        let ((one, name), (other, _)) = (files[first], files[at]);
+        let reason = format!("{} is named twice, for {one} and for {other}", shown(name, place));
+        return Err(Failure::usage(&reason, "one use would spoil the other: give them different names"));
+    }
+    Ok(())
+}
+
+/// A file as the user knows it.
+fn shown<'n>(name: &'n str, place: &'n Path) -> Cow<'n, str> {
+    if name.starts_with("/dev/std") {
+        place.to_string_lossy()
+    } else {
+        name.into()
     }
 }
 

@@ -23,6 +23,7 @@ mod show;
 mod staged;
 mod state_file;
 mod trace;
+mod waiting;
 
 use failure::{Failure, Outcome};
 use std::ffi::OsString;

@@ -44,8 +44,16 @@ pub fn bytes(name: &str, place: &Path) -> Outcome<Option<Vec<u8>>> {
     }
 }
 
-/// What these bytes keep, if they go with a store.
-pub fn read(name: &str, bytes: &[u8], store_name: &str, store: &Store) -> Outcome<Kept> {
+/// The parts of a state file that is whole: the digest of its store, the lent state with the working buffer, and
+/// where the store is.
+struct Parts<'b> {
+    of_store: &'b [u8],
+    lent: &'b [u8],
+    place: &'b [u8],
+}
+
+/// The parts of a state file, if it is one and whole.
+fn parts<'b>(name: &str, bytes: &'b [u8]) -> Outcome<Parts<'b>> {
     let headed = bytes.starts_with(NAME);
     if headed && !bytes.starts_with(HEADING) || !headed && bytes.len() == FIRST_BYTES {
         let mend = format!("play on with the version that left it, or {}", start_down(name));
@@ -65,6 +73,12 @@ pub fn read(name: &str, bytes: &[u8], store_name: &str, store: &Store) -> Outcom
         return Err(Failure::refused(&reason, &start_down(name)));
     }
     let (lent, place) = content.split_at(STATE_BYTES + WORK_BYTES);
+    Ok(Parts { of_store, lent, place })
+}
+
+/// What these bytes keep, if they go with a store.
+pub fn read(name: &str, bytes: &[u8], store_name: &str, store: &Store) -> Outcome<Kept> {
+    let Parts { of_store, lent, place } = parts(name, bytes)?;
     if place != seen_from(name, store_name).as_os_str().as_bytes() {
         let own = String::from_utf8_lossy(place);
         let reason = format!("{name} goes with the store `{own}` of its folder, and {store_name} is another one");
@@ -80,6 +94,15 @@ pub fn read(name: &str, bytes: &[u8], store_name: &str, store: &Store) -> Outcom
             &format!("name the two files that go together, or {}", start_down(name)),
         ));
     }
+    kept(name, lent)
+}
+
+/// What these bytes keep, whatever became of the store.
+pub fn read_alone(name: &str, bytes: &[u8]) -> Outcome<Kept> {
+    kept(name, parts(name, bytes)?.lent)
+}
+
+fn kept(name: &str, lent: &[u8]) -> Outcome<Kept> {
     let (state, work) = lent.split_at(STATE_BYTES);
     match (State::of(state), Work::of(work)) {
         (Ok(state), Ok(work)) => Ok(Kept { state, work }),

@@ -1,6 +1,6 @@
 //! Answers to events, and refusals of whole operations.
 
-use crate::limits::{ANSWER_BYTES, DEPTH_LIMIT, EVENTS, RECORDS, STORE_BYTES, TRANSACTIONS, WORK_BYTES};
+use crate::limits::{ANSWER_BYTES, DEPTH_LIMIT, EVENTS, RECORDS, ROWS, STORE_BYTES, TRANSACTIONS, WORK_BYTES};
 use std::fmt;
 
 /// The answer to one event: a number, then a value.
@@ -94,8 +94,12 @@ pub fn page_writes(number: u8) -> String {
 /// Why an operation was refused as a whole. No buffer was touched.
 #[derive(Clone, Copy, Debug, PartialEq, Eq)]
 pub enum Refusal {
+    /// 1: a waiting row has a mode that there isn't.
+    Mode,
     /// 4: page 0 is damaged.
     Damaged,
+    /// 5: the transaction of a waiting row isn't live.
+    NotLive,
     /// 20: the event list is no whole number of words, or too long.
     List,
     /// 21: the answer buffer is too short.
@@ -108,6 +112,8 @@ pub enum Refusal {
     Work,
     /// 25: the state isn't sound, or its bytes encode no state.
     State,
+    /// 26: there are too many waiting rows.
+    Rows,
     /// 27: the depot doesn't take this message in its state.
     Message,
     /// A number that this edition doesn't know.
@@ -118,13 +124,16 @@ impl Refusal {
     /// The refusal of this number.
     pub const fn of(number: u8) -> Refusal {
         match number {
+            1 => Refusal::Mode,
             4 => Refusal::Damaged,
+            5 => Refusal::NotLive,
             20 => Refusal::List,
             21 => Refusal::Answers,
             22 => Refusal::Store,
             23 => Refusal::Record,
             24 => Refusal::Work,
             25 => Refusal::State,
+            26 => Refusal::Rows,
             27 => Refusal::Message,
             other => Refusal::Other(other),
         }
@@ -133,13 +142,16 @@ impl Refusal {
     /// Its number.
     pub const fn number(self) -> u8 {
         match self {
+            Refusal::Mode => 1,
             Refusal::Damaged => 4,
+            Refusal::NotLive => 5,
             Refusal::List => 20,
             Refusal::Answers => 21,
             Refusal::Store => 22,
             Refusal::Record => 23,
             Refusal::Work => 24,
             Refusal::State => 25,
+            Refusal::Rows => 26,
             Refusal::Message => 27,
             Refusal::Other(number) => number,
         }
@@ -150,13 +162,16 @@ impl fmt::Display for Refusal {
     fn fmt(&self, f: &mut fmt::Formatter) -> fmt::Result {
         write!(f, "refused {}: ", self.number())?;
         match self {
+            Refusal::Mode => write!(f, "a lock is waited for in mode 0, to write, or 1, to read"),
             Refusal::Damaged => write!(f, "page 0 is damaged"),
+            Refusal::NotLive => write!(f, "the transaction that waits isn't live"),
             Refusal::List => write!(f, "the event list must be whole words of 4 bytes, at most {EVENTS} of them"),
             Refusal::Answers => write!(f, "the answer buffer must have {ANSWER_BYTES} bytes for each event"),
             Refusal::Store => write!(f, "a store has exactly {STORE_BYTES} bytes"),
             Refusal::Record => write!(f, "records are numbered from 0 to {}", RECORDS - 1),
             Refusal::Work => write!(f, "the working buffer has exactly {WORK_BYTES} bytes"),
             Refusal::State => write!(f, "the state isn't one that the last portion left with this store"),
+            Refusal::Rows => write!(f, "a report takes at most {ROWS} waiting rows"),
             Refusal::Message => write!(f, "the depot doesn't take this message in its state"),
             Refusal::Other(_) => write!(f, "an unknown refusal"),
         }

@@ -63,6 +63,25 @@
 //!
 //! Events that come one by one are played in portions of any length: [`Store::portion`] takes a
 //! [`State`] and a [`Work`] that the caller keeps from one portion to the next.
+//!
+//! Transactions whose locks were refused may wait on each other, and then no retry helps: [`State::waiting`]
+//! shows a [`Ring`] of them, of which one has to be aborted.
+//!
+//! ```
+//! use nekahuiro::{Event, Row, State, Store, Work};
+//!
+//! let list = "recover 63, begin none, begin none, lock 0 3, lock 1 4, lock 0 4, lock 1 3";
+//! let events: Vec<Event> = list.split(',').map(str::parse).collect::<Result<_, _>>()?;
+//! let (mut store, mut state, mut work) = (Store::fresh(), State::new(), Work::new());
+//! let answers = store.portion(&mut state, &mut work, &events)?;
+//! assert_eq!((answers[5].number, answers[6].number), (8, 8)); // both locks are refused
+//!
+//! let rows: Vec<Row> = events[5..].iter().filter_map(Row::of).collect();
+//! let ring: Vec<u8> = state.waiting(&rows)?.transactions().map(|t| t.number()).collect();
+//! assert_eq!(ring, [0, 1]); // 0 waits for 1, which waits for 0
+//! assert!(state.waiting(&rows[..1])?.is_empty());
+//! # Ok::<(), Box<dyn std::error::Error>>(())
+//! ```
 
 mod age;
 mod answer;
@@ -75,6 +94,7 @@ mod numbers;
 pub mod raw;
 mod state;
 mod store;
+mod waiting;
 mod words;
 mod work;
 
@@ -86,6 +106,7 @@ pub use event::{encode, Event, Fields};
 pub use numbers::{Identity, Record, Transaction};
 pub use state::State;
 pub use store::{Place, Store};
+pub use waiting::{Ring, Row};
 pub use words::{describe, why_bad, BadWords};
 pub use work::Work;
 

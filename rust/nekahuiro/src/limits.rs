@@ -24,5 +24,7 @@ pub const EVENTS: usize = 4096;
 pub const ANSWER_BYTES: usize = 2;
 /// The largest count of page writes that an event can carry; no power cut comes then.
 pub const COUNT_LIMIT: u8 = 63;
+/// Rows that a report on waiting transactions takes.
+pub const ROWS: usize = 24;
 /// Bytes of a lent state.
 pub const STATE_BYTES: usize = 468;

@@ -1,12 +1,15 @@
-//! The operations over plain byte slices, and those of the depot over bytes, just as C sees them.
+//! The operations over plain byte slices, those of the depot over bytes, and the report on waiting
+//! transactions over its rows, just as C sees them.
 //!
 //! They take anything: a slice of a wrong length is refused with the number of the refusal.
 //! Slices can't be null and can't overlap, which is all that the C interface asks of its caller.
 
+use crate::waiting::{Ring, Row};
 use crate::State;
 
 /// The proved library's own symbols.
 mod linked {
+    use crate::waiting::{Ring, Row};
     use crate::State;
 
     extern "C" {
@@ -42,6 +45,7 @@ mod linked {
         ) -> u8;
         pub fn nekahuiro_depot(state: *mut u8, message: u8, reply: *mut u8) -> u8;
         pub fn nekahuiro_vote(kind: u8, number: u8, value: u8) -> u8;
+        pub fn nekahuiro_waiting(state: *const State, rows: *const Row, count: usize, ring: *mut Ring) -> u8;
     }
 }
 
@@ -103,4 +107,12 @@ pub fn depot(state: &mut u8, message: u8, reply: &mut u8) -> u8 {
 pub fn vote(kind: u8, number: u8, value: u8) -> u8 {
     // SAFETY: it takes and gives plain bytes.
     unsafe { linked::nekahuiro_vote(kind, number, value) }
+}
+
+/// Reports on transactions that wait on each other: 0 with `ring` set; else a refusal's number and `ring`
+/// untouched.
+pub fn waiting(state: &State, rows: &[Row], ring: &mut Ring) -> u8 {
+    // SAFETY: a live struct of integers and a live slice of structs of bytes with its length, which are only
+    // read, and a live struct of bytes, borrowed alone; all are laid out as in C.
+    unsafe { linked::nekahuiro_waiting(state, rows.as_ptr(), rows.len(), ring) }
 }

@@ -27,6 +27,7 @@ pub mod soundness;
 pub mod store;
 mod tree;
 mod volatile;
+pub mod waiting;
 
 use event::Record;
 use limits::{ANSWER_BYTES, EVENTS, EVENT_BYTES, PAGE_BYTES, RECORDS, STORE_BYTES, WORK_BYTES};

@@ -14,6 +14,7 @@ pub mod report;
 pub mod serial;
 pub mod settings;
 pub mod states;
+pub mod waiting;
 
 pub use case::{Case, Played, Program};
 pub use check::{check, Fault};

@@ -1,8 +1,35 @@
-//! Structs of states that no list leads to: sound ones made at random, and sound ones with something changed.
+//! States to lend: those that lists lead to, sound ones made at random, and sound ones with something changed.
 
-use nekahuiro::limits::{DEPTH_LIMIT, RECORDS, STATE_BYTES};
-use nekahuiro::State;
+use crate::portions::Board;
+use crate::random;
+use nekahuiro::limits::{DEPTH_LIMIT, EVENT_BYTES, RECORDS, STATE_BYTES};
+use nekahuiro::{State, Work};
+use nekahuiro_lists::stores::{self, Bytes};
 use nekahuiro_lists::Rng;
+
+/// A reachable or a made up state with its store and working buffer.
+pub fn start(seed: u64, number: u64, rng: &mut Rng) -> Result<(State, Bytes, Work), String> {
+    let mut case = random::case(seed, number);
+    let cut = rng.below(case.length() + 1);
+    case.events.truncate(cut * EVENT_BYTES);
+    let mut board = Board::new(case.store, rng);
+    board.play(&case.events)?;
+    if rng.percent(30) {
+        board.state = any_state(rng);
+        board.store = if rng.percent(70) { stores::used(rng) } else { prepared_beside(&board.state, rng) };
+        board.work.bytes_mut().fill_with(|| rng.byte());
+    }
+    Ok((board.state, board.store, board.work))
+}
+
+/// A store with a prepared transaction that changed records whose locks nobody has, or almost.
+fn prepared_beside(state: &State, rng: &mut Rng) -> Bytes {
+    let free = (0..16).filter(|r| state.held[2 * r] | state.retained[2 * r] == 0);
+    let map = free.fold(0, |map, r| map | 0x8000 >> r) & rng.bits() as u16;
+    let map = if map == 0 || rng.percent(10) { map | 1 << rng.below(16) } else { map };
+    let identity = rng.one_of([0, 7, 255]);
+    stores::prepared(rng, map, identity)
+}
 
 /// Changes something in a struct, at random: it may still be sound.
 pub fn mutate(state: &mut State, rng: &mut Rng) {

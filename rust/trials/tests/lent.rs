@@ -1,14 +1,14 @@
 //! What may be lent as a state, against an independent judge; and how it is played on.
 
-use nekahuiro::limits::{DEPTH_LIMIT, EVENT_BYTES, STATE_BYTES};
+use nekahuiro::limits::{DEPTH_LIMIT, STATE_BYTES};
 use nekahuiro::{raw, Fields, Record, Refusal, State, Transaction, Work};
 use nekahuiro_lists::stores::{self, Bytes};
 use nekahuiro_lists::Rng;
 use nekahuiro_player::soundness::Fault;
 use nekahuiro_trials::lent::{self, Unsound};
 use nekahuiro_trials::portions::{rng, share, Board};
-use nekahuiro_trials::states::{any_state, mutate};
-use nekahuiro_trials::{listed, random, settings};
+use nekahuiro_trials::states::{mutate, start};
+use nekahuiro_trials::{listed, settings};
 use std::collections::BTreeMap;
 use std::sync::Mutex;
 
@@ -208,37 +208,13 @@ fn events_on(state: &State, rng: &mut Rng) -> Vec<u8> {
     words
 }
 
-/// A reachable or a made up state with its store and working buffer.
-fn start(number: u64, rng: &mut Rng) -> Result<(State, Bytes, Work), String> {
-    let mut case = random::case(settings::seed() + 8, number);
-    let cut = rng.below(case.length() + 1);
-    case.events.truncate(cut * EVENT_BYTES);
-    let mut board = Board::new(case.store, rng);
-    board.play(&case.events)?;
-    if rng.percent(30) {
-        board.state = any_state(rng);
-        board.store = if rng.percent(70) { stores::used(rng) } else { prepared_beside(&board.state, rng) };
-        board.work.bytes_mut().fill_with(|| rng.byte());
-    }
-    Ok((board.state, board.store, board.work))
-}
-
-/// A store with a prepared transaction that changed records whose locks nobody has, or almost.
-fn prepared_beside(state: &State, rng: &mut Rng) -> Bytes {
-    let free = (0..16).filter(|r| state.held[2 * r] | state.retained[2 * r] == 0);
-    let map = free.fold(0, |map, r| map | 0x8000 >> r) & rng.bits() as u16;
-    let map = if map == 0 || rng.percent(10) { map | 1 << rng.below(16) } else { map };
-    let identity = rng.one_of([0, 7, 255]);
-    stores::prepared(rng, map, identity)
-}
-
 #[test]
 fn the_library_takes_exactly_what_the_judge_calls_sound_and_plays_on() {
     let structs = settings::lists() / 5;
     let verdicts: Mutex<BTreeMap<String, u64>> = Mutex::default();
     let failure = share(structs, |number| {
         let mut rng = rng(8, number);
-        let (mut state, mut store, mut work) = start(number, &mut rng)?;
+        let (mut state, mut store, mut work) = start(settings::seed() + 8, number, &mut rng)?;
         for _ in 0..rng.one_of([0, 1, 1, 1, 2, 3]) {
             mutate(&mut state, &mut rng);
         }

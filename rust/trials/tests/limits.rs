@@ -1,6 +1,6 @@
 //! The numbers of the rules stand in three places: the C header, the wrapper and the player.
 
-use nekahuiro::{limits, Answer, Event, Message, Order, Stage, State};
+use nekahuiro::{limits, Answer, Event, Message, Order, Refusal, Stage, State};
 use nekahuiro_player::limits as player;
 
 fn header() -> String {
@@ -30,6 +30,7 @@ fn header_wrapper_and_player_have_the_same_numbers() {
         ("NEKAHUIRO_EVENTS", limits::EVENTS, player::EVENTS),
         ("NEKAHUIRO_ANSWER_BYTES", limits::ANSWER_BYTES, player::ANSWER_BYTES),
         ("NEKAHUIRO_STATE_BYTES", limits::STATE_BYTES, size_of::<State>()),
+        ("NEKAHUIRO_ROWS", limits::ROWS, nekahuiro_player::waiting::ROWS),
     ];
     for (name, wrapper, player) in rows {
         assert_eq!((defined(name), player), (wrapper, wrapper), "{name}");
@@ -63,6 +64,7 @@ fn header_and_wrapper_have_the_same_kinds_and_numbers() {
         let text = Answer { number, value: 0 }.to_string();
         assert!(text.starts_with(&format!("refused {number}: ")) && !text.contains("unknown"), "{text}");
     }
+    assert_eq!(defined("NEKAHUIRO_MANY_ROWS"), usize::from(Refusal::Rows.number()));
     for stage in Stage::ALL {
         let name = format!("NEKAHUIRO_{}", stage.to_string().to_uppercase());
         assert_eq!(defined(&name), stage as usize, "{name}");

@@ -8,7 +8,7 @@ use Rattle.rules.specs.Event.{Access, lock, write, read, accessOf}
 use Rattle.event.proofs.Meaning.{means-lock, means-write, means-read}
 use Rattle.numbers.specs.Named.{transactionOf, recordOf}
 use Rattle.events.proofs.Steps.{retold, sources}
-use Rattle.engine.proofs.ByKind.{access-is}
+use Rattle.arrays.proofs.Modes.{access-is}
 use borrow.Author.Needs.{needs}
 use Rattle.engine.proofs.record_event.Statement.{statement}
 use Rattle.engine.proofs.record_event.Tie as tie

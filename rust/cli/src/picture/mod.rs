@@ -3,8 +3,10 @@
 mod bars;
 mod layout;
 mod locks;
+pub mod ring;
 mod svg;
 
+use crate::failure::{Failure, Outcome};
 use crate::follow::Follower;
 use crate::{number_of, trace};
 use layout::{Layout, Scale};
@@ -12,6 +14,7 @@ use nekahuiro::limits::EVENT_BYTES;
 use nekahuiro::{describe, Answer, Event};
 use nekahuiro_history::History;
 use std::collections::BTreeMap;
+use std::path::Path;
 use svg::Svg;
 
 /// What each part of the picture is drawn from.
@@ -67,6 +70,17 @@ const CRASH_LABEL: f64 = 28.0;
 const LEGEND: f64 = 74.0;
 const LEGEND_ROW: f64 = 16.0;
 const LEAST_WIDTH: f64 = 900.0;
+
+/// A picture is SVG, so its name may not promise something else.
+pub fn check_name(name: &str) -> Outcome {
+    match Path::new(name).extension() {
+        Some(other) if !other.eq_ignore_ascii_case("svg") => {
+            let reason = format!("--picture draws SVG, and {name} is the name of something else");
+            Err(Failure::usage(&reason, "give it a name that ends in .svg"))
+        }
+        _ => Ok(()),
+    }
+}
 
 /// Draws a run.
 pub fn draw(start: &Follower, words: &[u8], answers: &[Answer], history: &History) -> String {

@@ -32,6 +32,9 @@ text { font-family: sans-serif; font-size: 11px; fill: #222 }
 .grid { stroke: #eee }
 .crash { stroke: #b3261e; stroke-width: 2; stroke-dasharray: 6 3 }
 .crash-label { fill: #b3261e; font-weight: bold; font-size: 10px; text-anchor: middle }
+.wait { fill: none; stroke: #b3261e; stroke-width: 2 } .wait-head { fill: #b3261e }
+.kin { stroke: #9aa3af; stroke-width: 1.5 } .calm { fill: #5c6673 } .caught { fill: #b3261e }
+.note { fill: #333; font-size: 10px; text-anchor: middle } .waits { fill: #b3261e; font-size: 10px; text-anchor: middle }
 .tick { fill: #222 } .tick-no { fill: #b3261e } .tick-cut { fill: #e08a00 }
 ";
 
@@ -76,6 +79,28 @@ impl Svg {
     pub fn line(&mut self, x1: f64, y1: f64, x2: f64, y2: f64, class: &str) {
         let ends = format!("x1=\"{x1:.1}\" y1=\"{y1:.1}\" x2=\"{x2:.1}\" y2=\"{y2:.1}\"");
         let _ = writeln!(self.text, "<line {ends} class=\"{class}\"/>");
+    }
+
+    /// A bent arrow from one place to another, with its head at the end; it leaves room for circles of this radius.
+    pub fn arrow(&mut self, from: (f64, f64), to: (f64, f64), radius: f64, class: &str, tip: &str) {
+        let (dx, dy) = (to.0 - from.0, to.1 - from.1);
+        let length = dx.hypot(dy).max(1.0);
+        // To the left of its way, so that an arrow back goes another way.
+        let bend = (from.0 + dx / 2.0 + dy * 0.18, from.1 + dy / 2.0 - dx * 0.18);
+        let edge = |at: (f64, f64), gap: f64| {
+            let (x, y) = (bend.0 - at.0, bend.1 - at.1);
+            let long = x.hypot(y).max(1.0);
+            (at.0 + x / long * gap, at.1 + y / long * gap)
+        };
+        let (start, end) = (edge(from, radius), edge(to, radius + length.min(9.0)));
+        let point = edge(to, radius + 1.0);
+        let (x, y) = (point.0 - end.0, point.1 - end.1);
+        let path = format!("M{:.1} {:.1} Q{:.1} {:.1} {:.1} {:.1}", start.0, start.1, bend.0, bend.1, end.0, end.1);
+        let _ = writeln!(self.text, "<path d=\"{path}\" class=\"{class}\"><title>{tip}</title></path>");
+        let (left, right) = ((end.0 - y / 2.0, end.1 + x / 2.0), (end.0 + y / 2.0, end.1 - x / 2.0));
+        let head =
+            format!("M{:.1} {:.1} L{:.1} {:.1} L{:.1} {:.1} Z", left.0, left.1, point.0, point.1, right.0, right.1);
+        let _ = writeln!(self.text, "<path d=\"{head}\" class=\"{class}-head\"/>");
     }
 
     /// A filled circle with a tip.

@@ -3,11 +3,9 @@
 use super::COMMAND;
 use crate::command::number;
 use crate::failure::{Failure, Outcome};
-use crate::files::{need_plain, place_of};
+use crate::files::{need_different, need_plain};
+use crate::picture;
 use nekahuiro::limits::EVENTS;
-use std::borrow::Cow;
-use std::fs;
-use std::path::Path;
 use std::time::Duration;
 
 /// The names and options of a call.
@@ -71,38 +69,8 @@ impl<'w> Options<'w> {
             ("the picture", self.picture),
         ];
         files.extend(others.into_iter().filter_map(|(what, name)| Some((what, name?))));
-        let places: Vec<_> = files.iter().map(|(_, name)| place_of(name)).collect();
-        for (at, place) in places.iter().enumerate() {
-            // A device or a pipe may well be both, as a terminal is.
-            let is_device = fs::metadata(place).is_ok_and(|found| !found.is_file());
-            let Some(first) = places[..at].iter().position(|other| other == place).filter(|_| !is_device) else {
-                continue;
-            };
-            let ((one, name), (other, _)) = (files[first], files[at]);
-            let reason = format!("{} is named twice, for {one} and for {other}", shown(name, place));
-            return Err(Failure::usage(&reason, "one use would spoil the other: give them different names"));
-        }
-        self.picture.map_or(Ok(()), check_picture)
-    }
-}
-
-/// A file as the user knows it.
-fn shown<'n>(name: &'n str, place: &'n Path) -> Cow<'n, str> {
-    if name.starts_with("/dev/std") {
-        place.to_string_lossy()
-    } else {
-        name.into()
-    }
-}
-
-/// A picture is SVG, so its name may not promise something else.
-fn check_picture(name: &str) -> Outcome {
-    match Path::new(name).extension() {
-        Some(other) if !other.eq_ignore_ascii_case("svg") => {
-            let reason = format!("--picture draws SVG, and {name} is the name of something else");
-            Err(Failure::usage(&reason, "give it a name that ends in .svg"))
-        }
-        _ => Ok(()),
+        need_different(&files)?;
+        self.picture.map_or(Ok(()), picture::check_name)
     }
 }
 
