@@ -10,6 +10,5 @@ pub mod Counts
 pub mod Bytes
 pub mod Updated
 pub mod All
-pub mod Counts
 pub mod Any
 pub mod Compared
