@@ -9,8 +9,8 @@ ok "a ring" "^0 waits for its child 2, which waits for 3, which waits for 0$" \
 holds "the ring is drawn" grep -q '<title>3 waits for 0</title>' ring.svg
 holds "who is in it" grep -q 'class="caught"><title>transaction 2</title>' ring.svg
 holds "who isn't" grep -q 'class="calm"><title>transaction 1</title>' ring.svg
-holds "what is waited for" grep -q '>waits for 2</text>' ring.svg
-holds "what is held" grep -q '>holds 1</text>' ring.svg
+holds "what is waited for" grep -q '>waits for record 2</text>' ring.svg
+holds "what is held" grep -q '>holds record 1</text>' ring.svg
 ok "from standard input" "^0 waits for" bash -c "'$run' waiting waited.state - <waited.rows"
 ok "as hex words, a grantable one among them" "^0 waits for its child 2, which waits for 3, which waits for 0$" \
     "$run" waiting waited.state hex.rows
@@ -19,7 +19,7 @@ ok "no ring" "^no ring" "$run" waiting waited.state one.rows --picture none.svg
 holds "no ring is drawn" bash -c "! grep -q 'class=\"wait\"' none.svg"
 ok "no rows" "^no ring" "$run" waiting waited.state /dev/null
 text 'begin 0\n' begin.rows
-fails "only locks wait" 4 "begin.rows, line 1: only a lock can be waited for, in .begin 0.; write .lock" \
+fails "only locks wait" 4 "begin.rows, line 1: only a lock can be waited for, in .begin 0." \
     "$run" waiting waited.state begin.rows
 text 'lock 2 2\nlock 9 2\n' dead.rows
 fails "a dead transaction" 4 "dead.rows, line 2: transaction 9 isn't live \(refusal 5\)" "$run" waiting waited.state dead.rows
@@ -35,3 +35,8 @@ fails "the rows aren't drawn over" 2 "is named twice, for the rows and for the p
 text 'abort 3\nlock 2 2\n' broken.txt
 ok "an abort breaks the ring" "2 events" "$run" play waited broken.txt --state waited.state --strict
 ok "and there is none any more" "^no ring" "$run" waiting waited.state one.rows
+ok "a fresh store for the ring in the README" "1056 bytes" "$run" fresh ringed
+ok "the list of the ring in the README" "2 refused" "$run" play ringed "$root/docs/ring.txt" --state ringed.state
+ok "the ring in the README" "^0 waits for its child 2" \
+    "$run" waiting ringed.state "$root/docs/ring-rows.txt" --picture ringed.svg
+same "the ring is the one that is drawn now: else draw it again" ringed.svg "$root/docs/ring.svg"

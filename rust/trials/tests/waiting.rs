@@ -267,6 +267,6 @@ fn wrong_reports_are_found() {
             check(*wrong, &state, sound(&state).as_ref(), &any_rows(&state, &mut rng)).is_err()
         });
         assert!(found, "{name}");
-        println!("wrong report, {name}: was found");
+        println!("wrong report, {name}: is found");
     }
 }

@@ -11,6 +11,13 @@ const SIDE: f64 = 40.0;
 const RADIUS: f64 = 13.0;
 const LEAST_WIDTH: f64 = 480.0;
 
+const STYLE: &str = "
+.wait { fill: none; stroke: #b3261e; stroke-width: 2 } .wait-head { fill: #b3261e }
+.kin { stroke: #9aa3af; stroke-width: 1.5 } .calm { fill: #5c6673 } .caught { fill: #b3261e }
+.note { fill: #333; font-size: 10px; text-anchor: middle }
+.waits { fill: #b3261e; font-size: 10px; text-anchor: middle }
+";
+
 /// Where each transaction stands: a column for each that has no child, parents above the middle of theirs.
 struct Places {
     at: BTreeMap<Transaction, (f64, f64)>,
@@ -45,6 +52,7 @@ pub fn draw(state: &State, rows: &[Row], ring: &Ring, words: &str) -> String {
     let places = Places::of(state);
     let widest = (2.0 * SIDE + places.columns * COLUMN).max(32.0 + 7.6 * words.len() as f64);
     let mut svg = Svg::new(widest.max(LEAST_WIDTH), TOP + places.levels.max(1.0) * LEVEL + 30.0);
+    svg.style(STYLE);
     svg.text(16.0, 24.0, "title", words);
     if places.at.is_empty() {
         svg.text(16.0, TOP, "label", "nothing is live");
@@ -78,14 +86,15 @@ fn notes(state: &State, rows: &[Row], transaction: Transaction) -> Vec<(&'static
     let is = |mut who: Box<dyn Iterator<Item = Transaction> + '_>| who.any(|t| t == transaction);
     let of = |any: &dyn Fn(Record) -> bool, writes: &dyn Fn(Record) -> bool| {
         let short = |r: Record| format!("{r}{}", if writes(r) { "" } else { "r" });
-        Record::all().filter(|r| any(*r)).map(short).collect::<Vec<_>>().join(" ")
+        Record::all().filter(|r| any(*r)).map(short).collect::<Vec<_>>()
     };
     let held = of(&|r| is(Box::new(state.holders(r))), &|r| is(Box::new(state.write_holders(r))));
     let retained = of(&|r| is(Box::new(state.retainers(r))), &|r| is(Box::new(state.write_retainers(r))));
     let own = rows.iter().filter(|row| row.transaction == transaction.number());
     let waits = own.map(|row| format!("{}{}", row.record, if row.mode == 1 { "r" } else { "" }));
-    let waits = waits.collect::<Vec<_>>().join(" ");
+    let waits = waits.collect();
     let lines = [("note", "holds", held), ("note", "retains", retained), ("waits", "waits for", waits)];
-    let some = lines.into_iter().filter(|(.., what)| !what.is_empty());
-    some.map(|(class, verb, what)| (class, format!("{verb} {what}"))).collect()
+    let some = lines.into_iter().filter(|(.., records)| !records.is_empty());
+    let thing = |records: &[String]| if records.len() == 1 { "record" } else { "records" };
+    some.map(|(class, verb, records)| (class, format!("{verb} {} {}", thing(&records), records.join(" ")))).collect()
 }

@@ -32,9 +32,6 @@ text { font-family: sans-serif; font-size: 11px; fill: #222 }
 .grid { stroke: #eee }
 .crash { stroke: #b3261e; stroke-width: 2; stroke-dasharray: 6 3 }
 .crash-label { fill: #b3261e; font-weight: bold; font-size: 10px; text-anchor: middle }
-.wait { fill: none; stroke: #b3261e; stroke-width: 2 } .wait-head { fill: #b3261e }
-.kin { stroke: #9aa3af; stroke-width: 1.5 } .calm { fill: #5c6673 } .caught { fill: #b3261e }
-.note { fill: #333; font-size: 10px; text-anchor: middle } .waits { fill: #b3261e; font-size: 10px; text-anchor: middle }
 .tick { fill: #222 } .tick-no { fill: #b3261e } .tick-cut { fill: #e08a00 }
 ";
 
@@ -46,6 +43,11 @@ impl Svg {
         let _ = writeln!(text, "<svg xmlns=\"http://www.w3.org/2000/svg\" {size}>\n<style>{STYLE}</style>");
         let _ = writeln!(text, "<rect width=\"{width:.0}\" height=\"{height:.0}\" fill=\"#fff\"/>");
         Svg { text }
+    }
+
+    /// More classes, for this drawing alone.
+    pub fn style(&mut self, classes: &str) {
+        let _ = writeln!(self.text, "<style>{classes}</style>");
     }
 
     /// A rectangle; the tip is shown where a pointer rests on it.
