@@ -1,5 +1,5 @@
-// The open operations: a run, a portion, a fresh store, the age of a record, and the two ends of a two-phase commit. Any bytes may come in; each
-// refuses or does what the rules say.
+// The open operations: a run, a portion, a fresh store, the age of a record, the two ends of a two-phase commit, and the list of a job sheet. Any bytes
+// may come in; each refuses or does what the rules say.
 ghost use mathlib.Core.Path.{_≡_};
 ghost use Prim.Native.Nat.{ℕ};
 ghost use mathlib.Core.List.{List};
@@ -16,6 +16,7 @@ ghost use Rattle.portions.specs.Portion.{whole};
 ghost use Rattle.clauses.specs.Decides.{Decides};
 ghost use Rattle.messages.specs.Codes.{left};
 ghost use Rattle.messages.specs.Votes.{voteOn};
+ghost use Rattle.sheets.specs.Made.{Made};
 use portions::Engine;
 
 const STORE: usize = 1056;
@@ -187,4 +188,14 @@ pub extern "C" fn nekahuiro_vote(kind: u8, number: u8, value: u8) -> u8
     ensures { λ r. ⌜ r ≡ voteOn kind number value ⌝ }
 {
     messages::vote(kind, number, value)
+}
+
+// Makes a list of event words of a job sheet: 0, with the list at the beginning of `list` and its length in bytes left at `told`; 28 where `list` has
+// fewer than 16,384 bytes, tried first, and then touches nothing; or 29 where the text is no sheet that is taken, with the place of the first byte after
+// which none could follow left at `told`, and `list` stays.
+#[no_mangle]
+pub extern "C" fn nekahuiro_sheet(sheet: &[u8], list: &mut [u8], told: &mut usize) -> u8
+    ensures { λ r. ⌜ Made (now (sheet .entry)) (now (list .entry)) (now (told .entry)) r (now (list .exit)) (now (told .exit)) ⌝ }
+{
+    sheetlist::list_of(sheet, list, told)
 }

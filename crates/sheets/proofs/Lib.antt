@@ -1,0 +1,8 @@
+-- Laws of sheets and their texts.
+pub mod Letters
+pub mod Texts
+pub mod Parsing
+pub mod Following
+pub mod Emitting
+pub mod Given
+pub mod Turning
