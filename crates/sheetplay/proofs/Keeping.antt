@@ -20,7 +20,7 @@ use Rattle.rules.specs.Geometry.{nobody, wordSize, workSize, open-geometry}
 use Rattle.rules.specs.Store.{Page, Pages}
 use Rattle.rules.specs.Versions.{isSome}
 use Rattle.rules.specs.Commit.{commitAt}
-use Rattle.rules.specs.Event.{Event, begin, lock, write, read, toWrite, encode, word, fits, open-event}
+use Rattle.rules.specs.Event.{Event, begin, lock, write, read, toWrite, encode, fits, open-event}
 use Rattle.rules.specs.State.{Bearer, free, active, isActive, live}
 use Rattle.rules.specs.Sound.{Sound}
 use Rattle.rules.specs.Step.{StateOf, step, isBusy, busy}

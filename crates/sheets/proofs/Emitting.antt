@@ -1,19 +1,18 @@
 -- A taken sheet's text gives its events: so the text alone says which list it becomes.
 use mathlib.Core.Path.{_≡_, refl, sym, _∙_, ap, ap₂, subst}
-use mathlib.Core.Bool.{Bool, true, false, cond, _&&_}
+use mathlib.Core.Bool.{Bool, true, false, cond}
 use mathlib.Core.List.{List, [], _∷_, _++_, append-assoc, append-nil}
-use Prim.Native.Nat.{ℕ, zero, suc, _+_, _*_, _-_, _/_, _%_, _≤_, _<_}
+use Prim.Native.Nat.{ℕ, suc, _+_, _*_, _-_, _/_, _%_, _≤_, _<_}
 use native.Mathlib.Omega.{arith}
-use lib.ListN.{length}
 use Rattle.laws.specs.Tests.{same, under, open-tests}
 use Rattle.laws.proofs.Tests.{under-lt, lt-under, not-under, Is, yes′, no′, is?}
 use Rattle.laws.proofs.Booleans.{and-left, and-right}
 use Rattle.rules.specs.Geometry.{nobody}
 use Rattle.rules.specs.Event.{Event, begin, lock, write, read, toWrite}
 use Rattle.sheets.specs.Sheet as sheet
-use Rattle.sheets.specs.Sheet.{Steps, none, locking, writing, reading, inner, Sheet, digit, digits, stepsText, text, proper, greater, depthOf, ending, eventsOf, events, listOf, Good, Taken, open-sheet}
-use Rattle.sheets.specs.Scan.{Scan, start, between, within, ended, dead, Letter, opening, closing, plain, letterOf, isDigit, toCome, opened, left, next, open-scan}
-use Rattle.sheets.specs.Count.{countOf, open-count}
+use Rattle.sheets.specs.Sheet.{Steps, none, locking, writing, reading, inner, Sheet, digit, digits, stepsText, text, proper, depthOf, ending, eventsOf, events, listOf, Good, Taken, open-sheet}
+use Rattle.sheets.specs.Scan.{between, within, dead, closing, isDigit, left, open-scan}
+use Rattle.sheets.proofs.Count.{countOf, open-count}
 use Rattle.sheets.specs.Emit.{value, pairOf, offsetOf, tokenOf, Reading, given, emit, emitAll, unread, open-emit}
 use Rattle.sheets.proofs.Letters.{has-both, level-up}
 use Rattle.sheets.proofs.Texts.{digit-any, digit-low, greater-left, greater-right, sheet-count}

@@ -1,9 +1,9 @@
 -- Where the reading comes to an end it has read a taken sheet; where it is not dead some taken sheet follows; where it is dead none does.
 use mathlib.Core.Path.{_≡_, refl, sym, _∙_, ap, subst}
-use mathlib.Core.Bool.{Bool, true, false, cond, true≢false, false≢true}
-use mathlib.Core.List.{List, [], _∷_, _++_, append-assoc, append-nil}
+use mathlib.Core.Bool.{Bool, true, false, cond, true≢false}
+use mathlib.Core.List.{List, [], _∷_, _++_}
 use mathlib.Core.Logic.{dite}
-use Prim.Native.Nat.{ℕ, zero, suc, _+_, _-_, _≤_, _<_}
+use Prim.Native.Nat.{ℕ, zero, suc, _+_, _-_, _≤_}
 use native.Mathlib.Decide.{decLt}
 use native.Mathlib.Omega.{arith}
 use lib.ListN.{length, take, getD, replicate, take-append-drop, drop}
@@ -11,11 +11,11 @@ use lib.Seq.{take-suc, take-length}
 use Rattle.laws.specs.Tests.{same, open-tests}
 use Rattle.laws.proofs.Tests.{ne-false}
 use Rattle.sheets.specs.Sheet as sheet
-use Rattle.sheets.specs.Sheet.{Sheet, text, events, Good, Taken, Follows, Fault}
-use Rattle.sheets.specs.Scan.{Scan, start, between, within, ended, dead, isDigit, toCome, left, next, after, Stuck, isDead, isEnded, open-scan}
-use Rattle.sheets.specs.Count.{countOf, run}
+use Rattle.sheets.specs.Sheet.{Sheet, events, Taken, Follows, Fault}
+use Rattle.sheets.specs.Scan.{Scan, start, between, within, ended, dead, isDigit, left, next, after, Stuck, isDead, isEnded, open-scan}
+use Rattle.sheets.proofs.Count.{countOf, run}
 use Rattle.sheets.proofs.Texts.{run-append, sheet-read, sheet-count}
-use Rattle.sheets.proofs.Parsing.{AtBetween, AtWithin, AtEnd, Means, means-all, between-low, within-low}
+use Rattle.sheets.proofs.Parsing.{AtEnd, Means, means-all, between-low, within-low}
 
 -- nothing follows what is dead
 dead-run : (l : List ℕ) → run dead l ≡ dead

@@ -1,23 +1,22 @@
 -- The reading of a good text, step by step: it never dies, so each step is whole.
-use mathlib.Core.Path.{_≡_, refl, sym, _∙_, ap, subst}
+use mathlib.Core.Path.{_≡_, refl, sym, _∙_, ap}
 use mathlib.Core.Bool.{Bool, true, false, cond, true≢false, false≢true}
 use mathlib.Core.List.{List, [], _∷_, _++_}
 use mathlib.Core.Logic.{dite}
-use Prim.Native.Nat.{ℕ, zero, suc, _+_, _*_, _-_, _≤_, _<_}
+use Prim.Native.Nat.{ℕ, zero, suc, _+_, _-_, _≤_, _<_}
 use native.Mathlib.Decide.{decLt}
 use native.Mathlib.Omega.{arith}
 use native.Mathlib.Nat.{add-suc, add-zero}
 use lib.ListN.{length, take, getD}
 use lib.Seq.{take-suc, take-length}
-use Rattle.laws.specs.Tests.{same, open-tests}
+use Rattle.laws.specs.Tests.{same}
 use Rattle.laws.proofs.Tests.{Is, is?, yes′, no′}
-use Rattle.rules.specs.Event.{Event, begin, lock, write, read, toWrite}
-use Rattle.sheets.specs.Sheet.{ending}
-use Rattle.sheets.specs.Scan.{Scan, start, between, within, ended, dead, Letter, opening, closing, unknown, plain, letterOf, isDigit, toCome, opened, left, stepped, next, after, isDead, isEnded, open-scan}
-use Rattle.sheets.specs.Emit.{value, pairOf, tokenOf, Reading, emit, emitAll, emits, unread, open-emit}
+use Rattle.rules.specs.Event.{Event, begin}
+use Rattle.sheets.specs.Scan.{Scan, start, between, within, ended, dead, Letter, plain, letterOf, isDigit, toCome, opened, stepped, next, after, isDead, isEnded}
+use Rattle.sheets.specs.Emit.{tokenOf, Reading, emit, emitAll, emits, unread}
 use Rattle.sheets.specs.Places.{Ends}
-use Rattle.sheets.proofs.Letters.{is-opening, is-lock, is-write, is-read, too-few, no-level, no-room}
-use Rattle.sheets.proofs.Emitting.{at, inside, digit-emit, last-emit, lock-begin, write-begin, read-begin, open-one, close-one, emit-append}
+use Rattle.sheets.proofs.Letters.{is-opening, too-few, no-level, no-room}
+use Rattle.sheets.proofs.Emitting.{at, inside, digit-emit, last-emit, lock-begin, write-begin, read-begin, open-one, emit-append}
 
 pub scan-is : (s : List ℕ) (i : ℕ) → emits s i .scan ≡ after s i
 unfolding emits emit after
@@ -39,7 +38,7 @@ unfolding after next
 dead-stays s i zero e = ap (after s) (add-zero i) ∙ e
 dead-stays s i (suc k) e = ap (after s) (add-suc i k) ∙ ap (λ (q : Scan). next q (getD s (i + k) 0)) (dead-stays s i k e)
 
-is-dead : (q : Scan) → isDead q ≡ true → q ≡ dead
+pub is-dead : (q : Scan) → isDead q ≡ true → q ≡ dead
 unfolding isDead
 is-dead start e = absurd (false≢true e)
 is-dead (between l r) e = absurd (false≢true e)

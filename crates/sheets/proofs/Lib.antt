@@ -1,4 +1,5 @@
 -- Laws of sheets and their texts.
+pub mod Count
 pub mod Letters
 pub mod Texts
 pub mod Parsing
@@ -6,3 +7,4 @@ pub mod Following
 pub mod Emitting
 pub mod Given
 pub mod Turning
+pub mod SheetTrials

@@ -1,18 +1,17 @@
 -- What was read so far, as the steps of the transactions that are open: where the reading comes to an end, it has read a sheet's text.
 use mathlib.Core.Path.{_≡_, refl, sym, _∙_, ap, subst}
-use mathlib.Core.Bool.{Bool, true, false, cond, _&&_, _||_, not}
+use mathlib.Core.Bool.{Bool, true, false, cond, _&&_}
 use mathlib.Core.List.{List, [], _∷_, _++_, append-assoc, append-nil}
 use Prim.Native.Nat.{ℕ, zero, suc, _+_, _*_, _-_, _/_, _%_, _≤_, _<_}
 use native.Mathlib.Omega.{arith}
 use Rattle.laws.specs.Tests.{same, under, open-tests}
-use Rattle.laws.proofs.Tests.{under-lt, lt-under, not-under, ne-false, Same, is, isnt, same?, Is, yes′, no′, is?}
+use Rattle.laws.proofs.Tests.{under-lt, lt-under, ne-false, Same, is, isnt, same?, Is, yes′, no′, is?}
 use Rattle.laws.proofs.Booleans.{and-left, and-right, or-cases}
 use Rattle.sheets.specs.Sheet as sheet
 use Rattle.sheets.specs.Sheet.{Steps, none, locking, writing, reading, inner, Sheet, digit, digits, stepsText, text, proper, greater, depthOf, open-sheet}
 use Rattle.sheets.specs.Scan.{Scan, start, between, within, ended, dead, Letter, opening, closing, unknown, plain, letterOf, isDigit, toCome, opened, left, stepped, begun, next, open-scan}
-use Rattle.sheets.specs.Count.{countOf, run, open-count}
+use Rattle.sheets.proofs.Count.{countOf, run, open-count}
 use Rattle.sheets.proofs.Letters.{is-opening, is-closing, is-closing-too, is-lock, is-write, is-read, is-unknown}
-use Rattle.sheets.proofs.Texts.{run-append}
 
 -- which byte a letter is
 data View (b : ℕ) : Letter → Type 0 where

@@ -1,18 +1,16 @@
 -- The text of a taken sheet is read to its end.
-use mathlib.Core.Path.{_≡_, refl, sym, _∙_, ap, subst}
-use mathlib.Core.Bool.{Bool, true, false, cond, _&&_, _||_, not, or-true}
+use mathlib.Core.Path.{_≡_, refl, _∙_, ap, subst}
+use mathlib.Core.Bool.{Bool, true, false, cond, or-true}
 use mathlib.Core.List.{List, [], _∷_, _++_}
-use Prim.Native.Nat.{ℕ, zero, suc, _+_, _*_, _-_, _/_, _%_, _≤_, _<_}
+use Prim.Native.Nat.{ℕ, suc, _+_, _-_, _/_, _%_, _≤_, _<_}
 use native.Mathlib.Omega.{arith}
-use native.Mathlib.Numerals.{add-one}
 use lib.ListN.{length, length-append}
 use Rattle.laws.specs.Tests.{same, under, open-tests}
 use Rattle.laws.proofs.Tests.{under-lt, lt-under, not-under, Is, yes′, no′, is?}
 use Rattle.laws.proofs.Booleans.{and-left, and-right}
-use Rattle.sheets.specs.Sheet.{Steps, none, locking, writing, reading, inner, Sheet, digit, digits, closing, stepsText, text, proper, greater, depthOf, ending, eventsOf, events, Good, Taken, open-sheet}
-use Rattle.sheets.specs.Scan as scan
+use Rattle.sheets.specs.Sheet.{Steps, none, locking, writing, reading, inner, Sheet, digit, digits, closing, stepsText, text, proper, greater, depthOf, ending, eventsOf, events, Good, open-sheet}
 use Rattle.sheets.specs.Scan.{Scan, start, between, within, ended, dead, isDigit, toCome, opened, left, next, open-scan}
-use Rattle.sheets.specs.Count.{countOf, run, open-count}
+use Rattle.sheets.proofs.Count.{countOf, run, open-count}
 use Rattle.sheets.proofs.Letters.{has-both, level-up}
 
 -- reading goes on where it stood

@@ -17,9 +17,9 @@ use Rattle.rules.specs.Geometry.{nobody}
 use Rattle.rules.specs.Event.{Event, begin, lock, write, read, toWrite, word, encode, open-event}
 use Rattle.rules.specs.Editions.{geometry1}
 use Rattle.sheets.specs.Sheet as sheet
-use Rattle.sheets.specs.Sheet.{Sheet, text, events, ending, wordsOf, Taken}
+use Rattle.sheets.specs.Sheet.{Sheet, events, ending, wordsOf, Taken}
 use Rattle.sheets.specs.Scan.{Scan, start, between, within, ended, dead, Letter, closing, plain, letterOf, left, next, after, stepped, isEnded}
-use Rattle.sheets.specs.Count.{run}
+use Rattle.sheets.proofs.Count.{run}
 use Rattle.sheets.specs.Emit.{value, pairOf, offsetOf, tokenOf, Reading, given, emit, emitAll, emits, unread}
 use Rattle.sheets.specs.Made.{over}
 use Rattle.sheets.specs.Places.{Ends, reached, Place, Turns}

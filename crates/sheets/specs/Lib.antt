@@ -2,6 +2,6 @@
 pub mod Sheet
 pub mod Made
 pub mod Scan
-pub mod Count
 pub mod Emit
 pub mod Places
+pub mod SheetTrials

@@ -1,8 +1,9 @@
--- A job sheet (document 01's word; a top transaction with its steps), its text, and the list of events that it becomes.
+-- Job sheets as text (document 02, L10): a sheet is a top transaction with its steps. Its text, the list of events that it becomes, which sheets are
+-- taken, and the place at which another text goes wrong.
 use mathlib.Core.Path.{_≡_}
 use mathlib.Core.Bool.{Bool, true, false, cond, _&&_}
 use mathlib.Core.List.{List, [], _∷_, _++_}
-use Prim.Native.Nat.{ℕ, suc, _+_, _*_, _/_, _%_, _≤_, _<_}
+use Prim.Native.Nat.{ℕ, suc, _+_, _/_, _%_, _≤_, _<_}
 use lib.ListN.{length, take}
 use Rattle.laws.specs.Tests.{under}
 use Rattle.laws.specs.Bytes.{bytes}

@@ -4,8 +4,8 @@ use crate::failure::{Failure, Outcome};
 use std::fmt::Write;
 use std::time::Duration;
 
-/// The name that takes standard input for `-`.
-const EVENTS: &str = "EVENTS";
+/// The names that take standard input for `-`.
+const INPUTS: [&str; 2] = ["EVENTS", "SHEET"];
 
 /// A command. Its module has one of these, and the table in commands.rs has a row for it.
 pub struct Command {
@@ -49,7 +49,7 @@ impl Command {
         for (name, what) in names.iter().zip(self.names) {
             match *name {
                 "" => return Err(self.misuse(&format!("{what} is empty"))),
-                "-" if *what != EVENTS => return Err(self.misuse(&format!("{what} can't be standard input"))),
+                "-" if !INPUTS.contains(what) => return Err(self.misuse(&format!("{what} can't be standard input"))),
                 _ => {}
             }
         }

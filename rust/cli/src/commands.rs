@@ -2,7 +2,7 @@
 
 use crate::command::Command;
 use crate::failure::{visible, Failure, Outcome};
-use crate::{age, bench, demo, depot, encode, fresh, help, play, show};
+use crate::{age, bench, demo, depot, encode, fresh, help, play, sheet, show};
 
 /// All commands.
 pub const ALL: &[Command] = &[
@@ -13,6 +13,7 @@ pub const ALL: &[Command] = &[
     age::COMMAND,
     depot::COMMAND,
     encode::COMMAND,
+    sheet::COMMAND,
     bench::COMMAND,
     help::COMMAND,
 ];

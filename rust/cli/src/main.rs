@@ -18,6 +18,7 @@ mod output;
 mod pair;
 mod picture;
 mod play;
+mod sheet;
 mod show;
 mod staged;
 mod state_file;

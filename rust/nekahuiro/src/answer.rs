@@ -1,6 +1,6 @@
 //! Answers to events, and refusals of whole operations.
 
-use crate::limits::{ANSWER_BYTES, DEPTH_LIMIT, EVENTS, RECORDS, STORE_BYTES, TRANSACTIONS, WORK_BYTES};
+use crate::limits::{ANSWER_BYTES, DEPTH_LIMIT, EVENTS, LIST_BYTES, RECORDS, STORE_BYTES, TRANSACTIONS, WORK_BYTES};
 use std::fmt;
 
 /// The answer to one event: a number, then a value.
@@ -110,6 +110,10 @@ pub enum Refusal {
     State,
     /// 27: the depot doesn't take this message in its state.
     Message,
+    /// 28: the output for a sheet's list is too short.
+    Output,
+    /// 29: the text is no sheet that is taken.
+    Sheet,
     /// A number that this edition doesn't know.
     Other(u8),
 }
@@ -126,6 +130,8 @@ impl Refusal {
             24 => Refusal::Work,
             25 => Refusal::State,
             27 => Refusal::Message,
+            28 => Refusal::Output,
+            29 => Refusal::Sheet,
             other => Refusal::Other(other),
         }
     }
@@ -141,6 +147,8 @@ impl Refusal {
             Refusal::Work => 24,
             Refusal::State => 25,
             Refusal::Message => 27,
+            Refusal::Output => 28,
+            Refusal::Sheet => 29,
             Refusal::Other(number) => number,
         }
     }
@@ -158,6 +166,8 @@ impl fmt::Display for Refusal {
             Refusal::Work => write!(f, "the working buffer has exactly {WORK_BYTES} bytes"),
             Refusal::State => write!(f, "the state isn't one that the last portion left with this store"),
             Refusal::Message => write!(f, "the depot doesn't take this message in its state"),
+            Refusal::Output => write!(f, "the output for a sheet's list has at least {LIST_BYTES} bytes"),
+            Refusal::Sheet => write!(f, "the text is no sheet that is taken"),
             Refusal::Other(_) => write!(f, "an unknown refusal"),
         }
     }

@@ -42,6 +42,13 @@ mod linked {
         ) -> u8;
         pub fn nekahuiro_depot(state: *mut u8, message: u8, reply: *mut u8) -> u8;
         pub fn nekahuiro_vote(kind: u8, number: u8, value: u8) -> u8;
+        pub fn nekahuiro_sheet(
+            sheet: *const u8,
+            sheet_bytes: usize,
+            list: *mut u8,
+            list_bytes: usize,
+            told: *mut usize,
+        ) -> u8;
     }
 }
 
@@ -103,4 +110,12 @@ pub fn depot(state: &mut u8, message: u8, reply: &mut u8) -> u8 {
 pub fn vote(kind: u8, number: u8, value: u8) -> u8 {
     // SAFETY: it takes and gives plain bytes.
     unsafe { linked::nekahuiro_vote(kind, number, value) }
+}
+
+/// Makes a list of event words of a job sheet: 0, with the list's length in bytes told; 28 with nothing
+/// touched; or 29 with the place of the fault told and the list untouched.
+pub fn sheet(sheet: &[u8], list: &mut [u8], told: &mut usize) -> u8 {
+    // SAFETY: two live slices with their own lengths, of which the one that is written is borrowed alone, and a
+    // live integer, borrowed alone.
+    unsafe { linked::nekahuiro_sheet(sheet.as_ptr(), sheet.len(), list.as_mut_ptr(), list.len(), told) }
 }

@@ -12,6 +12,7 @@ pub mod portions;
 pub mod random;
 pub mod report;
 pub mod settings;
+pub mod sheets;
 pub mod states;
 
 pub use case::{Case, Played, Program};

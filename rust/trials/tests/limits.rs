@@ -1,6 +1,6 @@
 //! The numbers of the rules stand in three places: the C header, the wrapper and the player.
 
-use nekahuiro::{limits, Answer, Event, Message, Order, Stage, State};
+use nekahuiro::{limits, Answer, Event, Message, Order, Refusal, Stage, State};
 use nekahuiro_player::limits as player;
 
 fn header() -> String {
@@ -28,6 +28,7 @@ fn header_wrapper_and_player_have_the_same_numbers() {
         ("NEKAHUIRO_DEPTH_LIMIT", limits::DEPTH_LIMIT, usize::from(player::DEPTH_LIMIT)),
         ("NEKAHUIRO_EVENT_BYTES", limits::EVENT_BYTES, player::EVENT_BYTES),
         ("NEKAHUIRO_EVENTS", limits::EVENTS, player::EVENTS),
+        ("NEKAHUIRO_LIST_BYTES", limits::LIST_BYTES, player::EVENTS * player::EVENT_BYTES),
         ("NEKAHUIRO_ANSWER_BYTES", limits::ANSWER_BYTES, player::ANSWER_BYTES),
         ("NEKAHUIRO_STATE_BYTES", limits::STATE_BYTES, size_of::<State>()),
     ];
@@ -62,6 +63,11 @@ fn header_and_wrapper_have_the_same_kinds_and_numbers() {
         let number = defined(&format!("NEKAHUIRO_{number}")) as u8;
         let text = Answer { number, value: 0 }.to_string();
         assert!(text.starts_with(&format!("refused {number}: ")) && !text.contains("unknown"), "{text}");
+    }
+    for (name, refusal) in
+        [("SHORT_LIST", Refusal::Output), ("BAD_SHEET", Refusal::Sheet), ("BAD_STATE", Refusal::State)]
+    {
+        assert_eq!(defined(&format!("NEKAHUIRO_{name}")), usize::from(refusal.number()), "{name}");
     }
     for stage in Stage::ALL {
         let name = format!("NEKAHUIRO_{}", stage.to_string().to_uppercase());

@@ -6,11 +6,6 @@ use lib.ListN.{length}
 use Rattle.sheets.proofs.Turning.{Filling, filling-start, filling-room, filling-more, filling-all, filling-length}
 use Rattle.sheetlist.proofs.fill.Statement.{statement}
 use Rattle.sheetlist.proofs.fill.Tie as tie
-use Rattle.sheetlist.proofs.fill.Reads as reads
-use Rattle.sheetlist.proofs.fill.Lts as lts
-use Rattle.sheetlist.proofs.event_word.Reads as event-word-reads
-use Rattle.sheetlist.proofs.next_turn.Reads as next-turn-reads
-use Rattle.sheetlist.proofs.put_word.Reads as put-word-reads
 
 abbrev Inv-loop : tie.InvT-loop
 Inv-loop s list₀ i₀ levels₀ k₀ list i levels k = Filling s list₀ list i levels k × (1 ≤ k)

@@ -6,10 +6,6 @@ use Rattle.sheetlist.proofs.Making.{checked-good, checked-fails, whole-
 use borrow.Author.Needs.{needs}
 use Rattle.sheetlist.proofs.list_of.Statement.{statement}
 use Rattle.sheetlist.proofs.list_of.Tie as tie
-use Rattle.sheetlist.proofs.list_of.Reads as reads
-use Rattle.sheetlist.proofs.list_of.Lts as lts
-use Rattle.sheetreader.proofs.check.Reads as check-reads
-use Rattle.sheetlist.proofs.fill.Reads as fill-reads
 
 returns : tie.Need-returns
 returns c = small (c .if1 .taken) refl refl refl

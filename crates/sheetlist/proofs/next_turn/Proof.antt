@@ -4,10 +4,6 @@ use Rattle.sheets.proofs.Turning.{inside-low, open-turns, commit-turns, abort-t
 use borrow.Author.Needs.{needs}
 use Rattle.sheetlist.proofs.next_turn.Statement.{statement}
 use Rattle.sheetlist.proofs.next_turn.Tie as tie
-use Rattle.sheetlist.proofs.next_turn.Reads as reads
-use Rattle.sheetlist.proofs.next_turn.Lts as lts
-use Rattle.sheetlist.proofs.event_word.Reads as event-word-reads
-use Rattle.sheetlist.proofs.plain_turn.Reads as plain-turn-reads
 
 shared-slice-read-b : tie.Need-shared-slice-read-b
 shared-slice-read-b c = search needs

@@ -4,12 +4,6 @@ use Rattle.sheets.proofs.Turning.{inside-low, lock-long, lock-turns, read-long,
 use borrow.Author.Needs.{needs}
 use Rattle.sheetlist.proofs.plain_turn.Statement.{statement}
 use Rattle.sheetlist.proofs.plain_turn.Tie as tie
-use Rattle.sheetlist.proofs.plain_turn.Reads as reads
-use Rattle.sheetlist.proofs.plain_turn.Lts as lts
-use Rattle.sheetlist.proofs.digit_value.Reads as digit-value-reads
-use Rattle.sheetlist.proofs.event_word.Reads as event-word-reads
-use Rattle.sheetlist.proofs.offset_at.Reads as offset-at-reads
-use Rattle.sheetlist.proofs.two_digits.Reads as two-digits-reads
 
 shared-slice-read-b : tie.Need-shared-slice-read-b
 shared-slice-read-b c = search needs

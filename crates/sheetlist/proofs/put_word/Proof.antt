@@ -6,8 +6,6 @@ use Rattle.sheets.proofs.Turning.{four-bytes}
 use borrow.Author.Needs.{needs}
 use Rattle.sheetlist.proofs.put_word.Statement.{statement}
 use Rattle.sheetlist.proofs.put_word.Tie as tie
-use Rattle.sheetlist.proofs.put_word.Reads as reads
-use Rattle.sheetlist.proofs.put_word.Lts as lts
 
 mul-at : tie.Need-mul-at
 mul-at c = search needs

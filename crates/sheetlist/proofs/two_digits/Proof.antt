@@ -6,9 +6,6 @@ use Rattle.sheets.specs.Emit.{pairOf}
 use borrow.Author.Needs.{needs}
 use Rattle.sheetlist.proofs.two_digits.Statement.{statement}
 use Rattle.sheetlist.proofs.two_digits.Tie as tie
-use Rattle.sheetlist.proofs.two_digits.Reads as reads
-use Rattle.sheetlist.proofs.two_digits.Lts as lts
-use Rattle.sheetlist.proofs.digit_value.Reads as digit-value-reads
 
 shared-slice-read-digit-value : tie.Need-shared-slice-read-digit-value
 shared-slice-read-digit-value c = search needs

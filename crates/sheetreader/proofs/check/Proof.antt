@@ -8,9 +8,6 @@ use Rattle.sheets.proofs.Following.{stuck-fault, whole-taken, room-most}
 use borrow.Author.Needs.{needs}
 use Rattle.sheetreader.proofs.check.Statement.{statement}
 use Rattle.sheetreader.proofs.check.Tie as tie
-use Rattle.sheetreader.proofs.check.Reads as reads
-use Rattle.sheetreader.proofs.check.Lts as lts
-use Rattle.sheetreader.proofs.read_transaction.Reads as read-transaction-reads
 
 returns : tie.Need-returns
 returns c = stuck-fault (c .before .before .args .s .now) 0 (empty-text (c .if1 .taken))

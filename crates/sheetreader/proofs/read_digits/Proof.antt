@@ -1,6 +1,6 @@
 -- The digits are read one by one: so many are to come.
 use mathlib.Core.Path.{_≡_, refl, sym, _∙_}
-use Prim.Native.Nat.{_+_, _-_, _<_, _≤_}
+use Prim.Native.Nat.{_+_, _-_, _≤_}
 use native.Mathlib.Omega.{arith}
 use borrow.Author.Needs.{needs}
 use lib.ListN.{length}
@@ -10,9 +10,6 @@ use Rattle.sheets.specs.Scan.{Stands, within, toCome}
 use Rattle.sheetreader.proofs.Scanning.{digit-on, digit-bad, digit-short, to-come, none-to-come, all-to-come}
 use Rattle.sheetreader.proofs.read_digits.Statement.{statement}
 use Rattle.sheetreader.proofs.read_digits.Tie as tie
-use Rattle.sheetreader.proofs.read_digits.Reads as reads
-use Rattle.sheetreader.proofs.read_digits.Lts as lts
-use Rattle.sheetreader.proofs.is_digit.Reads as is-digit-reads
 
 abbrev Inv-loop : tie.InvT-loop
 Inv-loop s at levels room n low i₀ k₀ i k = (i ≤ length s) × (at + (n + 1) ≡ i + k) × Stands s i (toCome k low levels room)

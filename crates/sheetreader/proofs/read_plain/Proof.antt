@@ -9,9 +9,6 @@ use Rattle.sheets.proofs.Letters.{is-lock, is-write, is-read, is-unknown, no-le
 use borrow.Author.Needs.{needs}
 use Rattle.sheetreader.proofs.read_plain.Statement.{statement}
 use Rattle.sheetreader.proofs.read_plain.Tie as tie
-use Rattle.sheetreader.proofs.read_plain.Reads as reads
-use Rattle.sheetreader.proofs.read_plain.Lts as lts
-use Rattle.sheetreader.proofs.read_digits.Reads as read-digits-reads
 
 returns : tie.Need-returns
 returns c =

@@ -1,5 +1,4 @@
 -- How many events steps have; a reading of a whole text.
-use mathlib.Core.Bool.{Bool}
 use mathlib.Core.List.{List, [], _∷_}
 use Prim.Native.Nat.{ℕ, _+_}
 use Rattle.sheets.specs.Sheet.{Steps, none, locking, writing, reading, inner}
