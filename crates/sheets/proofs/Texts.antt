@@ -19,18 +19,27 @@ unfolding run
 run-append q [] b = refl
 run-append q (x ∷ a) b = run-append (next q x) a b
 
+-- which digit a number has
+below-ten : (n : ℕ) → under n 10 ≡ true → digit n ≡ 48 + n
+unfolding digit
+below-ten n e = ap (λ (b : Bool). cond b (48 + n) (55 + n)) e
+
+from-ten : (n : ℕ) → under n 10 ≡ false → digit n ≡ 55 + n
+unfolding digit
+from-ten n e = ap (λ (b : Bool). cond b (48 + n) (55 + n)) e
+
 -- the digit of a number below 16 is one; of a number below 2 it is 0 or 1
 pub digit-any : (n : ℕ) → n < 16 → isDigit false (digit n) ≡ true
-unfolding digit isDigit
+unfolding isDigit
 digit-any n h = go (is? (under n 10))
   where
     go : Is (under n 10) → isDigit false (digit n) ≡ true
-    go (yes′ e) = simp (e, lt-under 47 (48 + n) (omega arith), lt-under (48 + n) 58 (omega (arith, under-lt n 10 e)))
-    go (no′ e) = simp (e, lt-under 64 (55 + n) (omega (arith, not-under n 10 e)), lt-under (55 + n) 71 (omega arith), or-true)
+    go (yes′ e) = ap (isDigit false) (below-ten n e) ∙ simp (lt-under 47 (48 + n) (omega arith), lt-under (48 + n) 58 (omega (arith, under-lt n 10 e)))
+    go (no′ e) = ap (isDigit false) (from-ten n e) ∙ simp (lt-under 64 (55 + n) (omega (arith, not-under n 10 e)), lt-under (55 + n) 71 (omega arith), or-true)
 
 pub digit-low : (n : ℕ) → n < 2 → isDigit true (digit n) ≡ true
-unfolding digit isDigit
-digit-low n h = simp (lt-under n 10 (omega arith), lt-under 47 (48 + n) (omega arith), lt-under (48 + n) 50 (omega arith))
+unfolding isDigit
+digit-low n h = ap (isDigit true) (below-ten n (lt-under n 10 (omega arith))) ∙ simp (lt-under 47 (48 + n) (omega arith), lt-under (48 + n) 50 (omega arith))
 
 -- one digit
 digit-next : (k low l r b : ℕ) (t : Bool) → same k low ≡ t → isDigit t b ≡ true → next (within k low l r) b ≡ toCome k low l r

@@ -12,7 +12,7 @@ pub fn lists() -> u64 {
 
 /// How many random job sheets are read: NEKAHUIRO_SHEETS.
 pub fn sheets() -> u64 {
-    number("NEKAHUIRO_SHEETS", 100_000)
+    number("NEKAHUIRO_SHEETS", 500_000)
 }
 
 /// How often identities are given where two ends commit together: NEKAHUIRO_ROUNDS.

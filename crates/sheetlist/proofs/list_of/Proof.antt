@@ -17,10 +17,16 @@ enum-known-n : tie.Need-enum-known-n
 enum-known-n c = search needs
 
 fill-requires : tie.Need-fill-requires
-fill-requires c κs = let w = checked-good (c .before .before .before .before .before .before .before .before .args .sheet .now) (c .before .before .before .before .check .result) (c .before .before .n .given .0 .0) (c .before .before .n .given .1) (c .before .before .before .before .check .ensures) in (whole-ends _ _ w, omega arith)
+fill-requires c κs =
+    let start = c .before .before .before .before .before .before .before .before in
+    let w = checked-good (start .args .sheet .now) (c .before .before .before .before .check .result) (c .before .before .n .given .0 .0) (c .before .before .n .given .1) (c .before .before .before .before .check .ensures) in
+    (whole-ends _ _ w, omega arith)
 
 mul-told : tie.Need-mul-told
-mul-told c = let w = checked-good (c .before .before .before .before .before .before .before .before .before .before .before .args .sheet .now) (c .before .before .before .before .before .before .before .check .result) (c .before .before .before .before .before .n .given .0 .0) (c .before .before .before .before .before .n .given .1) (c .before .before .before .before .before .before .before .check .ensures) in record { fits = omega (arith, whole-most _ _ w) }
+mul-told c =
+    let start = c .before .before .before .before .before .before .before .before .before .before .before in
+    let w = checked-good (start .args .sheet .now) (c .before .before .before .before .before .before .before .check .result) (c .before .before .before .before .before .n .given .0 .0) (c .before .before .before .before .before .n .given .1) (c .before .before .before .before .before .before .before .check .ensures) in
+    record { fits = omega (arith, whole-most _ _ w) }
 
 enum-known-p : tie.Need-enum-known-p
 enum-known-p c = search needs
@@ -29,10 +35,15 @@ same-length : tie.Need-same-length
 same-length c = search needs
 
 returns-2 : tie.Need-returns-2
-returns-2 c = let w = checked-good (c .before .before .before .before .before .before .before .before .before .before .before .args .sheet .now) (c .before .before .before .before .before .before .before .check .result) (c .before .before .before .before .before .n .given .0 .0) (c .before .before .before .before .before .n .given .1) (c .before .before .before .before .before .before .before .check .ensures) in made-list (c .before .before .before .before .before .before .before .before .before .before .before .args .sheet .now) (c .before .before .before .before .before .before .before .before .before .before .before .args .list .now) (c .before .before .fill .last .1 .0) (c .before .before .before .before .before .before .before .before .before .before .before .args .told .now) (c .before .before .before .before .before .n .given .0 .0) (omega arith) w (c .before .before .fill .ensures)
+returns-2 c =
+    let start = c .before .before .before .before .before .before .before .before .before .before .before in
+    let w = checked-good (start .args .sheet .now) (c .before .before .before .before .before .before .before .check .result) (c .before .before .before .before .before .n .given .0 .0) (c .before .before .before .before .before .n .given .1) (c .before .before .before .before .before .before .before .check .ensures) in
+    made-list (start .args .sheet .now) (start .args .list .now) (c .before .before .fill .last .1 .0) (start .args .told .now) (c .before .before .before .before .before .n .given .0 .0) (omega arith) w (c .before .before .fill .ensures)
 
 returns-3 : tie.Need-returns-3
-returns-3 c = wrong (omega arith) (checked-fails (c .before .before .before .before .before .before .before .args .sheet .now) (c .before .before .before .check .result) (c .before .p .given .0 .0) (c .before .p .given .1) (c .before .before .before .check .ensures)) refl refl
+returns-3 c =
+    let start = c .before .before .before .before .before .before .before in
+    wrong (omega arith) (checked-fails (start .args .sheet .now) (c .before .before .before .check .result) (c .before .p .given .0 .0) (c .before .p .given .1) (c .before .before .before .check .ensures)) refl refl
 
 pub list-of-spec : {M : Type 1} → statement M
 list-of-spec =

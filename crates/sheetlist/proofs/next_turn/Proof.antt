@@ -9,7 +9,10 @@ shared-slice-read-b : tie.Need-shared-slice-read-b
 shared-slice-read-b c = search needs
 
 sub-t : tie.Need-sub-t
-sub-t c = let low = inside-low (c .before .before .args .s .now) (c .before .before .pre .2) (c .before .before .args .at) (c .before .before .args .levels) (c .before .before .pre .0) (c .before .before .pre .1) in omega arith
+sub-t c =
+    let start = c .before .before in
+    let low = inside-low (start .args .s .now) (start .pre .2) (start .args .at) (start .args .levels) (start .pre .0) (start .pre .1) in
+    omega arith
 
 event-word-requires : tie.Need-event-word-requires
 event-word-requires c κs = search needs
@@ -18,10 +21,15 @@ add-t10 : tie.Need-add-t10
 add-t10 c = search needs
 
 sub-t11 : tie.Need-sub-t11
-sub-t11 c = let t = open-turns (c .before .before .before .before .args .s .now) (c .before .before .before .before .pre .2) (c .before .before .before .before .args .at) (c .before .before .before .before .args .levels) (c .event-word .result) (c .before .before .before .before .pre .0) (c .before .before .before .before .pre .1) (c .before .if1 .taken) (c .event-word .ensures) in omega (arith, t .0)
+sub-t11 c =
+    let start = c .before .before .before .before in
+    let t = open-turns (start .args .s .now) (start .pre .2) (start .args .at) (start .args .levels) (c .event-word .result) (start .pre .0) (start .pre .1) (c .before .if1 .taken) (c .event-word .ensures) in
+    omega (arith, t .0)
 
 returns : tie.Need-returns
-returns c = open-turns (c .before .before .before .before .args .s .now) (c .before .before .before .before .pre .2) (c .before .before .before .before .args .at) (c .before .before .before .before .args .levels) (c .event-word .result) (c .before .before .before .before .pre .0) (c .before .before .before .before .pre .1) (c .before .if1 .taken) (c .event-word .ensures) .1
+returns c =
+    let start = c .before .before .before .before in
+    open-turns (start .args .s .now) (start .pre .2) (start .args .at) (start .args .levels) (c .event-word .result) (start .pre .0) (start .pre .1) (c .before .if1 .taken) (c .event-word .ensures) .1
 
 event-word-requires-2 : tie.Need-event-word-requires-2
 event-word-requires-2 c κs = search needs
@@ -33,7 +41,9 @@ add-t14 : tie.Need-add-t14
 add-t14 c = search needs
 
 returns-2 : tie.Need-returns-2
-returns-2 c = commit-turns (c .before .before .before .before .before .args .s .now) (c .before .before .before .before .before .pre .2) (c .before .before .before .before .before .args .at) (c .before .before .before .before .before .args .levels) (c .event-word2 .result) (c .before .before .before .before .before .pre .0) (c .before .before .before .before .before .pre .1) (c .before .if2 .taken) (c .event-word2 .ensures)
+returns-2 c =
+    let start = c .before .before .before .before .before in
+    commit-turns (start .args .s .now) (start .pre .2) (start .args .at) (start .args .levels) (c .event-word2 .result) (start .pre .0) (start .pre .1) (c .before .if2 .taken) (c .event-word2 .ensures)
 
 event-word-requires-3 : tie.Need-event-word-requires-3
 event-word-requires-3 c κs = search needs
@@ -45,7 +55,9 @@ add-t17 : tie.Need-add-t17
 add-t17 c = search needs
 
 returns-3 : tie.Need-returns-3
-returns-3 c = abort-turns (c .before .before .before .before .before .before .args .s .now) (c .before .before .before .before .before .before .pre .2) (c .before .before .before .before .before .before .args .at) (c .before .before .before .before .before .before .args .levels) (c .event-word3 .result) (c .before .before .before .before .before .before .pre .0) (c .before .before .before .before .before .before .pre .1) (c .before .if3 .taken) (c .event-word3 .ensures)
+returns-3 c =
+    let start = c .before .before .before .before .before .before in
+    abort-turns (start .args .s .now) (start .pre .2) (start .args .at) (start .args .levels) (c .event-word3 .result) (start .pre .0) (start .pre .1) (c .before .if3 .taken) (c .event-word3 .ensures)
 
 plain-turn-requires : tie.Need-plain-turn-requires
 plain-turn-requires c κs = search needs
