@@ -4,14 +4,15 @@
  * x86-64. It allocates nothing, keeps nothing between calls, and calls at most memcpy, memmove, memset
  * and memcmp of the C library. `nekahuiro_run` plays a whole list; `nekahuiro_portion` plays events as
  * they come, on a state that the caller keeps. `nekahuiro_waiting` shows transactions of such a state that
- * wait on each other. `nekahuiro_depot` and `nekahuiro_vote` are for two ends that commit together.
+ * wait on each other. `nekahuiro_depot` and `nekahuiro_vote` are for two ends that commit together. `nekahuiro_sheet` makes a list of a job sheet, which is text.
  *
  * What a caller owes to every function here:
  *   - Each pointer points to as many bytes as the size after it says, or rows as the count after it
  *     says. No pointer is null, not even where the size or count is 0.
  *   - No two buffers of one call overlap, and nobody else touches them while the call runs. Calls on
  *     different buffers may run at the same time.
- *   - Byte buffers, rows and rings need no alignment; `age` is aligned as an int64_t is, `state` as its
+ *   - Byte buffers, rows and rings need no alignment; `age` is aligned as an int64_t is, `told` as a size_t, `state` as
+ *     its
  *     struct is.
  *   - At least NEKAHUIRO_STACK_BYTES of stack are free.
  * Buffers stay the caller's, and their contents may be anything. What each call answers and leaves in
@@ -45,6 +46,8 @@ extern "C" {
 #define NEKAHUIRO_EVENT_BYTES 4
 /* Events in the longest list or portion. */
 #define NEKAHUIRO_EVENTS 4096
+/* The longest list, and the least output for a job sheet. */
+#define NEKAHUIRO_LIST_BYTES 16384
 /* An answer. */
 #define NEKAHUIRO_ANSWER_BYTES 2
 /* A lent state, see nekahuiro_state. */
@@ -168,6 +171,8 @@ extern "C" {
 #define NEKAHUIRO_BAD_WORK 24      /* work_size isn't NEKAHUIRO_WORK_BYTES */
 #define NEKAHUIRO_BAD_STATE 25     /* the state isn't sound, or its bytes encode no state */
 #define NEKAHUIRO_MANY_ROWS 26     /* there are more than NEKAHUIRO_ROWS waiting rows */
+#define NEKAHUIRO_SHORT_LIST 28    /* in nekahuiro_sheet: list_size is below NEKAHUIRO_LIST_BYTES */
+#define NEKAHUIRO_BAD_SHEET 29     /* in nekahuiro_sheet: no sheet that is taken; its place is told */
 
 /* Plays the events in order on the store and writes one answer each.
  *
@@ -325,6 +330,40 @@ uint8_t nekahuiro_depot(uint8_t *state, uint8_t message, uint8_t *reply);
  * NEKAHUIRO_NO_VOTE for any other kind. */
 #define NEKAHUIRO_NO_VOTE 0
 uint8_t nekahuiro_vote(uint8_t kind, uint8_t number, uint8_t value);
+
+/* Job sheets
+ *
+ *   sheet        = transaction
+ *   transaction  = "{" step* ( "}" | "!" )                    "}" commits it, "!" aborts it
+ *   step         = lock | write | read | transaction
+ *   lock         = "L" record
+ *   write        = "W" record offset value
+ *   read         = "R" record offset
+ *   record       = digit
+ *   offset       = ( "0" | "1" ) digit
+ *   value        = digit digit
+ *   digit        = "0" .. "9" | "A" .. "F"
+ *
+ * No other byte may stand anywhere, so no blanks and no line end. Transactions nest at most 16 deep, and
+ * the list has at most 4096 events: a begin and an end for each transaction, one event for each other step.
+ *
+ * Locks are to write, commits have count NEKAHUIRO_NO_CUT and aborts no report. Transactions are numbered
+ * by their depth minus 1. These are the numbers that the begins are answered with where the list is played
+ * as one portion on a state that is up with nothing live; and then no end is refused, but for the last
+ * commit with 13 where it changed a record and another transaction is prepared.
+ */
+
+/* Makes a list of a job sheet.
+ *
+ *   sheet    read only
+ *   list     the event words are written at its beginning; the bytes past them stay
+ *   told     the list's length in bytes, or the place of the fault
+ *
+ * Answers 0 with the list written and its length told. Else, tried in this order: 28 with nothing touched;
+ * 29 with the list untouched and the place told, from 0, of the first byte after which no sheet could
+ * follow, or sheet_size where the sheet only ends too soon. */
+uint8_t nekahuiro_sheet(const uint8_t *sheet, size_t sheet_size,
+                        uint8_t *list, size_t list_size, size_t *told);
 
 #ifdef __cplusplus
 }

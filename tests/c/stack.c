@@ -86,7 +86,11 @@ static void *nothing(void *unused)
 
 static void *calls(void *unused)
 {
+    /* The deepest sheet there is: the reader calls itself at each opening brace. */
+    static const uint8_t sheet[] = "{{{{{{{{{{{{{{{{L0W00000R000}!}!}!}!}!}!}!}!";
+    static uint8_t list[NEKAHUIRO_LIST_BYTES];
     int64_t age = 0;
+    size_t told = 0;
     uint8_t depot = NEKAHUIRO_IDLE, reply = 0;
     nekahuiro_ring ring;
     size_t length = make_list();
@@ -99,7 +103,8 @@ static void *calls(void *unused)
              && nekahuiro_age(store, sizeof store, 3, 5, 10, &age) <= NEKAHUIRO_STALE
              && nekahuiro_depot(&depot, NEKAHUIRO_START, &reply) == 0
              && nekahuiro_vote(NEKAHUIRO_QUERY, 0, 1) == NEKAHUIRO_YES && play_nested() == 0
-             && nekahuiro_waiting(&state, rows, NEKAHUIRO_ROWS, &ring) == 0 && ring.length == NEKAHUIRO_DEPTH_LIMIT;
+             && nekahuiro_waiting(&state, rows, NEKAHUIRO_ROWS, &ring) == 0 && ring.length == NEKAHUIRO_DEPTH_LIMIT
+             && nekahuiro_sheet(sheet, sizeof sheet - 1, list, sizeof list, &told) == 0;
     return unused;
 }
 

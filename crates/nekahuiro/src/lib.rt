@@ -1,5 +1,5 @@
-// The open operations: a run, a portion, a fresh store, the age of a record, the two ends of a two-phase commit, and the report on transactions that
-// wait for each other. Any bytes may come in; each refuses or does what the rules say.
+// The open operations: a run, a portion, a fresh store, the age of a record, the two ends of a two-phase commit, the report on transactions that wait
+// for each other, and the list of a job sheet. Any bytes may come in; each refuses or does what the rules say.
 ghost use mathlib.Core.Path.{_≡_};
 ghost use Prim.Native.Nat.{ℕ};
 ghost use mathlib.Core.List.{List};
@@ -18,6 +18,7 @@ ghost use Rattle.clauses.specs.Decides.{Decides};
 ghost use Rattle.messages.specs.Codes.{left};
 ghost use Rattle.messages.specs.Votes.{voteOn};
 ghost use Rattle.waitreport.specs.Reported.{Sound-aside, Reported, Reported-copied};
+ghost use Rattle.sheets.specs.Made.{Made};
 use portions::Engine;
 use waitreport::Report;
 use waitreport::Ring;
@@ -229,4 +230,14 @@ pub extern "C" fn nekahuiro_waiting(state: &Engine, rows: &[Row], ring: &mut Rin
     let after = told.ring;
     *ring = after;
     told.number
+}
+
+// Makes a list of event words of a job sheet: 0, with the list at the beginning of `list` and its length in bytes left at `told`; 28 where `list` has
+// fewer than 16,384 bytes, tried first, and then touches nothing; or 29 where the text is no sheet that is taken, with the place of the first byte after
+// which none could follow left at `told`, and `list` stays.
+#[no_mangle]
+pub extern "C" fn nekahuiro_sheet(sheet: &[u8], list: &mut [u8], told: &mut usize) -> u8
+    ensures { λ r. ⌜ Made (now (sheet .entry)) (now (list .entry)) (now (told .entry)) r (now (list .exit)) (now (told .exit)) ⌝ }
+{
+    sheetlist::list_of(sheet, list, told)
 }

@@ -5,7 +5,7 @@ use std::fmt::Write;
 use std::time::Duration;
 
 /// The names that take standard input for `-`.
-const FROM_INPUT: [&str; 2] = ["EVENTS", "ROWS"];
+const FROM_INPUT: [&str; 3] = ["EVENTS", "ROWS", "SHEET"];
 
 /// A command. Its module has one of these, and the table in commands.rs has a row for it.
 pub struct Command {

@@ -2,7 +2,7 @@
 
 use crate::command::Command;
 use crate::failure::{visible, Failure, Outcome};
-use crate::{age, bench, demo, depot, encode, fresh, help, play, serial, show, waiting};
+use crate::{age, bench, demo, depot, encode, fresh, help, play, serial, sheet, show, waiting};
 
 /// All commands.
 pub const ALL: &[Command] = &[
@@ -15,6 +15,7 @@ pub const ALL: &[Command] = &[
     waiting::COMMAND,
     depot::COMMAND,
     encode::COMMAND,
+    sheet::COMMAND,
     bench::COMMAND,
     help::COMMAND,
 ];

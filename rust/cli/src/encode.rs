@@ -63,7 +63,8 @@ fn turn(name: Option<&str>, text: &str) -> Outcome<String> {
     Ok(out)
 }
 
-fn all_in_words(words: &[u8]) -> String {
+/// Each event word in words, one to a line.
+pub fn all_in_words(words: &[u8]) -> String {
     words.chunks_exact(EVENT_BYTES).map(|w| in_words([w[0], w[1], w[2], w[3]]) + "\n").collect()
 }
 

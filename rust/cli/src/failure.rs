@@ -35,6 +35,8 @@ pub const STATUSES: &str = "  0  all went well; a refused event is an answer and
 /// A command that did not succeed: nothing of the user's was changed, unless it says so.
 pub struct Failure {
     reason: String,
+    /// Lines that show where it went wrong.
+    shown: Vec<String>,
     mend: String,
     /// How the command ends.
     pub status: Status,
@@ -48,7 +50,7 @@ pub type Outcome<T = ()> = Result<T, Failure>;
 impl Failure {
     /// A command ends with this status; `mend` says what the user can do.
     pub fn with(status: Status, reason: &str, mend: &str) -> Failure {
-        Failure { reason: reason.to_string(), mend: mend.to_string(), status, quiet: false }
+        Failure { reason: reason.to_string(), shown: Vec::new(), mend: mend.to_string(), status, quiet: false }
     }
 
     /// A file can't be read or written.
@@ -71,6 +73,11 @@ impl Failure {
         Failure { quiet: true, ..Failure::new(reason, mend) }
     }
 
+    /// The same with lines that show where it went wrong, between reason and mend.
+    pub fn showing(self, lines: &[String]) -> Failure {
+        Failure { shown: lines.to_vec(), ..self }
+    }
+
     /// The same with more to say after the mend.
     pub fn and(self, more: &str) -> Failure {
         Failure { mend: format!("{}; {more}", self.mend), ..self }
@@ -84,10 +91,11 @@ impl Failure {
 
 impl fmt::Display for Failure {
     fn fmt(&self, f: &mut fmt::Formatter) -> fmt::Result {
-        match self.quiet {
-            true => Ok(()),
-            false => writeln!(f, "nekahuiro: {}\n  {}", visible(&self.reason), visible(&self.mend)),
+        if self.quiet {
+            return Ok(());
         }
+        writeln!(f, "nekahuiro: {}", visible(&self.reason))?;
+        self.shown.iter().chain([&self.mend]).try_for_each(|line| writeln!(f, "  {}", visible(line)))
     }
 }
 

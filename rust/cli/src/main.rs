@@ -19,6 +19,7 @@ mod pair;
 mod picture;
 mod play;
 mod serial;
+mod sheet;
 mod show;
 mod staged;
 mod state_file;

@@ -2,6 +2,7 @@
 
 pub mod random;
 mod rng;
+pub mod sheets;
 mod sketch;
 pub mod stores;
 pub mod timing;

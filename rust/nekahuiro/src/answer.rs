@@ -1,6 +1,6 @@
 //! Answers to events, and refusals of whole operations.
 
-use crate::limits::{ANSWER_BYTES, DEPTH_LIMIT, EVENTS, RECORDS, ROWS, STORE_BYTES, TRANSACTIONS, WORK_BYTES};
+use crate::limits::{ANSWER_BYTES, DEPTH_LIMIT, EVENTS, LIST_BYTES, RECORDS, ROWS, STORE_BYTES, TRANSACTIONS, WORK_BYTES};
 use std::fmt;
 
 /// The answer to one event: a number, then a value.
@@ -116,6 +116,10 @@ pub enum Refusal {
     Rows,
     /// 27: the depot doesn't take this message in its state.
     Message,
+    /// 28: the output for a sheet's list is too short.
+    Output,
+    /// 29: the text is no sheet that is taken.
+    Sheet,
     /// A number that this edition doesn't know.
     Other(u8),
 }
@@ -135,6 +139,8 @@ impl Refusal {
             25 => Refusal::State,
             26 => Refusal::Rows,
             27 => Refusal::Message,
+            28 => Refusal::Output,
+            29 => Refusal::Sheet,
             other => Refusal::Other(other),
         }
     }
@@ -153,6 +159,8 @@ impl Refusal {
             Refusal::State => 25,
             Refusal::Rows => 26,
             Refusal::Message => 27,
+            Refusal::Output => 28,
+            Refusal::Sheet => 29,
             Refusal::Other(number) => number,
         }
     }
@@ -173,6 +181,8 @@ impl fmt::Display for Refusal {
             Refusal::State => write!(f, "the state isn't one that the last portion left with this store"),
             Refusal::Rows => write!(f, "a report takes at most {ROWS} waiting rows"),
             Refusal::Message => write!(f, "the depot doesn't take this message in its state"),
+            Refusal::Output => write!(f, "the output for a sheet's list has at least {LIST_BYTES} bytes"),
+            Refusal::Sheet => write!(f, "the text is no sheet that is taken"),
             Refusal::Other(_) => write!(f, "an unknown refusal"),
         }
     }

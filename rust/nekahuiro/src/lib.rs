@@ -61,6 +61,8 @@
 //! # Ok::<(), Box<dyn std::error::Error>>(())
 //! ```
 //!
+//! A fitter's sheet is text that becomes a list: [`sheet_words`].
+//!
 //! Events that come one by one are played in portions of any length: [`Store::portion`] takes a
 //! [`State`] and a [`Work`] that the caller keeps from one portion to the next.
 //!
@@ -92,6 +94,7 @@ pub mod limits;
 mod numbers;
 #[allow(unsafe_code)] // the only module that calls the linked library
 pub mod raw;
+mod sheet;
 mod state;
 mod store;
 mod waiting;
@@ -104,6 +107,7 @@ pub use commit_page::{CommitPage, Map, Page};
 pub use depot::{vote, Depot, Message, Order, Stage};
 pub use event::{encode, Event, Fields};
 pub use numbers::{Identity, Record, Transaction};
+pub use sheet::{sheet_words, BadSheet};
 pub use state::State;
 pub use store::{Place, Store};
 pub use waiting::{Ring, Row};

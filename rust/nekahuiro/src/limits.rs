@@ -20,6 +20,8 @@ pub const WORK_BYTES: usize = RECORDS * DEPTH_LIMIT * PAGE_BYTES;
 pub const EVENT_BYTES: usize = 4;
 /// Events in the longest list or portion.
 pub const EVENTS: usize = 4096;
+/// Bytes of the longest list; what a sheet becomes must have room for as many.
+pub const LIST_BYTES: usize = EVENTS * EVENT_BYTES;
 /// Bytes of an answer.
 pub const ANSWER_BYTES: usize = 2;
 /// The largest count of page writes that an event can carry; no power cut comes then.

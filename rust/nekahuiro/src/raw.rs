@@ -46,6 +46,13 @@ mod linked {
         pub fn nekahuiro_depot(state: *mut u8, message: u8, reply: *mut u8) -> u8;
         pub fn nekahuiro_vote(kind: u8, number: u8, value: u8) -> u8;
         pub fn nekahuiro_waiting(state: *const State, rows: *const Row, count: usize, ring: *mut Ring) -> u8;
+        pub fn nekahuiro_sheet(
+            sheet: *const u8,
+            sheet_bytes: usize,
+            list: *mut u8,
+            list_bytes: usize,
+            told: *mut usize,
+        ) -> u8;
     }
 }
 
@@ -115,4 +122,12 @@ pub fn waiting(state: &State, rows: &[Row], ring: &mut Ring) -> u8 {
     // SAFETY: a live struct of integers and a live slice of structs of bytes with its length, which are only
     // read, and a live struct of bytes, borrowed alone; all are laid out as in C.
     unsafe { linked::nekahuiro_waiting(state, rows.as_ptr(), rows.len(), ring) }
+}
+
+/// Makes a list of event words of a job sheet: 0, with the list's length in bytes told; 28 with nothing
+/// touched; or 29 with the place of the fault told and the list untouched.
+pub fn sheet(sheet: &[u8], list: &mut [u8], told: &mut usize) -> u8 {
+    // SAFETY: two live slices with their own lengths, of which the one that is written is borrowed alone, and a
+    // live integer, borrowed alone.
+    unsafe { linked::nekahuiro_sheet(sheet.as_ptr(), sheet.len(), list.as_mut_ptr(), list.len(), told) }
 }

@@ -23,6 +23,7 @@ pub mod limits;
 mod locks;
 pub mod planted;
 mod player;
+pub mod sheet;
 pub mod soundness;
 pub mod store;
 mod tree;

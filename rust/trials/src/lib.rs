@@ -13,6 +13,7 @@ pub mod random;
 pub mod report;
 pub mod serial;
 pub mod settings;
+pub mod sheets;
 pub mod states;
 pub mod waiting;
 

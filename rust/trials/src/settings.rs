@@ -10,6 +10,11 @@ pub fn lists() -> u64 {
     number("NEKAHUIRO_LISTS", 1_000_000)
 }
 
+/// How many random job sheets are read: NEKAHUIRO_SHEETS.
+pub fn sheets() -> u64 {
+    number("NEKAHUIRO_SHEETS", 500_000)
+}
+
 /// How often identities are given where two ends commit together: NEKAHUIRO_ROUNDS.
 pub fn rounds() -> u64 {
     number("NEKAHUIRO_ROUNDS", 100_000)

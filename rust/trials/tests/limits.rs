@@ -28,6 +28,7 @@ fn header_wrapper_and_player_have_the_same_numbers() {
         ("NEKAHUIRO_DEPTH_LIMIT", limits::DEPTH_LIMIT, usize::from(player::DEPTH_LIMIT)),
         ("NEKAHUIRO_EVENT_BYTES", limits::EVENT_BYTES, player::EVENT_BYTES),
         ("NEKAHUIRO_EVENTS", limits::EVENTS, player::EVENTS),
+        ("NEKAHUIRO_LIST_BYTES", limits::LIST_BYTES, player::EVENTS * player::EVENT_BYTES),
         ("NEKAHUIRO_ANSWER_BYTES", limits::ANSWER_BYTES, player::ANSWER_BYTES),
         ("NEKAHUIRO_STATE_BYTES", limits::STATE_BYTES, size_of::<State>()),
         ("NEKAHUIRO_ROWS", limits::ROWS, nekahuiro_player::waiting::ROWS),
@@ -65,6 +66,11 @@ fn header_and_wrapper_have_the_same_kinds_and_numbers() {
         assert!(text.starts_with(&format!("refused {number}: ")) && !text.contains("unknown"), "{text}");
     }
     assert_eq!(defined("NEKAHUIRO_MANY_ROWS"), usize::from(Refusal::Rows.number()));
+    for (name, refusal) in
+        [("SHORT_LIST", Refusal::Output), ("BAD_SHEET", Refusal::Sheet), ("BAD_STATE", Refusal::State)]
+    {
+        assert_eq!(defined(&format!("NEKAHUIRO_{name}")), usize::from(refusal.number()), "{name}");
+    }
     for stage in Stage::ALL {
         let name = format!("NEKAHUIRO_{}", stage.to_string().to_uppercase());
         assert_eq!(defined(&name), stage as usize, "{name}");

@@ -11,7 +11,7 @@ use crate::follow::Follower;
 use crate::output::Output;
 use crate::pair::Pair;
 use crate::state_file::{self, Kept};
-use crate::{list, number_of, picture, say};
+use crate::{list, number_of, picture, say, sheet};
 use nekahuiro::limits::{EVENTS, EVENT_BYTES};
 use nekahuiro::{Answer, Refusal, Store};
 use nekahuiro_history::{tell_from, Earlier, History};
@@ -30,6 +30,7 @@ pub const COMMAND: Command = Command {
         ("--strict", "", "end with status 5 if an event is refused; the list is played all the same"),
         ("--expect", "FILE", "end with status 6 if the answers aren't those in FILE, as --answers writes them"),
         ("--raw", "", "take EVENTS as raw event words of 4 bytes"),
+        ("--sheet", "", "take EVENTS as a job sheet (see `help sheet`); where the store is down, recover first"),
         ("--dry", "", "leave store and state file as they are"),
         WAIT,
     ],
@@ -69,11 +70,14 @@ struct Played {
 }
 
 /// Plays, replaces store and state, hands out what was asked for, and then tells it.
-fn run(words: &[String]) -> Outcome {
+pub fn run(words: &[String]) -> Outcome {
     let options = Options::of(words)?;
     options.check_files()?;
     // The list may come slowly, and the files are read when they are needed.
-    let words = list::read(options.events, options.raw)?;
+    let words = match options.sheet {
+        true => sheet::read(options.events)?,
+        false => list::read(options.events, options.raw)?,
+    };
     if options.portions.is_none() {
         list::check_length(options.events, &words)?;
     }
@@ -124,8 +128,9 @@ fn verdict(options: &Options, played: &Played, expected: Option<&[Answer]>) -> O
 }
 
 fn play(options: &Options, mut store: Store, mut left: Kept, words: Vec<u8>) -> Outcome<Played> {
+    let words = if options.sheet { sheet::led_in(&left.state, words)? } else { words };
     let (start, earlier) = (Follower::of(&left.state, store.commit_page()), left.earlier());
-    let played = if options.portions.is_some() || options.state.is_some() {
+    let played = if options.portions.is_some() || options.state.is_some() || options.sheet {
         portions(&mut store, &mut left, &words, options.portions.unwrap_or(EVENTS))
     } else {
         store.play_words(&words)

@@ -28,6 +28,8 @@ pub struct Options<'w> {
     pub wait: Duration,
     /// Whether the list has raw words.
     pub raw: bool,
+    /// Whether the list is a job sheet.
+    pub sheet: bool,
     /// Whether each event is told.
     pub trace: bool,
     /// Whether a refused event has a status of its own.
@@ -40,6 +42,9 @@ impl<'w> Options<'w> {
     /// The words of a call, told apart.
     pub fn of(words: &'w [String]) -> Outcome<Options<'w>> {
         let ([store, events], given) = COMMAND.read(words)?;
+        if given.has("--raw") && given.has("--sheet") {
+            return Err(COMMAND.misuse("EVENTS are raw words or a sheet, not both"));
+        }
         Ok(Options {
             store,
             events,
@@ -50,6 +55,7 @@ impl<'w> Options<'w> {
             portions: given.value("--portions").map(portion_length).transpose()?,
             wait: given.wait()?,
             raw: given.has("--raw"),
+            sheet: given.has("--sheet"),
             trace: given.has("--trace"),
             strict: given.has("--strict"),
             dry: given.has("--dry"),

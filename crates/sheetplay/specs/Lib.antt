@@ -1,0 +1,2 @@
+-- What is answered where the list of a sheet is played.
+pub mod Plays

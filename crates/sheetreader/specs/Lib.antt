@@ -1,0 +1,2 @@
+-- What the readers promise.
+pub mod Reads
