@@ -18,3 +18,4 @@ pub mod Joined
 pub mod Called
 pub mod Trials
 pub mod Example
+pub mod NameTrials

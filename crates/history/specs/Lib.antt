@@ -5,3 +5,4 @@ pub mod Claims
 pub mod Joined
 pub mod Called
 pub mod Trials
+pub mod NameTrials

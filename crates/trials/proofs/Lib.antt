@@ -1,3 +1,5 @@
--- Every row holds, by computing.
+-- Every row holds, by computing; the test of sound states decides soundness.
 pub mod Trials
 pub mod PortionTrials
+pub mod SoundTrials
+pub mod Decided

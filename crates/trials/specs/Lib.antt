@@ -1,5 +1,10 @@
--- Trials: what a row says, the table, its rows for prepared transactions, and portions.
+-- Trials: what a row says, the table with its rows by subject; portions, states, soundness.
 pub mod Rows
 pub mod PreparedTrials
+pub mod WordTrials
+pub mod EdgeTrials
+pub mod PageTrials
 pub mod Trials
 pub mod PortionTrials
+pub mod StateTrials
+pub mod SoundTrials
