@@ -19,3 +19,4 @@ pub mod Called
 pub mod Trials
 pub mod Example
 pub mod NameTrials
+pub mod Survival

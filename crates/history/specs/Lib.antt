@@ -6,3 +6,4 @@ pub mod Joined
 pub mod Called
 pub mod Trials
 pub mod NameTrials
+pub mod Survival

@@ -113,14 +113,17 @@ clause [] k e = refl
 clause (b ∷ bs) zero e = and-left b (allTrue bs) e
 clause (b ∷ bs) (suc k) e = clause bs k (and-right b (allTrue bs) e)
 
-infixr 4 _and_
-_and_ : {b : Bool} {bs : List Bool} → b ≡ true → allTrue bs ≡ true → allTrue (b ∷ bs) ≡ true
-unfolding allTrue
-_and_ {b} {bs} h hs = rw h hs
+record AllTrue (l : List Bool) : Type 0 where
+  holds-all : allTrue l ≡ true
 
-no-more : allTrue [] ≡ true
+infixr 4 _and_
+_and_ : {b : Bool} {bs : List Bool} → b ≡ true → AllTrue bs → AllTrue (b ∷ bs)
 unfolding allTrue
-no-more = refl
+_and_ {b} {bs} h hs = record { holds-all = rw h (hs .holds-all) }
+
+no-more : AllTrue []
+unfolding allTrue
+no-more = record { holds-all = refl }
 
 module _ (s : Desk) where
   -- SOUND IF THE TEST SAYS SO, clause by clause
@@ -222,9 +225,9 @@ module _ (s : Desk) where
     shallow-under : (t : ℕ) → under (depthIn (s .bearer t)) 17 ≡ true
     shallow-under t = let h = S .shallow t in lt-under (depthIn (s .bearer t)) 17 (omega (arith, h))
 
-    pub only-if : isSound s ≡ true
+    every-clause : AllTrue (clauses s)
     unfolding numbered parented level shallow holder-live retainer-live on-one-line beneath one-holder beneath-writing by-lock ranged paged idle calm reserved open-geometry
-    only-if =
+    every-clause =
         all-of 25 (λ t. implied (live s t) (under t 24)) (λ t. implies (live s t) (under t 24) (λ h. lt-under t 24 (S .numbered t h)))
         and all-of 25 (λ t. isParented s (s .bearer t)) (λ t. is-parented t (s .bearer t) refl)
         and all-of 25 (λ t. isLevel s (s .bearer t)) (λ t. is-level t (s .bearer t) refl)
@@ -242,6 +245,9 @@ module _ (s : Desk) where
         and implies (s .up) (isCalm (edition1 .medium) (s .store)) (S .calm)
         and to-everywhere (λ r t. not (isSome (edition1 .medium .pending (s .store) r)) || not (holds s r t || retains s r t)) is-reserved
         and no-more
+
+    pub only-if : isSound s ≡ true
+    only-if = every-clause .holds-all
 
 -- THE TEST DECIDES, of a sketch
 sketch-bounded : (k : Sketch) → Bounded (sketched k)
