@@ -1,21 +1,22 @@
--- Demand 3 of calls that keep a portion's promise: they are a chain of portions, of which it is proved.
+-- Demand 3, the central law and what crashes leave, of calls that keep a portion's promise: they are a chain of portions, of which these are proved.
 use mathlib.Core.Path.{_≡_, sym, ap, ap₂, subst, subst⁻¹, _∙_}
 use mathlib.Core.Bool.{Bool, true}
-use mathlib.Core.List.{List}
+use mathlib.Core.List.{List, [], _∷_}
 use Prim.Native.Nat.{ℕ}
 use Rattle.rules.specs.Geometry.{Geometry}
 use Rattle.rules.specs.Form.{Form}
 use Rattle.rules.specs.Step.{StateOf}
-use Rattle.rules.specs.Portion.{chain, chainFrom}
-use Rattle.rules.specs.Calls.{Call, lents, left, AllPromised}
+use Rattle.rules.specs.Portion.{Chain, chain, chainFrom}
+use Rattle.rules.specs.Calls.{Call, lents, left, joinedOf, AllPromised}
 use Rattle.rules.proofs.Medium.{MediumLaws}
 use Rattle.rules.proofs.Portions.{Carried, carried-start}
 use Rattle.rules.proofs.Calls.{AsChain, calls-chain}
 use Rattle.history.specs.History.{History, survives, overlaid}
 use Rattle.history.specs.Demand3.{Row, rows, history, Along, SameEvent, SameAnswer, settledIn, startOf}
-use Rattle.history.specs.Joined.{rowsJoined, historyJoined, Demand-3-joined-holds}
-use Rattle.history.specs.Called.{rowsCalled, historyCalled, Starts, Demand-3-called-holds}
-use Rattle.history.proofs.Joined.{demand-3-joined}
+use Rattle.history.specs.Claims.{restarts, stateAfter, historyAfter, Reads-overlay}
+use Rattle.history.specs.Joined.{rowsJoined, historyJoined, Commit-survives-joined, Demand-3-joined-holds}
+use Rattle.history.specs.Called.{rowsCalled, historyCalled, Starts, Demand-3-called-holds, Reads-called, Commit-survives-called}
+use Rattle.history.proofs.Joined.{carried-joined, reads-joined, commit-survives-joined, demand-3-joined}
 
 -- of two lists of rows: like events have like answers, and then Z
 abbrev TwoRows : Geometry → History → List Row → List Row → Type 0 → Type 0
@@ -26,6 +27,12 @@ module _ (f : Form) (M : MediumLaws (f .geometry) (f .medium)) {X : Type 0} (vie
   abbrev found : StateOf f → Bool
   found s = true
 
+  -- what calls leave is written as a state is
+  pub proper-left : (x : X) (cs : List (Call X)) → AllPromised f view bytes proper x cs → proper x → proper (left x cs)
+  unfolding left
+  proper-left x [] P W = W
+  proper-left x (c ∷ cs) P W = proper-left (c .after) cs (P .1) (P .0 .1 .written W)
+
   module _ (x : X) (cs : List (Call X)) (S : Starts f view bytes proper x) (P : AllPromised f view bytes proper x cs) where
     pub as-chain : AsChain f M view bytes proper x cs (chainFrom f found (bytes x) (lents cs))
     unfolding chainFrom
@@ -35,6 +42,43 @@ module _ (f : Form) (M : MediumLaws (f .geometry) (f .medium)) {X : Type 0} (vie
     pub rows-called : rowsCalled f cs ≡ rowsJoined f found (bytes x) (lents cs)
     unfolding rowsCalled rowsJoined
     rows-called = ap₂ rows (as-chain .same-joined) (as-chain .same-answers)
+
+    abbrev k : Chain f
+    k = chainFrom f found (bytes x) (lents cs)
+
+    history-called : historyCalled f (bytes x) cs ≡ historyJoined f found (bytes x) (lents cs)
+    unfolding historyCalled historyJoined
+    history-called = ap (history (f .geometry) (startOf f (bytes x))) rows-called
+
+    -- THE CENTRAL LAW
+    pub reads-called : Reads-called f view bytes proper x cs
+    reads-called =
+        let R = reads-joined f M found (bytes x) (S .sized) (lents cs) in
+        record {
+          state-is = as-chain .same-state ∙ R .state-is ∙ ap (stateAfter f (bytes x)) (sym (as-chain .same-joined));
+          history-is = history-called ∙ R .history-is ∙ ap (historyAfter f (bytes x)) (sym (as-chain .same-joined));
+          overlay = subst⁻¹ (Reads-overlay f (bytes x)) (as-chain .same-joined) (R .overlay);
+        }
+
+    -- more calls, on what these left, are more portions
+    more-chain : (ds : List (Call X)) → AllPromised f view bytes proper (left x cs) ds → AsChain f M view bytes proper (left x cs) ds (chain f found (k .state) (k .store) (lents ds))
+    more-chain ds Q =
+        let C = carried-joined f M found (bytes x) (S .sized) (lents cs) in
+        let here : Carried f M (view (left x cs)) (bytes (left x cs))
+        = subst⁻¹ (λ (s : StateOf f). Carried f M s (bytes (left x cs))) (as-chain .same-state) (subst⁻¹ (λ (bs : List ℕ). Carried f M (k .state) bs) (as-chain .same-store) C) in
+        subst (λ (bs : List ℕ). AsChain f M view bytes proper (left x cs) ds (chain f found (k .state) bs (lents ds))) (as-chain .same-store)
+        (subst (λ (s : StateOf f). AsChain f M view bytes proper (left x cs) ds (chain f found s (bytes (left x cs)) (lents ds))) (as-chain .same-state)
+        (calls-chain f M view bytes proper (left x cs) ds Q (proper-left x cs P (S .written)) here))
+
+    -- crashes and recoveries in more calls
+    pub commit-survives-called : Commit-survives-called f view bytes proper x cs
+    unfolding Commit-survives-called Commit-survives-joined
+    commit-survives-called ds Q e r =
+        let D = more-chain ds Q in
+        let d = chain f found (k .state) (k .store) (lents ds) in
+        ap (λ (bs : List ℕ). settledIn f bs r) (D .same-store)
+        ∙ subst⁻¹ (λ (h : History). settledIn f (d .store) r ≡ overlaid (survives h) r (h .writes) (settledIn f (bytes x) r)) history-called
+        (commit-survives-joined f M found (bytes x) (S .sized) (lents cs) (lents ds) (subst (λ (ws : List ℕ). restarts (f .geometry) ws ≡ true) (D .same-joined) e) r)
 
     pub settled-called : (r : ℕ) → settledIn f (bytes (left x cs)) r ≡ settledIn f (chainFrom f found (bytes x) (lents cs) .store) r
     settled-called r = ap (λ (bs : List ℕ). settledIn f bs r) (as-chain .same-store)

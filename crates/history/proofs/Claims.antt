@@ -109,7 +109,7 @@ module _ (f : Form) (M : MediumLaws (f .geometry) (f .medium)) where
       go (acts q z) = rw z (act-settled s e k r)
       go (refuses n q z) = rw z
 
-  restarts-settled : (s : StateOf f) (more : List ℕ) → restarts (f .geometry) more ≡ true → (r : ℕ) → now f (play f s more .state) r ≡ now f s r
+  pub restarts-settled : (s : StateOf f) (more : List ℕ) → restarts (f .geometry) more ≡ true → (r : ℕ) → now f (play f s more .state) r ≡ now f s r
   unfolding play restarts
   restarts-settled s [] k r = refl
   restarts-settled s (w ∷ more) k r =

@@ -56,7 +56,7 @@ module _ (f : Form) (M : MediumLaws (f .geometry) (f .medium)) (sound : StateOf 
       unfolding chainFrom stateAfter
       state-joined = whole ls .state
 
-      carried-joined : Carried f M (c .state) (c .store)
+      pub carried-joined : Carried f M (c .state) (c .store)
       unfolding chainFrom
       carried-joined = whole ls .carried
 

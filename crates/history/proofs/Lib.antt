@@ -23,3 +23,5 @@ pub mod Called
 pub mod Trials
 pub mod EntryTrials
 pub mod Example
+pub mod NameTrials
+pub mod Survival

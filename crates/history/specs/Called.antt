@@ -1,6 +1,8 @@
--- Demand 3 of the calls of any operation that keeps a portion's promise, each on what the last one left: in the bytes that went in and came out.
+-- Demand 3, the central law and what crashes leave, of the calls of any operation that keeps a portion's promise, each on what the last one left: in
+-- the bytes that went in and came out.
 use Prim.Native.Nat.{ℕ}
 use mathlib.Core.Path.{_≡_}
+use mathlib.Core.Bool.{true}
 use mathlib.Core.List.{List}
 use lib.ListN.{length}
 use Rattle.rules.specs.State.{down}
@@ -8,6 +10,7 @@ use Rattle.rules.specs.Form.{Form}
 use Rattle.rules.specs.Step.{StateOf}
 use Rattle.rules.specs.Calls.{Call, left, joinedOf, answersOf, AllPromised}
 use Rattle.history.specs.History.{History, survives, overlaid}
+use Rattle.history.specs.Claims.{restarts, stateAfter, historyAfter, Reads-overlay}
 use Rattle.history.specs.Demand3.{Row, rows, history, Along, SameEvent, SameAnswer, settledIn, startOf}
 
 module _ (f : Form) {X : Type 0} where
@@ -41,3 +44,16 @@ module _ (f : Form) {X : Type 0} where
     -- the claim: of all calls from a start that keep the promise
     unfoldable pub Demand-3-called-holds : Type 0
     Demand-3-called-holds = (x : X) (cs : List (Call X)) → Starts x → AllPromised f view bytes proper x cs → Demand-3-called x cs
+
+    -- THE CENTRAL LAW, of what the calls from x left: their state and their history are those of the joined list, of which the law holds.
+    pub record Reads-called (x : X) (cs : List (Call X)) : Type 0 where
+      pub state-is : view (left x cs) ≡ stateAfter f (bytes x) (joinedOf f cs)
+      pub history-is : historyCalled (bytes x) cs ≡ historyAfter f (bytes x) (joinedOf f cs)
+      pub overlay : Reads-overlay f (bytes x) (joinedOf f cs)
+
+    -- After more calls with crashes and recoveries only, also cut ones, the settled records are the start's, overlaid with the writes of those that had
+    -- survived before.
+    unfoldable pub Commit-survives-called : X → List (Call X) → Type 0
+    Commit-survives-called x cs = (ds : List (Call X)) → AllPromised f view bytes proper (left x cs) ds → restarts (f .geometry) (joinedOf f ds) ≡ true
+        → (r : ℕ) → let h = historyCalled (bytes x) cs in
+        settledIn f (bytes (left (left x cs) ds)) r ≡ overlaid (survives h) r (h .writes) (settledIn f (bytes x) r)

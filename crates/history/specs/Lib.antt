@@ -7,3 +7,5 @@ pub mod Joined
 pub mod Called
 pub mod Trials
 pub mod EntryTrials
+pub mod NameTrials
+pub mod Survival

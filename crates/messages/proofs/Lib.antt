@@ -2,3 +2,4 @@
 pub mod Entries
 pub mod Votes
 pub mod Replies
+pub mod DepotTrials

@@ -1,3 +1,4 @@
--- The numbers of the depot's states, messages and replies; the gateway's vote.
+-- The numbers of the depot's states, messages and replies; the gateway's vote; rows for both.
 pub mod Codes
 pub mod Votes
+pub mod DepotTrials

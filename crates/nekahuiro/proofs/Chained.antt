@@ -23,7 +23,7 @@ use Rattle.rules.proofs.Portions as portions
 use Rattle.rules.proofs.CutLists.{empty-portion, fits-passes, portions-whole-edition1}
 use Rattle.rules.proofs.Calls.{AsChain, calls-chain}
 use Rattle.history.specs.Called.{Starts, Demand-3-called-holds}
-use Rattle.history.proofs.Called.{demand-3-called}
+use Rattle.history.proofs.Called.{proper-left, demand-3-called, reads-called, commit-survives-called}
 use Rattle.serial.specs.Called.{One-call-at-a-time-holds}
 use Rattle.serial.proofs.Called.{one-call-at-a-time-edition1}
 use Rattle.events.specs.Whole as events
@@ -31,7 +31,7 @@ use Rattle.crashes.proofs.Falls.{zeros-down, zeros-formed}
 use Rattle.engine.proofs.ByKind.{laws1, shaped-of}
 use Rattle.soundness.proofs.Unique.{encoding-unique}
 use Rattle.nekahuiro.specs.Portions.{Kept, kept, view, bytes, Proper, zeros}
-use Rattle.nekahuiro.specs.Chained.{Singled-out, Left-alone, Empty-taken, FromStart, Called-well, Calls-hold, As-run, Cut-anywhere}
+use Rattle.nekahuiro.specs.Chained.{Singled-out, Written-one-way, Refused-untouched, Left-alone, Empty-taken, FromStart, Called-well, Calls-hold, As-run, Cut-anywhere}
 use Rattle.nekahuiro.proofs.Portions.{encoded-of, sizes-of}
 
 abbrev Promise : Kept → Call Kept → Type 0
@@ -105,6 +105,19 @@ module _ (x : Kept) (c d : Call Kept) (same-lent : c .lent ≡ d .lent) (P : Pro
               let C = sound-portion edition1 laws1 (P .0) (view x) (x .store) (c .lent .events) (c .lent .work) (c .lent .answers) (carried-of x (k .1 .1) S) in
               engine-one (c .after) (d .after) (P .1 .written (k .1 .1)) (Q .1 .written (k .1 .1)) (subst⁻¹ (Sound edition1) (P .1 .state) (C .reached .sound)) states-same
 
+pub written-one-way : Written-one-way
+unfolding Written-one-way
+written-one-way = engine-one
+
+-- A REFUSED CALL leaves every byte
+pub refused-untouched : Refused-untouched
+unfolding Refused-untouched portionAll
+refused-untouched x c P h = (P .1 .untouched h, P .1 .told ∙ go (case? edition1 (P .0) (view x) (x .store) (c .lent .events) (c .lent .work) (c .lent .answers)))
+  where
+    go : Case edition1 (P .0) (view x) (x .store) (c .lent .events) (c .lent .work) (c .lent .answers) → on x (c .lent) (P .0) .answers ≡ c .lent .answers
+    go (refuses n q z p) = ap (λ (y : Portion edition1). y .answers) p
+    go (plays q p) = absurd (h (P .1 .answered ∙ ap (λ (y : Portion edition1). y .answer) p))
+
 -- A CALL SINGLES OUT every byte of the state, the store and the answers
 pub singled-out : Singled-out
 unfolding Singled-out
@@ -164,11 +177,6 @@ starts work store w s = record { at-start = zeros-down work store; written = rec
 abbrev found : StateOf edition1 → Bool
 found s = true
 
-proper-left : (x : Kept) (cs : List (Call Kept)) → AllPromised edition1 view bytes Proper x cs → Proper x → Proper (left x cs)
-unfolding left
-proper-left x [] P W = W
-proper-left x (c ∷ cs) P W = proper-left (c .after) cs (P .1) (P .0 .1 .written W)
-
 module _ (work store : List ℕ) (cs : List (Call Kept)) (F : FromStart work store cs) where
   abbrev x : Kept
   x = kept zeros work store
@@ -194,6 +202,8 @@ module _ (work store : List ℕ) (cs : List (Call Kept)) (F : FromStart work sto
     demand-3 = demand-3-called edition1 laws1 view bytes Proper x cs start (F .calls);
     one-at-a-time = λ work′ ds F′ again. one-call-at-a-time-edition1 view bytes Proper x cs start (F .calls)
         (kept zeros work′ store) ds (starts work′ store (F′ .works) (F′ .stores)) (F′ .calls) refl again;
+    reads = reads-called edition1 laws1 view bytes Proper x cs start (F .calls);
+    crashes = commit-survives-called edition1 laws1 view bytes Proper x cs start (F .calls);
   }
 
   module _ (A : AllFit edition1 (lents cs)) (one : Call Kept) (joined : one .lent .events ≡ allEvents (lents cs)) (fits : Fits edition1 (one .lent))
@@ -244,7 +254,7 @@ module _ (work store : List ℕ) (cs : List (Call Kept)) (F : FromStart work sto
       played = ap allZero (as-chain .same-results) ∙ whole-run .played;
       same-answers = as-chain .same-answers ∙ whole-run .same-answers;
       same-store = as-chain .same-store ∙ whole-run .same-store;
-      same-engine = engine-one (left x cs) (one .after) (proper-left x cs (F .calls) (start .written)) (P .1 .written (start₁ .written)) sound-left states;
+      same-engine = engine-one (left x cs) (one .after) (proper-left edition1 laws1 view bytes Proper x cs (F .calls) (start .written)) (P .1 .written (start₁ .written)) sound-left states;
       same-state = states;
     }
 

@@ -2,6 +2,7 @@
 use mathlib.Core.Path.{_≡_}
 use mathlib.Core.Bool.{true, false}
 use mathlib.Core.List.{List, []}
+use mathlib.Core.Logic.{_≢_}
 use Prim.Native.Nat.{ℕ, _*_}
 use lib.ListN.{length, take}
 use Rattle.rules.specs.State.{mem}
@@ -10,7 +11,7 @@ use Rattle.rules.specs.Sound.{Sound}
 use Rattle.rules.specs.Portion.{allEvents, allZero, AllFit, Fits}
 use Rattle.rules.specs.Calls.{Call, lents, results, left, joinedOf, answersOf, Promised, AllPromised}
 use Rattle.rules.specs.Editions.{edition1, workBytes}
-use Rattle.history.specs.Called.{rowsCalled, Demand-3-called}
+use Rattle.history.specs.Called.{rowsCalled, Demand-3-called, Reads-called, Commit-survives-called}
 use Rattle.serial.specs.OneAtATime.{replay}
 use Rattle.serial.specs.Called.{One-call-at-a-time}
 use Rattle.nekahuiro.specs.Portions.{Kept, kept, view, bytes, Proper, zeros}
@@ -26,6 +27,14 @@ pub record Alike-calls (c d : Call Kept) : Type 0 where
 
 unfoldable pub Singled-out : Type 0
 Singled-out = (x : Kept) (c d : Call Kept) → c .lent ≡ d .lent → Promised edition1 view bytes Proper x c → Promised edition1 view bytes Proper x d → Alike-calls c d
+
+-- THE STRUCT IS A FUNCTION OF THE STATE: what is written as a state is, and stands for the same sound state, is the same in every byte.
+unfoldable pub Written-one-way : Type 0
+Written-one-way = (x y : Kept) → Proper x → Proper y → Sound edition1 (view x) → view x ≡ view y → x .engine ≡ y .engine
+
+-- A REFUSED CALL leaves every byte: of the state, the working buffer, the store and the answers.
+unfoldable pub Refused-untouched : Type 0
+Refused-untouched = (x : Kept) (c : Call Kept) → Promised edition1 view bytes Proper x c → c .answer ≢ 0 → (c .after ≡ x) × (c .answers ≡ c .lent .answers)
 
 -- AN EMPTY PORTION of a sound state answers 0, and all but the working buffer stays; of that the live versions stay.
 pub record Left-alone (x : Kept) (c : Call Kept) : Type 0 where
@@ -45,13 +54,16 @@ pub record FromStart (work store : List ℕ) (cs : List (Call Kept)) : Type 0 wh
   pub works : length work ≡ workBytes
   pub calls : AllPromised edition1 view bytes Proper (kept zeros work store) cs
 
--- what holds of them: none is refused with 25, and over the joined list demand 3 and that all is as if one transaction came at a time
+-- what holds of them: none is refused with 25; over the joined list demand 3, and that all is as if one transaction came at a time; the central law of
+-- what they left, and what is settled after more calls with crashes and recoveries only
 pub record Called-well (work store : List ℕ) (cs : List (Call Kept)) : Type 0 where
   pub never-25 : mem 25 (results cs) ≡ false
   pub demand-3 : Demand-3-called edition1 view bytes Proper (kept zeros work store) cs
   -- other calls, whose joined list is the replay
   pub one-at-a-time : (work′ : List ℕ) (ds : List (Call Kept)) → FromStart work′ store ds → joinedOf edition1 ds ≡ replay edition1 store (rowsCalled edition1 cs)
       → One-call-at-a-time edition1 view bytes Proper (kept zeros work store) cs (kept zeros work′ store) ds
+  pub reads : Reads-called edition1 view bytes Proper (kept zeros work store) cs
+  pub crashes : Commit-survives-called edition1 view bytes Proper (kept zeros work store) cs
 
 unfoldable pub Calls-hold : Type 0
 Calls-hold = (work store : List ℕ) (cs : List (Call Kept)) → FromStart work store cs → Called-well work store cs

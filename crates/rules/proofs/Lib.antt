@@ -44,3 +44,4 @@ pub mod Durability
 pub mod Plain
 pub mod Fresh
 pub mod Held
+pub mod Rising

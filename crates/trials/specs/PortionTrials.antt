@@ -2,20 +2,18 @@
 use Prim.Native.Nat.{ℕ, _*_, _-_}
 use mathlib.Core.Bool.{Bool, true, false, _&&_}
 use mathlib.Core.List.{List, [], _∷_, _++_}
+use lib.Dec.{eqb}
 use lib.ListN.{length, take, replicate}
-use Rattle.laws.specs.Tests.{same}
-use Rattle.laws.specs.Bytes.{sameList}
-use Rattle.rules.specs.Geometry.{workSize}
 use Rattle.rules.specs.State.{down}
 use Rattle.rules.specs.Form.{Medium}
 use Rattle.rules.specs.Portion.{Lent, Portion, portion, Chain, chainFrom}
-use Rattle.rules.specs.Editions.{geometry1, edition1}
-use Rattle.trials.specs.Rows.{Line, Trial, plays, refuses, ages, eventsOf, answersOf, allDue}
+use Rattle.rules.specs.Editions.{edition1}
+use Rattle.trials.specs.Rows.{Line, Trial, plays, refuses, takes, lays, ages, alike, freshBytes, eventsOf, answersOf, allDue}
 use Rattle.trials.specs.Trials.{trials}
 
 -- the buffers of a portion: some events, and an answer buffer of some bytes
 abbrev pub lent : List ℕ → ℕ → Lent
-lent events n = record { events = events; work = replicate (workSize geometry1) 0; answers = replicate n 0 }
+lent events n = record { events = events; work = replicate 8192 0; answers = replicate n 0 }
 
 -- each event a portion
 abbrev pub singles : List Line → List Lent
@@ -27,8 +25,10 @@ abbrev pub chained : List ℕ → List Lent → Chain edition1
 chained store ls = chainFrom edition1 (λ s. true) store ls
 
 abbrev pub onePasses : Trial → Bool
-onePasses (plays store ls ds) = let c = chained store (singles ls) in sameList (c .answers) (answersOf ls) && allDue (c .store) ds
+onePasses (plays store ls ds) = let c = chained store (singles ls) in alike (c .answers) (answersOf ls) && allDue (c .store) ds
 onePasses (refuses a b c d n) = true
+onePasses (takes a b c d) = true
+onePasses (lays a n) = true
 onePasses (ages store r clock limit a) = true
 
 abbrev pub oneByOne : List Trial → Bool
@@ -45,14 +45,11 @@ pub data PortionTrial : Type 0 where
   lends : List Lent → List ℕ → List ℕ → PortionTrial
   turned : Bool → ℕ → ℕ → ℕ → ℕ → ℕ → PortionTrial
 
-abbrev freshBytes : List ℕ
-freshBytes = edition1 .medium .toBytes (edition1 .medium .fresh)
-
 abbrev pub passes : PortionTrial → Bool
-passes (lends ls results answers) = let c = chained freshBytes ls in sameList (c .results) results && sameList (c .answers) answers && same (2 * length (c .joined)) (length answers)
+passes (lends ls results answers) = let c = chained freshBytes ls in alike (c .results) results && alike (c .answers) answers && eqb (2 * length (c .joined)) (length answers)
 passes (turned sound a b c d n) =
     let p : Portion edition1 = portion edition1 sound (down (edition1 .medium .fresh)) (replicate a 7) (replicate b 7) (replicate c 7) (replicate d 7) in
-    same (p .answer) n && sameList (p .store) (replicate a 7) && sameList (p .answers) (replicate d 7)
+    eqb (p .answer) n && alike (p .store) (replicate a 7) && alike (p .answers) (replicate d 7)
 
 abbrev pub allPass : List PortionTrial → Bool
 allPass [] = true
@@ -72,6 +69,6 @@ portionTrials =
     -- a refused portion adds no event, nor does an empty one
     lends (lent recovers 2 ∷ lent (begins ++ (0x1F ∷ [])) 4 ∷ lent begins 1 ∷ lent [] 0 ∷ lent begins 2 ∷ []) (0 ∷ 20 ∷ 21 ∷ 0 ∷ 0 ∷ []) (0 ∷ 0 ∷ 0 ∷ 0 ∷ []) ∷
     -- in the order 22, 24, 20, 21, 25, with nothing touched
-    turned false 1055 5 (workSize geometry1 - 1) 0 22 ∷ turned false 1056 5 (workSize geometry1 - 1) 0 24 ∷ turned false 1056 5 (workSize geometry1) 0 20 ∷ turned false 1056 8 (workSize geometry1) 3 21 ∷
-    turned false 1056 8 (workSize geometry1) 4 25 ∷ turned false 1056 0 (workSize geometry1) 0 25 ∷
+    turned false 1055 5 8191 0 22 ∷ turned false 1056 5 8191 0 24 ∷ turned false 1056 5 8192 0 20 ∷ turned false 1056 8 8192 3 21 ∷
+    turned false 1056 8 8192 4 25 ∷ turned false 1056 0 8192 0 25 ∷
     []

@@ -5,12 +5,9 @@ use mathlib.Core.Bool.{true, false}
 use mathlib.Core.List.{List, [], _∷_, _++_}
 use lib.ListN.{drop, length, set, replicate}
 use lib.IntN.{negsuc}
-use Rattle.rules.specs.Geometry.{pageSize}
-use Rattle.rules.specs.Store.{blank, intention, home}
 use Rattle.rules.specs.Event.{Event, begin, write, read, commit, crash, recover, prepare, decide, query}
 use Rattle.rules.specs.Age.{ahead, refused}
-use Rattle.rules.specs.Editions.{geometry1}
-use Rattle.trials.specs.Rows.{Line, Due, page, value, Trial, plays, ages, freshBytes, emptyPage, withA5, on, top, locks, shares, aborts, onFresh, writesA5, childWrites11, writesTwo, bothA5, neither}
+use Rattle.trials.specs.Rows.{Line, Due, page, value, Trial, plays, ages, freshBytes, blank, emptyPage, withA5, on, top, locks, shares, aborts, onFresh, writesA5, childWrites11, writesTwo, bothA5, neither}
 
 -- a decision to commit, to abort
 abbrev pub decideCommit : ℕ → ℕ → Event
@@ -21,7 +18,7 @@ decideAbort k i = decide false k i
 
 -- a fresh store with these bytes at the commit page's beginning, and A5 in the intention page of record 3 at 2
 abbrev pub startWith : List ℕ → List ℕ
-startWith head = head ++ drop (length head) (set freshBytes (pageSize * intention 3 + 2) 0xA5)
+startWith head = head ++ drop (length head) (set freshBytes (32 * 4 + 2) 0xA5)
 
 -- record 3 is prepared with identity 7
 abbrev pub prepared7 : List ℕ
@@ -91,7 +88,7 @@ preparedTrials =
     -- A cut decision ends the live transactions.
     plays prepared7 (on (recover 63) 0x0000 ∷ on top 0x0000 ∷ on (decideCommit 1 7) 0x0B01 ∷ on (recover 63) 0x0002 ∷ on (locks 0 3) 0x0500 ∷ []) (value 3 withA5 ∷ []) ∷
     -- An age over a prepared page is by the home page.
-    ages (set prepared7 (pageSize * home geometry1 3 + 3) 7) 3 5 10 (ahead (negsuc 1)) ∷
+    ages (set prepared7 (32 * 20 + 3) 7) 3 5 10 (ahead (negsuc 1)) ∷
     -- Damaged too: another edition or state, a count of 2 for one record, the last byte; and an age is refused then.
     damagedBy (0x23 ∷ 0x10 ∷ 0x00 ∷ 0x08 ∷ 0x07 ∷ []) ∷ damagedBy (0x14 ∷ 0x10 ∷ 0x00 ∷ 0x08 ∷ 0x07 ∷ []) ∷ damagedBy (0x13 ∷ 0x10 ∷ 0x00 ∷ 0x10 ∷ 0x07 ∷ []) ∷
     damagedBy ((0x13 ∷ 0x10 ∷ 0x00 ∷ 0x08 ∷ 0x07 ∷ []) ++ (replicate 26 0 ++ (0x01 ∷ []))) ∷

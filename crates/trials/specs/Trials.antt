@@ -1,15 +1,15 @@
 -- The trials at the edges that document 01 marks, as rows of one table, with rows that shut out its five shortcuts, and rows for the locks of
--- document 02: read locks, reports, live children; and the rows for prepared transactions.
-use Prim.Native.Nat.{ℕ, _+_, _-_, _*_}
+-- document 02: read locks, reports, live children. The rows of EdgeTrials, WordTrials, PageTrials and PreparedTrials belong to the same table.
+use Prim.Native.Nat.{ℕ, _+_, _*_}
 use mathlib.Core.List.{List, [], _∷_, _++_}
 use lib.ListN.{set}
 use lib.IntN.{negsuc}
-use Rattle.rules.specs.Geometry.{pageSize, workSize}
-use Rattle.rules.specs.Store.{blank, home}
 use Rattle.rules.specs.Event.{begin, write, read, commit, crash, recover}
 use Rattle.rules.specs.Age.{ahead}
-use Rattle.rules.specs.Editions.{geometry1}
-use Rattle.trials.specs.Rows.{Trial, plays, refuses, ages, page, value, freshBytes, emptyPage, withA5, on, top, locks, shares, aborts, reports, onFresh, workedToCut, workedFromCut, nested, writesA5, childWrites11, writesTwo, bothA5, neither}
+use Rattle.trials.specs.Rows.{Trial, plays, refuses, ages, page, value, freshBytes, blank, emptyPage, withA5, on, top, locks, shares, aborts, reports, onFresh, workedToCut, workedFromCut, nested, writesA5, childWrites11, writesTwo, bothA5, neither}
+use Rattle.trials.specs.EdgeTrials.{edgeTrials}
+use Rattle.trials.specs.WordTrials.{wordTrials}
+use Rattle.trials.specs.PageTrials.{pageTrials, bitTrials}
 use Rattle.trials.specs.PreparedTrials.{preparedTrials}
 
 abbrev pub trials : List Trial
@@ -20,7 +20,7 @@ trials =
     -- 2: begin as first event
     plays freshBytes (on top 0x0200 ∷ []) [] ∷
     -- 3: the deepest begins, one deeper is refused
-    onFresh (nested (geometry1 .depthLimit - 1) ++ (on (begin (geometry1 .depthLimit - 1)) 0x0600 ∷ [])) [] ∷
+    onFresh (nested 15 ++ (on (begin 15) 0x0600 ∷ [])) [] ∷
     -- 5: two top transactions, one record
     onFresh (on top 0x0000 ∷ on top 0x0001 ∷ on (locks 0 3) 0x0000 ∷ on (locks 1 3) 0x0800 ∷ []) [] ∷
     -- 6: a child asks for what its parent holds; for what it only retains
@@ -49,7 +49,7 @@ trials =
     on top 0x0000 ∷ on (begin 0) 0x0001 ∷ on (commit 0 63) 0x0A00 ∷ on (aborts 0) 0x0000 ∷
     on (locks 1 3) 0x0500 ∷ on (locks 0 3) 0x0500 ∷ []) [] ∷
     -- 14: clock 5, stamp 7
-    ages (set freshBytes (pageSize * home geometry1 3 + 3) 7) 3 5 10 (ahead (negsuc 1)) ∷
+    ages (set freshBytes (32 * 20 + 3) 7) 3 5 10 (ahead (negsuc 1)) ∷
     -- 16: abort of a parent undoes what a committed child left it
     onFresh (
     on top 0x0000 ∷ on (locks 0 3) 0x0000 ∷ on (write 0 3 2 0x22) 0x0000 ∷ on (begin 0) 0x0001 ∷ on (begin 1) 0x0002 ∷
@@ -148,7 +148,7 @@ trials =
     on (write 2 3 2 7) 0x0E00 ∷ on (locks 3 3) 0x0800 ∷ on (read 3 3 2) 0x0900 ∷ on (locks 4 3) 0x0500 ∷ on (aborts 0) 0x0000 ∷ on (read 0 3 2) 0x0500 ∷
     on (read 1 3 2) 0x0000 ∷ []) [] ∷
     -- Refused before the first event, in the order 22, 24, 20, 21, with nothing touched.
-    refuses 1055 5 (workSize geometry1 - 1) 0 22 ∷ refuses 1056 5 (workSize geometry1 - 1) 0 24 ∷ refuses 1056 5 (workSize geometry1) 0 20 ∷
-    refuses 1056 16388 (workSize geometry1) 8194 20 ∷ refuses 1056 8 (workSize geometry1) 3 21 ∷
-    -- Prepared transactions.
-    preparedTrials
+    refuses 1055 5 8191 0 22 ∷ refuses 1056 5 8191 0 24 ∷ refuses 1056 5 8192 0 20 ∷
+    refuses 1056 16388 8192 8194 20 ∷ refuses 1056 8 8192 3 21 ∷
+    -- Transactions and locks at their edges, every bit of the event word, the store, prepared transactions.
+    (edgeTrials ++ (wordTrials ++ (pageTrials ++ (bitTrials ++ preparedTrials))))

@@ -1,0 +1,29 @@
+-- Every row of the tables of states holds: by computing.
+use lib.Dec.{T}
+use Rattle.laws.specs.Tests.{open-tests}
+use Rattle.laws.specs.Counting.{open-counting}
+use Rattle.laws.specs.Functions.{open-functions}
+use Rattle.laws.specs.Bytes.{open-bytes}
+use Rattle.rules.specs.Geometry.{open-geometry}
+use Rattle.rules.specs.Store.{open-store}
+use Rattle.rules.specs.Event.{open-event}
+use Rattle.rules.specs.State.{open-state}
+use Rattle.rules.specs.Locks.{open-locks}
+use Rattle.rules.specs.Versions.{open-versions}
+use Rattle.rules.specs.Commit.{open-commit}
+use Rattle.rules.specs.Step.{open-step}
+use Rattle.rules.specs.Run.{open-run}
+use Rattle.rules.specs.Portion.{open-portion}
+use Rattle.rules.specs.Sound.{open-sound}
+use Rattle.trials.specs.StateTrials as states
+use Rattle.trials.specs.SoundTrials.{allAgree, soundTrials, open-clauses}
+
+-- states that lists of events leave
+pub state-trials-hold : T (states.allPass states.stateTrials)
+unfolding open-tests open-counting open-functions open-bytes open-geometry open-store open-event open-state open-locks open-versions open-commit open-step open-run open-portion
+state-trials-hold = tt
+
+-- sound and unsound states
+pub sound-trials-hold : T (allAgree soundTrials)
+unfolding open-tests open-counting open-functions open-bytes open-geometry open-store open-state open-versions open-step open-sound open-clauses
+sound-trials-hold = tt
