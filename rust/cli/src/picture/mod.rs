@@ -1,9 +1,9 @@
 //! `--picture FILE.svg`: a run as a timeline. Time goes to the right, one column an event.
 
-mod bars;
-mod layout;
-mod locks;
-mod svg;
+pub mod bars;
+pub mod layout;
+pub mod locks;
+pub mod svg;
 
 use crate::follow::Follower;
 use crate::{number_of, trace};
@@ -28,7 +28,14 @@ pub struct Told<'t> {
     pub start: &'t Follower,
 }
 
-impl Told<'_> {
+impl<'t> Told<'t> {
+    /// What the events and answers tell.
+    pub fn of(start: &'t Follower, words: &[u8], answers: &'t [Answer], history: &'t History) -> Told<'t> {
+        let words: Vec<[u8; EVENT_BYTES]> = words.chunks_exact(EVENT_BYTES).map(|w| [w[0], w[1], w[2], w[3]]).collect();
+        let events = words.iter().map(|word| Event::of(*word)).collect();
+        Told { words, events, answers, history, start }
+    }
+
     /// An event and its answer in words.
     pub fn tip(&self, at: usize) -> String {
         let word = self.words[at];
@@ -47,7 +54,7 @@ impl Told<'_> {
     }
 
     /// The refusals of this run, each number once.
-    fn refusals(&self) -> BTreeMap<u8, String> {
+    pub fn refusals(&self) -> BTreeMap<u8, String> {
         self.answers.iter().filter_map(|answer| Some((answer.number, answer.refusal()?))).collect()
     }
 
@@ -70,9 +77,7 @@ const LEAST_WIDTH: f64 = 900.0;
 
 /// Draws a run.
 pub fn draw(start: &Follower, words: &[u8], answers: &[Answer], history: &History) -> String {
-    let words: Vec<[u8; EVENT_BYTES]> = words.chunks_exact(EVENT_BYTES).map(|w| [w[0], w[1], w[2], w[3]]).collect();
-    let events = words.iter().map(|word| Event::of(*word)).collect();
-    let told = Told { words, events, answers, history, start };
+    let told = Told::of(start, words, answers, history);
     let scale = Scale::of(answers.len());
     let bars = Layout::of(history, answers.len());
     let locks = locks::Rows::of(&told);

@@ -7,13 +7,16 @@ mod report;
 use crate::alone::Alone;
 use crate::command::{Command, WAIT};
 use crate::failure::{Failure, Outcome, Status};
+use crate::files::name_of;
 use crate::follow::Follower;
+use crate::list::List;
+use crate::names::Names;
 use crate::output::Output;
 use crate::pair::Pair;
 use crate::state_file::{self, Kept};
-use crate::{list, number_of, picture, say};
+use crate::{list, names, number_of, page, picture, say, trace};
 use nekahuiro::limits::{EVENTS, EVENT_BYTES};
-use nekahuiro::{Answer, Refusal, Store};
+use nekahuiro::{Answer, Event, Refusal, Store};
 use nekahuiro_history::{tell_from, Earlier, History};
 use options::Options;
 
@@ -25,6 +28,7 @@ pub const COMMAND: Command = Command {
         ("--answers", "FILE", "write the answers there, two bytes each"),
         ("--trace", "", "tell each event in words: who holds, who retains, what crashed"),
         ("--picture", "FILE.svg", "draw the run as a timeline"),
+        ("--page", "FILE.html", "make a page to look at in a browser: timeline, store and locks after each event"),
         ("--portions", "N", "play N events at a time; the list may then have any length"),
         ("--state", "FILE", "go on from the state in FILE, and leave the new state there; without it, start down"),
         ("--strict", "", "end with status 5 if an event is refused; the list is played all the same"),
@@ -35,7 +39,8 @@ pub const COMMAND: Command = Command {
     ],
     summary: "play a list of events on a store",
     help: "\
-`./nekahuiro help` says how a list is written. Each event has an answer of two bytes, told in hex: a
+`./nekahuiro help` says how a list is written. A name stands for the transaction that the last begin with it
+began, and for nobody once that has ended; an event that names nobody is refused with 5. Each event has an answer of two bytes, told in hex: a
 number (00 done, 01 to 0A, 0D, 0E and 1B refused, 0B cut by a crash), then a value. --trace tells it in words;
 a lock is to write unless it is said to be to read. include/nekahuiro.h has all the numbers.
 
@@ -64,8 +69,28 @@ struct Played {
     /// What is left for the next portion.
     left: Kept,
     words: Vec<u8>,
+    names: Names,
     answers: Vec<Answer>,
     history: History,
+}
+
+impl Played {
+    /// The refused events: where, and what was refused why.
+    fn refusals(&self) -> impl Iterator<Item = (usize, String)> + '_ {
+        let answered = self.words.chunks_exact(EVENT_BYTES).zip(&self.answers).enumerate();
+        answered.filter(|(_, (_, answer))| !answer.is_accepted()).map(|(at, (word, answer))| {
+            let word = [word[0], word[1], word[2], word[3]];
+            (at, format!("{}: {}", self.names.describe(at, word), trace::what_happened(Event::of(word), word, *answer)))
+        })
+    }
+
+    /// What a page shows of it.
+    fn shown<'p>(&'p self, options: &Options, before: (&'p Store, &'p Kept)) -> page::Run<'p> {
+        let Played { store, start, words, names, answers, history, .. } = self;
+        let file = |path: &str| path.rsplit('/').next().unwrap_or(path).to_string();
+        let title = format!("{} on {}", file(name_of(options.events)), file(options.store));
+        page::Run { title, before, start, words, names, answers, history, after: store }
+    }
 }
 
 /// Plays, replaces store and state, hands out what was asked for, and then tells it.
@@ -73,18 +98,23 @@ fn run(words: &[String]) -> Outcome {
     let options = Options::of(words)?;
     options.check_files()?;
     // The list may come slowly, and the files are read when they are needed.
-    let words = list::read(options.events, options.raw)?;
+    let list = list::read_named(options.events, options.raw)?;
     if options.portions.is_none() {
-        list::check_length(options.events, &words)?;
+        list::check_length(options.events, &list.words)?;
+    }
+    if options.page.is_some() {
+        page::check_length(name_of(options.events), &list.words)?;
     }
     let expected = options.expect.map(expected::read).transpose()?;
     let mut answers_to = options.answers.map(Output::open).transpose()?;
     let mut picture_to = options.picture.map(Output::open).transpose()?;
-    let files = answers_to.iter().chain(&picture_to).filter_map(Output::file);
+    let mut page_to = options.page.map(Output::open).transpose()?;
+    let files = answers_to.iter().chain(&picture_to).chain(&page_to).filter_map(Output::file);
     let files: Vec<&str> = std::iter::once(options.store).chain(options.state).chain(files).collect();
     let alone = Alone::with(&files, options.wait)?;
     let (pair, kept) = Pair::read(options.store, options.state, options.dry)?;
-    let played = play(&options, pair.store.clone(), kept, words)?;
+    let before = kept.clone();
+    let played = play(&options, pair.store.clone(), kept, list)?;
     // All new content is on the disk before any file is replaced.
     if let Some(output) = &mut answers_to {
         output.stage(played.answers.iter().flat_map(|answer| answer.bytes()).collect())?;
@@ -93,10 +123,13 @@ fn run(words: &[String]) -> Outcome {
         let Played { start, words, answers, history, .. } = &played;
         output.stage(picture::draw(start, words, answers, history).into_bytes())?;
     }
+    if let Some(output) = &mut page_to {
+        output.stage(page::draw(&played.shown(&options, (&pair.store, &before)))?.into_bytes())?;
+    }
     if !options.dry {
         pair.replace(&played.store, &played.left)?;
     }
-    let mut outputs: Vec<Output> = answers_to.into_iter().chain(picture_to).collect();
+    let mut outputs: Vec<Output> = answers_to.into_iter().chain(picture_to).chain(page_to).collect();
     let told = outputs.iter_mut().try_for_each(Output::put);
     // Nobody has to wait for the readers of the outputs.
     drop(alone);
@@ -117,15 +150,19 @@ fn verdict(options: &Options, played: &Played, expected: Option<&[Answer]>) -> O
     let refused = played.answers.iter().filter(|answer| !answer.is_accepted()).count();
     if options.strict && refused > 0 {
         let verb = if refused == 1 { "was" } else { "were" };
-        let reason = format!("{} {verb} refused", number_of(refused, "event"));
-        return Err(Failure::with(Status::EventRefused, &reason, "--trace tells why").and(kept));
+        let first = played.refusals().next().map(|(at, what)| format!("event {}, {what}", at + 1)).unwrap_or_default();
+        let reason = format!("{} {verb} refused; the first is {first}", number_of(refused, "event"));
+        return Err(Failure::with(Status::EventRefused, &reason, "--trace tells of each why").and(kept));
     }
     Ok(())
 }
 
-fn play(options: &Options, mut store: Store, mut left: Kept, words: Vec<u8>) -> Outcome<Played> {
+fn play(options: &Options, mut store: Store, mut left: Kept, list: List) -> Outcome<Played> {
     let (start, earlier) = (Follower::of(&left.state, store.commit_page()), left.earlier());
-    let played = if options.portions.is_some() || options.state.is_some() {
+    let List { mut words, names } = list;
+    let played = if !names.is_empty() {
+        names::play(&mut store, &mut left, &mut words, &names)
+    } else if options.portions.is_some() || options.state.is_some() {
         portions(&mut store, &mut left, &words, options.portions.unwrap_or(EVENTS))
     } else {
         store.play_words(&words)
@@ -135,7 +172,8 @@ fn play(options: &Options, mut store: Store, mut left: Kept, words: Vec<u8>) -> 
         _ => Failure::refused(&format!("the run was {refusal}"), "nothing was played, and no file was changed"),
     })?;
     let history = history(&earlier, &words, &answers)?;
-    Ok(Played { store, start, left, words, answers, history })
+    let names = Names::of(names, &answers);
+    Ok(Played { store, start, left, words, names, answers, history })
 }
 
 /// Plays the words, at most so many events at a time. No words are one empty portion, so that a state

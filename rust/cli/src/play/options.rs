@@ -20,6 +20,8 @@ pub struct Options<'w> {
     pub answers: Option<&'w str>,
     /// Where the picture goes.
     pub picture: Option<&'w str>,
+    /// Where the page goes.
+    pub page: Option<&'w str>,
     /// The state file.
     pub state: Option<&'w str>,
     /// The answers that should be given.
@@ -47,6 +49,7 @@ impl<'w> Options<'w> {
             events,
             answers: given.value("--answers"),
             picture: given.value("--picture"),
+            page: given.value("--page"),
             state: given.value("--state"),
             expect: given.value("--expect"),
             portions: given.value("--portions").map(portion_length).transpose()?,
@@ -69,6 +72,7 @@ impl<'w> Options<'w> {
             ("the expected answers", self.expect),
             ("the answers", self.answers),
             ("the picture", self.picture),
+            ("the page", self.page),
         ];
         files.extend(others.into_iter().filter_map(|(what, name)| Some((what, name?))));
         let places: Vec<_> = files.iter().map(|(_, name)| place_of(name)).collect();
@@ -82,7 +86,8 @@ impl<'w> Options<'w> {
             let reason = format!("{} is named twice, for {one} and for {other}", shown(name, place));
             return Err(Failure::usage(&reason, "one use would spoil the other: give them different names"));
         }
-        self.picture.map_or(Ok(()), check_picture)
+        self.picture.map_or(Ok(()), |name| check_ending("--picture draws SVG", name, &["svg"]))?;
+        self.page.map_or(Ok(()), |name| check_ending("--page makes HTML", name, &["html", "htm"]))
     }
 }
 
@@ -95,12 +100,12 @@ fn shown<'n>(name: &'n str, place: &'n Path) -> Cow<'n, str> {
     }
 }
 
-/// A picture is SVG, so its name may not promise something else.
-fn check_picture(name: &str) -> Outcome {
+/// A picture is SVG and a page is HTML, so its name may not promise something else.
+fn check_ending(makes: &str, name: &str, endings: &[&str]) -> Outcome {
     match Path::new(name).extension() {
-        Some(other) if !other.eq_ignore_ascii_case("svg") => {
-            let reason = format!("--picture draws SVG, and {name} is the name of something else");
-            Err(Failure::usage(&reason, "give it a name that ends in .svg"))
+        Some(other) if !endings.iter().any(|ending| other.eq_ignore_ascii_case(ending)) => {
+            let reason = format!("{makes}, and {name} is the name of something else");
+            Err(Failure::usage(&reason, &format!("give it a name that ends in .{}", endings[0])))
         }
         _ => Ok(()),
     }

@@ -5,14 +5,18 @@ use crate::failure::visible;
 use crate::{number_of, show, trace};
 use nekahuiro::limits::EVENT_BYTES;
 use nekahuiro::Answer;
+use std::collections::BTreeMap;
 use std::fmt::Write;
+
+/// As many events of a refusal as are told.
+const SHOWN: usize = 8;
 
 /// The answers or the trace, and what came of it.
 pub fn text(options: &Options, played: &Played) -> String {
     let Played { store, start, left, words, answers, history, .. } = played;
     let mut text = String::new();
     if options.trace {
-        text.push_str(&trace::tell(start, words, answers, history));
+        text.push_str(&trace::tell(start, words, &played.names, answers, history));
     } else if options.answers.is_none() {
         for (word, answer) in words.chunks_exact(EVENT_BYTES).zip(answers) {
             let bits = u32::from_be_bytes([word[0], word[1], word[2], word[3]]);
@@ -30,7 +34,7 @@ pub fn text(options: &Options, played: &Played) -> String {
         trace::fates(history),
     );
     if accepted < answers.len() && !options.trace {
-        let _ = writeln!(text, "why an event was refused: --trace tells it");
+        text.push_str(&refusals(answers));
     }
     let open = (0..history.transactions.len()).any(|place| history.is_undecided(place));
     match options.state {
@@ -43,6 +47,22 @@ pub fn text(options: &Options, played: &Played) -> String {
     let _ = writeln!(text, "{}", show::commit_page(store));
     if options.dry {
         let _ = writeln!(text, "a dry run: the store is left as it was, and so is the state file");
+    }
+    text
+}
+
+/// Each refusal in words, once, and where it was given.
+fn refusals(answers: &[Answer]) -> String {
+    let mut places: BTreeMap<u8, Vec<usize>> = BTreeMap::new();
+    for (at, answer) in (1..).zip(answers).filter(|(_, answer)| !answer.is_accepted()) {
+        places.entry(answer.number).or_default().push(at);
+    }
+    let mut text = String::new();
+    for (number, places) in places {
+        let shown: Vec<String> = places.iter().take(SHOWN).map(usize::to_string).collect();
+        let more = if places.len() > SHOWN { " and more" } else { "" };
+        let events = if places.len() == 1 { "event" } else { "events" };
+        let _ = writeln!(text, "{}: {events} {}{more}", Answer { number, value: 0 }, shown.join(", "));
     }
     text
 }

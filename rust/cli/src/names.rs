@@ -1,0 +1,159 @@
+//! Names of transactions in lists: `begin none as refresh`, then `lock refresh 3`. A name stands for the transaction that
+//! the last begin with it began, and for nobody once that has ended: so a number that is given again is never meant by
+//! an old name. Which number it is, the answers tell.
+
+use crate::state_file::Kept;
+use nekahuiro::limits::EVENT_BYTES;
+use nekahuiro::{describe, Answer, BadWords, Event, Fields, Refusal, State, Store};
+use std::collections::{BTreeMap, BTreeSet};
+
+/// The number of a name that stands for nobody: an event with it is refused with 5.
+const NOBODY: u8 = 30;
+/// The longest name.
+const LONGEST: usize = 24;
+/// Words that are no names.
+const TAKEN: [&str; 3] = ["none", "as", "report"];
+
+/// The names in one event.
+#[derive(Clone, Default)]
+pub struct Named {
+    /// Whom the event names.
+    pub whom: Option<String>,
+    /// How the transaction is called that it begins.
+    pub as_what: Option<String>,
+}
+
+impl Named {
+    /// Whether there is a name at all.
+    pub fn is_some(&self) -> bool {
+        self.whom.is_some() || self.as_what.is_some()
+    }
+}
+
+/// The names in a list that was played, by event: of whom it begins, and of whom it names.
+#[derive(Default)]
+pub struct Names {
+    /// The names of transactions, by the events that began them.
+    pub begun: BTreeMap<usize, String>,
+    /// The names in events, as they were written.
+    pub whom: BTreeMap<usize, String>,
+}
+
+impl Names {
+    /// The names of a list with these answers.
+    pub fn of(named: BTreeMap<usize, Named>, answers: &[Answer]) -> Names {
+        let mut names = Names::default();
+        for (at, Named { whom, as_what }) in named {
+            names.whom.extend(whom.map(|name| (at, name)));
+            names.begun.extend(as_what.filter(|_| answers[at].is_accepted()).map(|name| (at, name)));
+        }
+        names
+    }
+
+    /// An event in words, with the name that was written for the number.
+    pub fn describe(&self, at: usize, word: [u8; EVENT_BYTES]) -> String {
+        match self.whom.get(&at) {
+            Some(name) => format!("{} ({name})", describe(word)),
+            None => describe(word),
+        }
+    }
+}
+
+/// Names that stand in the lines so far.
+#[derive(Default)]
+pub struct Known(BTreeSet<String>);
+
+impl Known {
+    /// An event in words, with its names; a name that is not known yet is an error.
+    pub fn event(&mut self, line: &str) -> Result<([u8; EVENT_BYTES], Named), BadWords> {
+        let mut words: Vec<&str> = line.split_whitespace().collect();
+        let mut named = Named::default();
+        let kind = words[0].to_ascii_lowercase();
+        if let ("begin", [.., word, name]) = (&kind[..], &words[..]) {
+            if word.eq_ignore_ascii_case("as") {
+                named.as_what = Some(checked(name)?);
+                words.truncate(words.len() - 2);
+            }
+        }
+        let is_name = |word: &str| word.starts_with(|first: char| first.is_alphabetic());
+        let names_somebody = !matches!(&kind[..], "decide" | "query" | "recover" | "crash");
+        let whom = words.get(1).filter(|word| names_somebody && is_name(word) && !word.eq_ignore_ascii_case("none"));
+        let nobody = NOBODY.to_string();
+        if let Some(name) = whom.copied() {
+            named.whom = Some(self.known(name)?);
+            words[1] = &nobody;
+        }
+        let event: Event = words.join(" ").parse()?;
+        self.0.extend(named.as_what.clone());
+        Ok((event.word(), named))
+    }
+
+    fn known(&self, name: &str) -> Result<String, BadWords> {
+        match self.0.contains(name) {
+            true => Ok(name.to_string()),
+            false => Err(BadWords {
+                reason: format!("no transaction is called `{name}` before this line"),
+                mend: format!("give its number, or name it where it begins: `begin none as {name}`"),
+            }),
+        }
+    }
+}
+
+/// A word that can be a name.
+fn checked(word: &str) -> Result<String, BadWords> {
+    let plain = |c: char| c.is_ascii_alphanumeric() || c == '-' || c == '_';
+    let first = word.starts_with(|first: char| first.is_ascii_alphabetic());
+    let taken = TAKEN.iter().any(|taken| taken.eq_ignore_ascii_case(word));
+    match first && !taken && word.chars().all(plain) && word.len() <= LONGEST {
+        true => Ok(word.to_string()),
+        false => Err(BadWords {
+            reason: format!("`{word}` can't be a name"),
+            mend: format!("begin it with a letter, with letters, digits, - or _ after it, at most {LONGEST} in all"),
+        }),
+    }
+}
+
+/// Whom each name stands for, as the answers come.
+#[derive(Default)]
+pub struct Bound {
+    numbers: BTreeMap<String, u8>,
+}
+
+impl Bound {
+    /// The word of an event, with the number of whom it names.
+    pub fn resolve(&self, word: [u8; EVENT_BYTES], named: &Named) -> [u8; EVENT_BYTES] {
+        let Some(name) = &named.whom else { return word };
+        let transaction = self.numbers.get(name).copied().unwrap_or(NOBODY);
+        Fields { transaction, ..Fields::of(word) }.word()
+    }
+
+    /// Takes note of an event's answer, and of who is live after it.
+    pub fn answered(&mut self, named: &Named, answer: Answer, state: &State) {
+        self.numbers.retain(|_, number| state.live().any(|live| live.number() == *number));
+        if let Some(name) = &named.as_what {
+            match answer.is_accepted() {
+                true => self.numbers.insert(name.clone(), answer.value),
+                false => self.numbers.remove(name),
+            };
+        }
+    }
+}
+
+/// Plays one event after the other, and puts into the words the numbers that the answers give to names.
+pub fn play(
+    store: &mut Store,
+    Kept { state, work }: &mut Kept,
+    words: &mut [u8],
+    names: &BTreeMap<usize, Named>,
+) -> Result<Vec<Answer>, Refusal> {
+    let (mut bound, nobody, mut answers) = (Bound::default(), Named::default(), Vec::new());
+    for (at, word) in words.chunks_exact_mut(EVENT_BYTES).enumerate() {
+        let named = names.get(&at).unwrap_or(&nobody);
+        word.copy_from_slice(&bound.resolve([word[0], word[1], word[2], word[3]], named));
+        for answer in store.portion_words(state, work, word)? {
+            bound.answered(named, answer, state);
+            answers.push(answer);
+        }
+    }
+    Ok(answers)
+}
