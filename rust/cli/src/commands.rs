@@ -2,14 +2,18 @@
 
 use crate::command::Command;
 use crate::failure::{visible, Failure, Outcome};
-use crate::{age, bench, demo, depot, encode, fresh, help, play, show};
+use crate::{age, bench, check, demo, depot, encode, fresh, get, help, play, put, shell, show};
 
 /// All commands.
 pub const ALL: &[Command] = &[
     demo::COMMAND,
     fresh::COMMAND,
     play::COMMAND,
+    shell::COMMAND,
     show::COMMAND,
+    check::COMMAND,
+    get::COMMAND,
+    put::COMMAND,
     age::COMMAND,
     depot::COMMAND,
     encode::COMMAND,
