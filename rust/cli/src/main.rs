@@ -33,6 +33,7 @@ mod trace;
 use failure::{Failure, Outcome};
 use std::ffi::OsString;
 use std::io::{ErrorKind, Write};
+use std::path::Path;
 use std::process::ExitCode;
 
 fn main() -> ExitCode {
@@ -52,6 +53,15 @@ fn plain(word: OsString) -> Outcome<String> {
         let reason = format!("`{}` isn't UTF-8 text", word.display());
         Failure::usage(&reason, "rename the file, or reach it through a link with another name")
     })
+}
+
+/// Text with the command line's name as it was called: the script is ./nekahuiro, what is installed is nekahuiro.
+fn as_called(text: &str) -> String {
+    let own = std::env::args_os().next().unwrap_or_default();
+    match Path::new(&own).file_name().is_some_and(|name| name == "nekahuiro") {
+        true => text.replace("./nekahuiro", "nekahuiro"),
+        false => text.to_string(),
+    }
 }
 
 /// Writes text to standard output.

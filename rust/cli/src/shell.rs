@@ -8,7 +8,7 @@ use crate::follow::Follower;
 use crate::names::{Bound, Known, Named};
 use crate::pair::Pair;
 use crate::state_file::{self, Kept};
-use crate::{list, say, show, trace};
+use crate::{as_called, list, say, show, trace};
 use nekahuiro::limits::EVENT_BYTES;
 use nekahuiro::{Answer, Event, Refusal, Store};
 use std::io::{self, BufRead, IsTerminal, Read, Write};
@@ -120,7 +120,7 @@ impl<'n> Shell<'n> {
         Ok(Told::Text(match line.to_ascii_lowercase().as_str() {
             "" => String::new(),
             "quit" | "exit" => return Ok(Told::End),
-            "help" => format!("{WORDS}\n{}", list::HELP),
+            "help" => as_called(&format!("{WORDS}\n{}", list::HELP)),
             "show" => show::records(&self.store),
             "locks" => format!("{}\n", self.in_words()),
             _ => {
