@@ -11,9 +11,11 @@ function slide(to) { get('cursor').value = to; get('cursor').dispatchEvent(new E
 try {
   get('all').click(); // all pages
   say('title', document.title, '|', get('fates').textContent);
-  const began = performance.now();
+  let took = 0;
   for (const at of wanted) {
+    const began = performance.now();
     slide(at);
+    took += performance.now() - began;
     say('store', at, store());
     say('place', at, get('place').textContent);
     say('event', at, get('words').textContent, '|', get('sentence').textContent, '|', get('what').textContent.replace(/\n/g, ' / '));
@@ -24,7 +26,7 @@ try {
     say('page0', at, get('page0').textContent);
     if (at > 0 && !get('column')) say('error no cursor in the timeline at', at);
   }
-  say('milliseconds', Math.round((performance.now() - began) / wanted.length), 'an event');
+  say('milliseconds', Math.round(took / wanted.length), 'an event');
   say('drawn', get('drawing').querySelectorAll('*').length, 'of', document.querySelectorAll('*').length);
   slide(0); say('keys start', get('place').textContent);
   press('ArrowRight'); press('ArrowRight'); say('keys right twice', get('place').textContent);

@@ -33,7 +33,8 @@ replaced, and then it is answered. Between two events other commands may have th
 what is live here without --state is lost, and the shell ends. These lines are no events:
   show       the store          locks      who is live, who holds and retains
   help       this text          quit       the end, as the end of the input is
-At a terminal a line that can't be taken is told and the next one is read; otherwise it ends the shell.
+At a terminal a line that can't be taken is told and the next one is read; otherwise it ends the shell, with the
+exit status of that line. What was answered before stays.
 ";
 
 /// The longest line that is read.

@@ -132,7 +132,7 @@ function showLost() {
 }
 
 // The timeline: as many columns as are in view.
-const LEFT = 78, AXIS = 48, LOCK = 30, CRASH = 28;
+const LEFT = 88, AXIS = 48, LOCK = 30, CRASH = 28;
 const box = element('timeline');
 let step = 34, now = 0, bars = 0, height = 0; // where the bars in view end, and the locks below them
 const inView = (from, to) => transactions.filter(told => told[3] <= to && told[4] >= from);

@@ -40,14 +40,16 @@ pub const COMMAND: Command = Command {
     summary: "play a list of events on a store",
     help: "\
 `./nekahuiro help` says how a list is written. A name stands for the transaction that the last begin with it
-began, and for nobody once that has ended; an event that names nobody is refused with 5. Each event has an answer of two bytes, told in hex: a
-number (00 done, 01 to 0A, 0D, 0E and 1B refused, 0B cut by a crash), then a value. --trace tells it in words;
-a lock is to write unless it is said to be to read. include/nekahuiro.h has all the numbers.
+began, and for nobody once that has ended; an event that names nobody is refused with 5.
+
+Each event has an answer of two bytes, told in hex: a number (00 done, 01 to 0A, 0D, 0E and 1B refused, 0B
+cut by a crash), then a value. Refusals are told in words below; --trace tells each event in words, and there a
+lock is to write unless it is said to be to read. include/nekahuiro.h has all the numbers.
 
 When the list has been read, the command has the folders of its files for itself until they are
 replaced, and another one waits. Nothing is told as done before it is: first the store is replaced, in one
-step, then the state file, then answers and picture; then the report is printed. If somebody else
-changed store or state file meanwhile, nothing is replaced.
+step, then the state file, then answers, picture and page; then the report is printed. If somebody
+else changed store or state file meanwhile, nothing is replaced.
 
 A state file has what is live between two portions: a line that says what it is and of which version,
 a digest of the store left with it and one of what follows, the lent state, the working buffer, and the
