@@ -2,6 +2,7 @@
 "$run" fresh paged --force >/dev/null; cp paged paged.fresh
 sed 's/#.*//' "$root/docs/timeline.txt" | grep . >thirty-five.txt
 ok "a page" "35 events: 31 done, 2 refused, 2 cut by a crash" "$run" play paged thirty-five.txt --page run.html --dry
+holds "where the page is, and no words in hex" bash -c "grep -qx 'run.html: the run to look at, in a browser' out && ! grep -q 80003F00 out"
 same "a page of a dry run leaves the store" paged paged.fresh
 holds "the page is one file: nothing is fetched" bash -c "! grep -qiE 'https?:|src=|href=|import |fetch\(|XMLHttp' run.html"
 holds "and nothing may be" grep -q "content=\"default-src 'none'; style-src 'unsafe-inline'; script-src 'unsafe-inline'\"" run.html
@@ -20,7 +21,7 @@ for name in chromium chromium-browser google-chrome; do [ -n "$browser" ] || bro
 # PAGE EVENTS: what the browser shows when it goes to these events, in the file `driven`
 drive() {
     { cat "$1"; echo "<script>const wanted = [$2];"; cat "$root/tests/page/driver.js"; echo '</script>'; } >driven.html
-    timeout 60 "$browser" --headless --no-sandbox --disable-gpu --window-size=1400,1200 --user-data-dir="$folder/browser" \
+    timeout 60 "$browser" --headless --no-sandbox --disable-gpu --disable-dev-shm-usage --window-size=1400,1200 --user-data-dir="$folder/browser" \
         --dump-dom "file://$folder/driven.html" 2>/dev/null | sed -n '/^DRIVEN/,/^END/p' | sed 's/&amp;/\&/g; s/&lt;/</g; s/&gt;/>/g' >driven
     cp driven out; : >err
 }

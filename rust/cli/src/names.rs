@@ -157,3 +157,69 @@ pub fn play(
     }
     Ok(answers)
 }
+
+#[cfg(test)]
+mod tests {
+    use super::*;
+    use nekahuiro_history::{tell, End};
+    use nekahuiro_lists::Rng;
+
+    /// A line with names that are known, drawn by chance.
+    fn line(rng: &mut Rng, known: &[&str]) -> String {
+        let names = ["a", "b", "c", "d"];
+        let mut name = || *rng.pick(if known.is_empty() { &["0"] } else { known }).unwrap_or(&"0");
+        let (one, other) = (name(), name());
+        let new = *rng.pick(&names).unwrap_or(&"a");
+        match rng.below(16) {
+            0 | 1 => format!("begin none as {new}"),
+            2 | 3 => format!("begin {one} as {new}"),
+            4 => "begin none".to_string(),
+            5..=7 => format!("lock {one} {}", rng.below(3)),
+            8 | 9 => format!("write {one} {} 0 11", rng.below(3)),
+            10 | 11 => format!("commit {one}"),
+            12 => format!("commit {other} {}", rng.below(4)),
+            13 => format!("abort {one}"),
+            14 if rng.below(4) == 0 => "crash".to_string(),
+            _ => "recover".to_string(),
+        }
+    }
+
+    /// Told from the events and answers alone: an event belongs to the transaction that the last begin with its
+    /// name began, and to nobody if that has ended or was refused.
+    #[test]
+    fn a_name_is_the_last_that_began_with_it_and_lives() {
+        let (mut rng, mut owned, mut nobody) = (Rng::new(12), 0, 0);
+        for _ in 0..2_000 {
+            let (mut known, mut words, mut names) = (Known::default(), Vec::new(), BTreeMap::new());
+            for at in 0..40 {
+                let so_far: Vec<String> = known.0.iter().cloned().collect();
+                let so_far: Vec<&str> = so_far.iter().map(String::as_str).collect();
+                let line = if at == 0 { "recover".to_string() } else { line(&mut rng, &so_far) };
+                let (word, named) = known.event(&line).unwrap_or_else(|bad| panic!("{line}: {bad}"));
+                words.extend(word);
+                names.insert(at, named);
+            }
+            let (mut store, mut kept) = (Store::fresh(), Kept::default());
+            let answers = play(&mut store, &mut kept, &mut words, &names).unwrap();
+            let bytes: Vec<u8> = answers.iter().flat_map(|answer| answer.bytes()).collect();
+            let history = tell(&words, &bytes).unwrap();
+            for (at, named) in names.iter().filter(|(_, named)| named.whom.is_some()) {
+                let giver = names.range(..at).rev().find(|(_, other)| other.as_what == named.whom).map(|(at, _)| *at);
+                let place = history.transactions.iter().position(|told| told.begun.is_some() && told.begun == giver);
+                let meant = place.filter(|place| match history.transactions[*place].end {
+                    End::Never => true,
+                    End::Committed { at: end, .. } | End::Prepared { at: end, .. } => end >= *at,
+                    End::Aborted(end) | End::Crashed(end) => end >= *at,
+                });
+                let begins = words[4 * at] >> 4 == 1 && answers[*at].is_accepted();
+                let found = match begins {
+                    true => history.owner[*at].and_then(|owner| history.transactions[owner].parent),
+                    false => history.owner[*at],
+                };
+                assert_eq!(found, meant, "event {at}");
+                *(if meant.is_some() { &mut owned } else { &mut nobody }) += 1;
+            }
+        }
+        assert!(owned > 10_000 && nobody > 1_000, "{owned} events of somebody, {nobody} of nobody");
+    }
+}

@@ -150,3 +150,38 @@ impl Builder<'_> {
         }
     }
 }
+
+#[cfg(test)]
+mod tests {
+    use super::*;
+    use nekahuiro::Store;
+    use nekahuiro_lists::timing;
+
+    /// Whether two bars share a moment.
+    fn meet(one: &Bar, other: &Bar) -> bool {
+        one.first <= other.last && other.first <= one.last
+    }
+
+    #[test]
+    fn children_lie_in_their_parents_and_no_other_bars_overlap() {
+        for (name, words) in timing::all() {
+            let answers = Store::fresh().play_words(&words).unwrap();
+            let bytes: Vec<u8> = answers.iter().flat_map(|answer| answer.bytes()).collect();
+            let history = nekahuiro_history::tell(&words, &bytes).unwrap();
+            let bars = Layout::of(&history, answers.len()).bars;
+            assert_eq!(bars.len(), history.transactions.len(), "{name}");
+            let is_above = |one: &Bar, other: &Bar| history.line(other.transaction).any(|up| up == one.transaction);
+            for (at, one) in bars.iter().enumerate() {
+                for other in bars[at + 1..].iter().filter(|other| meet(one, other)) {
+                    let (end, other_end) = (one.top + one.height, other.top + other.height);
+                    match is_above(one, other) {
+                        true => {
+                            assert!(one.top + ROW <= other.top && other_end <= end, "{name}: a child out of its parent")
+                        }
+                        false => assert!(end <= other.top || other_end <= one.top, "{name}: two bars overlap"),
+                    }
+                }
+            }
+        }
+    }
+}

@@ -28,7 +28,7 @@ pub const COMMAND: Command = Command {
         ("--answers", "FILE", "write the answers there, two bytes each"),
         ("--trace", "", "tell each event in words: who holds, who retains, what crashed"),
         ("--picture", "FILE.svg", "draw the run as a timeline"),
-        ("--page", "FILE.html", "make a page to look at in a browser: timeline, store and locks after each event"),
+        ("--page", "FILE.html", "make a page for a browser, with the store after each event; answers aren't told then"),
         ("--portions", "N", "play N events at a time; the list may then have any length"),
         ("--state", "FILE", "go on from the state in FILE, and leave the new state there; without it, start down"),
         ("--strict", "", "end with status 5 if an event is refused; the list is played all the same"),

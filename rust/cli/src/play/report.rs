@@ -17,7 +17,7 @@ pub fn text(options: &Options, played: &Played) -> String {
     let mut text = String::new();
     if options.trace {
         text.push_str(&trace::tell(start, words, &played.names, answers, history));
-    } else if options.answers.is_none() {
+    } else if options.answers.is_none() && options.page.is_none() {
         for (word, answer) in words.chunks_exact(EVENT_BYTES).zip(answers) {
             let bits = u32::from_be_bytes([word[0], word[1], word[2], word[3]]);
             let _ = writeln!(text, "{bits:08X} {:02X}{:02X}", answer.number, answer.value);
@@ -45,6 +45,9 @@ pub fn text(options: &Options, played: &Played) -> String {
         None => {}
     }
     let _ = writeln!(text, "{}", show::commit_page(store));
+    if let Some(page) = options.page {
+        let _ = writeln!(text, "{}: the run to look at, in a browser", visible(page));
+    }
     if options.dry {
         let _ = writeln!(text, "a dry run: the store is left as it was, and so is the state file");
     }
