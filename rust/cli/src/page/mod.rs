@@ -1,5 +1,5 @@
 //! `--page FILE.html`: a run to look at in a browser, in one file that needs no other. The file has what each event
-//! changes; page.js draws from that what is in view.
+//! changes; its script draws from that what is in view.
 
 mod json;
 mod lost;
@@ -22,7 +22,9 @@ const LONGEST: usize = 16 * EVENTS;
 
 const HTML: &str = include_str!("page.html");
 const STYLE: &str = include_str!("page.css");
-const SCRIPT: &str = include_str!("page.js");
+/// Its parts, in their order: each uses what those before it define.
+const SCRIPT: [&str; 4] =
+    [include_str!("moments.js"), include_str!("tables.js"), include_str!("timeline.js"), include_str!("controls.js")];
 
 /// A run that was played.
 pub struct Run<'r> {
@@ -93,7 +95,7 @@ pub fn draw(run: &Run) -> Outcome<String> {
     Ok(HTML
         .replace("{{title}}", &escaped(&run.title))
         .replace("{{style}}", &format!("{}{STYLE}", svg::STYLE))
-        .replace("{{script}}", SCRIPT)
+        .replace("{{script}}", &SCRIPT.concat())
         .replace("{{data}}", &data))
 }
 
