@@ -62,6 +62,29 @@ pub fn draw(run: &Run) -> Outcome<String> {
     let told = Told::of(run.start, run.words, run.answers, run.history);
     let mut texts = Texts::default();
     let (start, steps) = steps::of(run.before, run.words, (run.after, run.answers), &mut texts)?;
+    let events = events(run, &told, steps, &mut texts);
+    let title = format!("{}, {}", number_of(run.answers.len(), "event"), trace::fates(run.history));
+    let data = object(&[
+        ("title", text(&title)),
+        ("start", start),
+        ("events", events),
+        ("transactions", timeline::transactions(&told, run.names)),
+        ("timeline", timeline::rows(&told)),
+        ("lost", lost_writes(&told)),
+        ("refusals", list(told.refusals().into_iter().map(|(number, why)| list([number.to_string(), text(&why)])))),
+        ("carried", run.start.live.len().to_string()),
+        ("texts", texts.json()),
+    ]);
+    Ok(HTML
+        .replace("{{title}}", &escaped(&run.title))
+        .replace("{{style}}", &format!("{}{STYLE}", svg::STYLE))
+        .replace("{{script}}", &SCRIPT.concat())
+        .replace("{{data}}", &data))
+}
+
+/// Each event: its word, as it is written, in a sentence, its answer, what happened, whose it is, its mark, what it
+/// changes.
+fn events(run: &Run, told: &Told, steps: Vec<String>, texts: &mut Texts) -> String {
     let endings = trace::endings(run.history);
     let mut events = Vec::with_capacity(steps.len());
     for (at, changes) in steps.into_iter().enumerate() {
@@ -76,27 +99,11 @@ pub fn draw(run: &Run) -> Outcome<String> {
             hex(&answer.bytes()),
             texts.place(what).to_string(),
             owner.to_string(),
-            timeline::mark(&told, at, &mut texts),
+            timeline::mark(told, at, texts),
             changes,
         ]));
     }
-    let title = format!("{}, {}", number_of(run.answers.len(), "event"), trace::fates(run.history));
-    let data = object(&[
-        ("title", text(&title)),
-        ("start", start),
-        ("events", format!("[{}]", events.join(",\n"))),
-        ("transactions", timeline::transactions(&told, run.names)),
-        ("timeline", timeline::rows(&told)),
-        ("lost", lost_writes(&told)),
-        ("refusals", list(told.refusals().into_iter().map(|(number, why)| list([number.to_string(), text(&why)])))),
-        ("carried", run.start.live.len().to_string()),
-        ("texts", texts.json()),
-    ]);
-    Ok(HTML
-        .replace("{{title}}", &escaped(&run.title))
-        .replace("{{style}}", &format!("{}{STYLE}", svg::STYLE))
-        .replace("{{script}}", &SCRIPT.concat())
-        .replace("{{data}}", &data))
+    format!("[{}]", events.join(",\n"))
 }
 
 /// The lost writes: event, transaction, record, offset, value, how, and whether it is open.

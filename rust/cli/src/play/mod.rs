@@ -2,6 +2,7 @@
 
 mod expected;
 mod options;
+mod outputs;
 mod report;
 
 use crate::alone::Alone;
@@ -11,14 +12,14 @@ use crate::files::name_of;
 use crate::follow::Follower;
 use crate::list::List;
 use crate::names::Names;
-use crate::output::Output;
 use crate::pair::Pair;
 use crate::state_file::{self, Kept};
-use crate::{list, names, number_of, page, picture, say, trace};
+use crate::{list, names, number_of, page, say, trace};
 use nekahuiro::limits::{EVENTS, EVENT_BYTES};
 use nekahuiro::{Answer, Event, Refusal, Store};
 use nekahuiro_history::{tell_from, Earlier, History};
 use options::Options;
+use outputs::Outputs;
 
 /// The command.
 pub const COMMAND: Command = Command {
@@ -85,14 +86,6 @@ impl Played {
             (at, format!("{}: {}", self.names.describe(at, word), trace::what_happened(Event::of(word), word, *answer)))
         })
     }
-
-    /// What a page shows of it.
-    fn shown<'p>(&'p self, options: &Options, before: (&'p Store, &'p Kept)) -> page::Run<'p> {
-        let Played { store, start, words, names, answers, history, .. } = self;
-        let file = |path: &str| path.rsplit('/').next().unwrap_or(path).to_string();
-        let title = format!("{} on {}", file(name_of(options.events)), file(options.store));
-        page::Run { title, before, start, words, names, answers, history, after: store }
-    }
 }
 
 /// Plays, replaces store and state, hands out what was asked for, and then tells it.
@@ -108,34 +101,21 @@ fn run(words: &[String]) -> Outcome {
         page::check_length(name_of(options.events), &list.words)?;
     }
     let expected = options.expect.map(expected::read).transpose()?;
-    let mut answers_to = options.answers.map(Output::open).transpose()?;
-    let mut picture_to = options.picture.map(Output::open).transpose()?;
-    let mut page_to = options.page.map(Output::open).transpose()?;
-    let files = answers_to.iter().chain(&picture_to).chain(&page_to).filter_map(Output::file);
-    let files: Vec<&str> = std::iter::once(options.store).chain(options.state).chain(files).collect();
+    let mut outputs = Outputs::open(&options)?;
+    let files: Vec<&str> = std::iter::once(options.store).chain(options.state).chain(outputs.files()).collect();
     let alone = Alone::with(&files, options.wait)?;
     let (pair, kept) = Pair::read(options.store, options.state, options.dry)?;
     let before = kept.clone();
     let played = play(&options, pair.store.clone(), kept, list)?;
     // All new content is on the disk before any file is replaced.
-    if let Some(output) = &mut answers_to {
-        output.stage(played.answers.iter().flat_map(|answer| answer.bytes()).collect())?;
-    }
-    if let Some(output) = &mut picture_to {
-        let Played { start, words, answers, history, .. } = &played;
-        output.stage(picture::draw(start, words, answers, history).into_bytes())?;
-    }
-    if let Some(output) = &mut page_to {
-        output.stage(page::draw(&played.shown(&options, (&pair.store, &before)))?.into_bytes())?;
-    }
+    outputs.stage(&options, &played, (&pair.store, &before))?;
     if !options.dry {
         pair.replace(&played.store, &played.left)?;
     }
-    let mut outputs: Vec<Output> = answers_to.into_iter().chain(picture_to).chain(page_to).collect();
-    let told = outputs.iter_mut().try_for_each(Output::put);
+    let told = outputs.put();
     // Nobody has to wait for the readers of the outputs.
     drop(alone);
-    let told = told.and_then(|()| outputs.iter_mut().try_for_each(Output::send));
+    let told = told.and_then(|()| outputs.send());
     told.and_then(|()| say(&report::text(&options, &played))).map_err(|failure| match options.dry {
         true => failure,
         false => failure.after(&format!("the list was played on {}, so don't play it again", options.store)),

@@ -13,33 +13,24 @@ const SHOWN: usize = 8;
 
 /// The answers or the trace, and what came of it.
 pub fn text(options: &Options, played: &Played) -> String {
-    let Played { store, start, left, words, answers, history, .. } = played;
+    let Played { store, start, words, names, answers, history, .. } = played;
     let mut text = String::new();
     if options.trace {
-        text.push_str(&trace::tell(start, words, &played.names, answers, history));
+        text.push_str(&trace::tell(start, words, names, answers, history));
     } else if options.answers.is_none() && options.page.is_none() {
         for (word, answer) in words.chunks_exact(EVENT_BYTES).zip(answers) {
             let bits = u32::from_be_bytes([word[0], word[1], word[2], word[3]]);
             let _ = writeln!(text, "{bits:08X} {:02X}{:02X}", answer.number, answer.value);
         }
     }
-    let count = |wanted: fn(&Answer) -> bool| answers.iter().filter(|answer| wanted(answer)).count();
-    let (accepted, cut) = (count(|answer| answer.is_accepted()), count(|answer| answer.is_cut()));
-    let _ = writeln!(
-        text,
-        "{}: {} done, {} refused, {cut} cut by a crash; {}",
-        number_of(answers.len(), "event"),
-        accepted - cut,
-        answers.len() - accepted,
-        trace::fates(history),
-    );
-    if accepted < answers.len() && !options.trace {
+    text.push_str(&counts(played));
+    if !options.trace {
         text.push_str(&refusals(answers));
     }
     let open = (0..history.transactions.len()).any(|place| history.is_undecided(place));
     match options.state {
         Some(path) => {
-            let _ = writeln!(text, "{}: {}", visible(path), left.in_words());
+            let _ = writeln!(text, "{}: {}", visible(path), played.left.in_words());
         }
         None if open => text.push_str("what is live at the end isn't kept without --state\n"),
         None => {}
@@ -52,6 +43,15 @@ pub fn text(options: &Options, played: &Played) -> String {
         let _ = writeln!(text, "a dry run: the store is left as it was, and so is the state file");
     }
     text
+}
+
+/// How many events were done, refused and cut, and what became of the transactions.
+fn counts(Played { answers, history, .. }: &Played) -> String {
+    let count = |wanted: fn(&Answer) -> bool| answers.iter().filter(|answer| wanted(answer)).count();
+    let (accepted, cut) = (count(|answer| answer.is_accepted()), count(|answer| answer.is_cut()));
+    let (events, refused) = (number_of(answers.len(), "event"), answers.len() - accepted);
+    let done = accepted - cut;
+    format!("{events}: {done} done, {refused} refused, {cut} cut by a crash; {}\n", trace::fates(history))
 }
 
 /// Each refusal in words, once, and where it was given.
