@@ -76,8 +76,19 @@ if [ -n "$browser" ]; then
     holds "what is prepared outlasts a crash" grep -q "^page0 6 page 0 (13 10 00 08 07 ..): prepared with identity 7, record 3" driven
     holds "a decision to abort loses it" grep -qF "3,1 (new),3,2,A5,identity 7 was decided at event 9: abort" driven
     holds "what isn't decided" grep -qF "12,0 (last),4,0,11,not decided: transaction 0 is live at the end" driven
-    cp portion.fresh paged; cp portion.state paged.state; "$run" play paged second.txt --state paged.state >/dev/null
-    holds "a portion: the bytes shown at its end are the library's" grep -qx "store 12 $(hex_of paged)" driven
+    # After each event of the portion: the store, and the versions that `show --state` finds in the library's state.
+    versions() { # STORE STATE
+        "$binary" show "$1" --state "$2" | awk '/^transaction/ { t = $2 + 0 } /^  its record/ { h = ""; for (i = 4; i <= 11; i++) h = h $i
+            all = all (all ? " ; " : "") t ",record " $3 "," h } END { print all }'
+    }
+    mkdir part; wrong=0
+    for at in {1..12}; do
+        cp portion.fresh part/paged; cp portion.state part/paged.state
+        head -$at second.txt | "$binary" play part/paged - --state part/paged.state >/dev/null
+        grep -qx "store $at $(hex_of part/paged)" driven || wrong=$((wrong + 1))
+        [ "$(sed -n "s/^versions $at //p" driven | sed 's/ ([a-z]*)//g')" = "$(versions part/paged part/paged.state)" ] || wrong=$((wrong + 1))
+    done
+    report "a portion: store and versions shown are the library's, after each event" $wrong
 else
     echo "command line: there is no Chromium here; pages were made and not looked at"
 fi
