@@ -7,7 +7,7 @@ same "a page of a dry run leaves the store" paged paged.fresh
 holds "the page is one file: nothing is fetched" bash -c "! grep -qiE 'https?:|src=|href=|import |fetch\(|XMLHttp' run.html"
 holds "and nothing may be" grep -q "content=\"default-src 'none'; style-src 'unsafe-inline'; script-src 'unsafe-inline'\"" run.html
 fails "a page that is no HTML" 2 "page makes HTML, and run.svg is the name of something else" "$run" play paged thirty-five.txt --page run.svg
-fails "a page over the list" 2 "is named twice" "$run" play paged thirty-five.txt --page ./thirty-five.txt
+fails "a page over the list" 2 "is named twice" bash -c "cp thirty-five.txt listed.html; '$run' play paged listed.html --page ./listed.html"
 fails "a page of too many events" 4 "65537 events, but a page shows at most 65536" bash -c "yes crash | head -65537 | '$run' play paged - --portions 4096 --page long.html"
 same "too many events: the store stays" paged paged.fresh
 fails "a page that can't be written" 1 "can't write missing/run.html" "$run" play paged change.txt --page missing/run.html

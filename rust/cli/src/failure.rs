@@ -1,6 +1,5 @@
 //! What went wrong and how to mend it.
 
-use crate::as_called;
 use std::fmt;
 
 /// How a command ends, if not with 0.
@@ -87,9 +86,7 @@ impl fmt::Display for Failure {
     fn fmt(&self, f: &mut fmt::Formatter) -> fmt::Result {
         match self.quiet {
             true => Ok(()),
-            false => {
-                writeln!(f, "nekahuiro: {}\n  {}", visible(&as_called(&self.reason)), visible(&as_called(&self.mend)))
-            }
+            false => writeln!(f, "nekahuiro: {}\n  {}", visible(&self.reason), visible(&self.mend)),
         }
     }
 }

@@ -41,8 +41,7 @@ fn main() -> ExitCode {
     match words.and_then(|words| commands::run(&words)) {
         Ok(()) => ExitCode::SUCCESS,
         Err(failure) => {
-            // Nothing can be done if standard error is closed too.
-            let _ = write!(std::io::stderr(), "{failure}");
+            complain(&failure);
             ExitCode::from(failure.status as u8)
         }
     }
@@ -53,6 +52,11 @@ fn plain(word: OsString) -> Outcome<String> {
         let reason = format!("`{}` isn't UTF-8 text", word.display());
         Failure::usage(&reason, "rename the file, or reach it through a link with another name")
     })
+}
+
+/// Writes a failure to standard error. Nothing can be done if that is closed too.
+fn complain(failure: &Failure) {
+    let _ = write!(std::io::stderr(), "{}", as_called(&failure.to_string()));
 }
 
 /// Text with the command line's name as it was called: the script is ./nekahuiro, what is installed is nekahuiro.

@@ -8,10 +8,10 @@ use crate::follow::Follower;
 use crate::names::{Bound, Known, Named};
 use crate::pair::Pair;
 use crate::state_file::{self, Kept};
-use crate::{as_called, list, say, show, trace};
+use crate::{as_called, complain, list, say, show, trace};
 use nekahuiro::limits::EVENT_BYTES;
 use nekahuiro::{Answer, Event, Refusal, Store};
-use std::io::{self, BufRead, IsTerminal, Read, Write};
+use std::io::{self, BufRead, IsTerminal, Read};
 use std::time::Duration;
 
 /// The command.
@@ -61,9 +61,7 @@ fn run(words: &[String]) -> Outcome {
         match shell.line(&line) {
             Ok(Told::End) => break,
             Ok(Told::Text(text)) => say(&text).map_err(|failure| failure.after(DONE))?,
-            Err(failure) if asks && failure.status != Status::Untold => {
-                let _ = write!(io::stderr(), "{failure}");
-            }
+            Err(failure) if asks && failure.status != Status::Untold => complain(&failure),
             Err(failure) => return Err(failure),
         }
     }

@@ -9,13 +9,14 @@ mod timeline;
 use crate::failure::{Failure, Outcome};
 use crate::follow::Follower;
 use crate::names::Names;
-use crate::picture::{svg, Told};
+use crate::picture::{self, Told};
 use crate::state_file::Kept;
 use crate::{number_of, sentence, trace};
 use json::{hex, list, object, text, Texts};
 use nekahuiro::limits::{EVENTS, EVENT_BYTES};
 use nekahuiro::{Answer, Store};
 use nekahuiro_history::History;
+use std::path::Path;
 
 /// The events of the longest list that a page is made of.
 const LONGEST: usize = 16 * EVENTS;
@@ -44,6 +45,17 @@ pub struct Run<'r> {
     pub history: &'r History,
     /// The store after it.
     pub after: &'r Store,
+}
+
+/// A page is HTML, so its name may not promise something else.
+pub fn check_name(name: &str) -> Outcome {
+    match Path::new(name).extension() {
+        Some(other) if !["html", "htm"].iter().any(|ending| other.eq_ignore_ascii_case(ending)) => {
+            let reason = format!("--page makes HTML, and {name} is the name of something else");
+            Err(Failure::usage(&reason, "give it a name that ends in .html"))
+        }
+        _ => Ok(()),
+    }
 }
 
 /// Whether a list isn't too long for a page.
@@ -77,7 +89,7 @@ pub fn draw(run: &Run) -> Outcome<String> {
     ]);
     Ok(HTML
         .replace("{{title}}", &escaped(&run.title))
-        .replace("{{style}}", &format!("{}{STYLE}", svg::STYLE))
+        .replace("{{style}}", &format!("{}{STYLE}", picture::STYLE))
         .replace("{{script}}", &SCRIPT.concat())
         .replace("{{data}}", &data))
 }

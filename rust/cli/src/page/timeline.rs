@@ -3,10 +3,7 @@
 use super::json::{list, object, text, Texts};
 use crate::follow::bearers_in_words;
 use crate::names::Names;
-use crate::picture::bars::{self, Mark};
-use crate::picture::layout::{Layout, GAP, ROW};
-use crate::picture::locks::{Rows, Stretch};
-use crate::picture::Told;
+use crate::picture::{bar_class, bar_tip, Layout, Mark, Rows, Stretch, Told, GAP, ROW};
 use nekahuiro::Event;
 
 /// How an event is drawn: letters and classes, or 0 if it isn't; and what it is on the axis: a crash, a recover, a
@@ -44,8 +41,8 @@ pub fn transactions(told: &Told, names: &Names) -> String {
             bar.last.to_string(),
             bar.top.to_string(),
             bar.height.to_string(),
-            text(&bars::class(told, place)),
-            text(&bars::tip(told, place)),
+            text(&bar_class(told, place)),
+            text(&bar_tip(told, place)),
             decision,
         ]))
     }))

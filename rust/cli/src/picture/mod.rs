@@ -1,18 +1,23 @@
 //! `--picture FILE.svg`: a run as a timeline. Time goes to the right, one column an event.
 
-pub mod bars;
-pub mod layout;
-pub mod locks;
-pub mod svg;
+mod bars;
+mod layout;
+mod locks;
+mod svg;
 
 use crate::follow::Follower;
 use crate::{number_of, trace};
-use layout::{Layout, Scale};
+use layout::Scale;
 use nekahuiro::limits::EVENT_BYTES;
 use nekahuiro::{describe, Answer, Event};
 use nekahuiro_history::History;
 use std::collections::BTreeMap;
 use svg::Svg;
+
+pub use bars::{class as bar_class, tip as bar_tip, Mark};
+pub use layout::{Layout, GAP, ROW};
+pub use locks::{Rows, Stretch};
+pub use svg::STYLE;
 
 /// What each part of the picture is drawn from.
 pub struct Told<'t> {

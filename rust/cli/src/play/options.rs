@@ -4,6 +4,7 @@ use super::COMMAND;
 use crate::command::number;
 use crate::failure::{Failure, Outcome};
 use crate::files::{need_plain, place_of};
+use crate::page;
 use nekahuiro::limits::EVENTS;
 use std::borrow::Cow;
 use std::fs;
@@ -63,6 +64,7 @@ impl<'w> Options<'w> {
 
     /// No file may be written that is read or written as something else.
     pub fn check_files(&self) -> Outcome {
+        self.page.map_or(Ok(()), page::check_name)?;
         need_plain(self.store, "store")?;
         self.state.map_or(Ok(()), |path| need_plain(path, "state file"))?;
         let events = if self.events == "-" { "/dev/stdin" } else { self.events };
@@ -86,8 +88,7 @@ impl<'w> Options<'w> {
             let reason = format!("{} is named twice, for {one} and for {other}", shown(name, place));
             return Err(Failure::usage(&reason, "one use would spoil the other: give them different names"));
         }
-        self.picture.map_or(Ok(()), |name| check_ending("--picture draws SVG", name, &["svg"]))?;
-        self.page.map_or(Ok(()), |name| check_ending("--page makes HTML", name, &["html", "htm"]))
+        self.picture.map_or(Ok(()), check_picture)
     }
 }
 
@@ -100,12 +101,12 @@ fn shown<'n>(name: &'n str, place: &'n Path) -> Cow<'n, str> {
     }
 }
 
-/// A picture is SVG and a page is HTML, so its name may not promise something else.
-fn check_ending(makes: &str, name: &str, endings: &[&str]) -> Outcome {
+/// A picture is SVG, so its name may not promise something else.
+fn check_picture(name: &str) -> Outcome {
     match Path::new(name).extension() {
-        Some(other) if !endings.iter().any(|ending| other.eq_ignore_ascii_case(ending)) => {
-            let reason = format!("{makes}, and {name} is the name of something else");
-            Err(Failure::usage(&reason, &format!("give it a name that ends in .{}", endings[0])))
+        Some(other) if !other.eq_ignore_ascii_case("svg") => {
+            let reason = format!("--picture draws SVG, and {name} is the name of something else");
+            Err(Failure::usage(&reason, "give it a name that ends in .svg"))
         }
         _ => Ok(()),
     }
