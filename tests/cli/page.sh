@@ -20,7 +20,8 @@ browser=
 for name in chromium chromium-browser google-chrome; do [ -n "$browser" ] || browser=$(command -v $name || true); done
 # PAGE EVENTS: what the browser shows when it goes to these events, in the file `driven`
 drive() {
-    { cat "$1"; echo "<script>const wanted = [$2];"; cat "$root/tests/page/driver.js"; echo '</script>'; } >driven.html
+    local watch='<script>const troubles = []; for (const kind of ["error", "unhandledrejection", "securitypolicyviolation"]) addEventListener(kind, event => troubles.push(event.message || kind));</script>'
+    { awk -v watch="$watch" '{ print } /^<body>$/ { print watch }' "$1"; echo "<script>const wanted = [$2];"; cat "$root/tests/page/driver.js"; echo '</script>'; } >driven.html
     timeout 60 "$browser" --headless --no-sandbox --disable-gpu --disable-dev-shm-usage --window-size=1400,1200 --user-data-dir="$folder/browser" \
         --dump-dom "file://$folder/driven.html" 2>/dev/null | sed -n '/^DRIVEN/,/^END/p' | sed 's/&amp;/\&/g; s/&lt;/</g; s/&gt;/>/g' >driven
     cp driven out; : >err
@@ -57,8 +58,8 @@ if [ -n "$browser" ]; then
     wrong=0
     for at in 1 25 2047 3300 4096; do grep -qx "store $at $(library longest.txt $at)" driven || wrong=$((wrong + 1)); done
     report "4,096 events: the bytes shown are the library's" $wrong
-    holds "4,096 events: only what is in view is drawn" awk '$1 == "drawn" { exit !($2 < 1500 && $4 < 4000) }' driven
-    holds "4,096 events: it stays quick" awk '$1 == "milliseconds" { exit !($2 < 400) }' driven
+    holds "4,096 events: only what is in view is drawn" awk '$1 == "drawn" && $2 < 1500 && $4 < 4000 { found = 1 } END { exit !found }' driven
+    holds "4,096 events: it stays quick" awk '$1 == "milliseconds" && $2 < 400 { found = 1 } END { exit !found }' driven
     holds "4,096 events: a lost write of the end" grep -q "^lost lost writes: 351 |" driven
 
     # A portion, names, and what is prepared.

@@ -1,8 +1,7 @@
 'use strict';
 // Drives a page as its reader does, and writes what is shown then to the end of the page, a line each. It is appended to
-// a copy of the page; `wanted` has the events to go to.
+// a copy of the page; `wanted` has the events to go to, and `troubles` what went wrong since the page's first line.
 const lines = [], say = (...words) => lines.push(words.join(' '));
-window.addEventListener('error', event => say('error', event.message));
 const get = id => document.getElementById(id);
 const shownBytes = row => [...row.querySelectorAll('.bytes span, .bytes i')].map(cell => cell.textContent).join('');
 const store = () => [...document.querySelectorAll('#store tr[data-page]')].map(shownBytes).join('');
@@ -40,6 +39,7 @@ try {
   if (row) { row.cells[0].click(); say('lost row', row.dataset.at, get('place').textContent); }
   say('refusals', get('refusals').textContent);
 } catch (error) { say('error', error.message); }
+troubles.forEach(trouble => say('error', trouble));
 const told = document.createElement('pre');
 told.textContent = ['', 'DRIVEN', ...lines, 'END'].join('\n');
 document.body.append(told);
