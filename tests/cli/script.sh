@@ -1,9 +1,12 @@
 # The script ./nekahuiro: it builds only what has to be built, and says so. Prover and cargo are played by two scripts.
 mkdir -p tools tree/crates/laws tree/rust/{cli,history,lists,nekahuiro,player}; cp "$run" tree/
-for tool in bash dirname readlink find awk tee grep head tail mkdir touch cat chmod sleep; do ln -s "$(command -v $tool)" tools/; done
+for tool in bash dirname readlink find awk tee grep head tail mkdir touch cat chmod sleep uname; do ln -s "$(command -v $tool)" tools/; done
 text 'laws:\nrules: laws\nnekahuiro: laws rules\nworked: nekahuiro io\n' tree/crates.txt
 touch tree/rust/Cargo.{toml,lock}
 built() { env -u CARGO_TARGET_DIR PATH="$folder/tools" tree/nekahuiro "$@"; }
+mv tools/uname uname; printf '#!/bin/bash\necho Linux aarch64\n' >tools/uname; chmod +x tools/uname
+fails "another machine" 1 "the library is for Linux on x86-64, and this is Linux aarch64" built
+mv uname tools/uname
 fails "nothing is built, and no prover" 1 "there is no rt to build it" built
 cat >rt <<'RT'
 #!/bin/bash

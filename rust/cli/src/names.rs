@@ -68,7 +68,7 @@ impl Known {
     pub fn event(&mut self, line: &str) -> Result<([u8; EVENT_BYTES], Named), BadWords> {
         let mut words: Vec<&str> = line.split_whitespace().collect();
         let mut named = Named::default();
-        let kind = words[0].to_ascii_lowercase();
+        let kind = words.first().map(|kind| kind.to_ascii_lowercase()).unwrap_or_default();
         if let ("begin", [.., word, name]) = (&kind[..], &words[..]) {
             if word.eq_ignore_ascii_case("as") {
                 named.as_what = Some(checked(name)?);
