@@ -15,7 +15,7 @@ echo "$*" >>../asked
 case $1 in
 check) for name in laws rules; do sleep 0.02; touch target/log/$name.out; sleep ${pause:-0}
     echo "fn $name::f: proved"; echo "rt: $name ${verdict:-proved} (1 s)"; done; [ -z "${verdict:-}" ] ;;
-staticlib) echo "rt: laws proved (unchanged)"; echo "fn nekahuiro::g: proved"
+staticlib) echo "rt: laws proved (unchanged)"; echo "fn nekahuiro::g: proved"; sleep ${pause:-0}
     mkdir -p target/staticlib; touch target/staticlib/libnekahuiro.a; echo "rt: target/staticlib/libnekahuiro.a has the functions" ;;
 esac
 RT
@@ -48,5 +48,6 @@ if command -v script >/dev/null; then
     text '#!/bin/bash\nexport PATH=%s/tools pause=1.2\nunset CARGO_TARGET_DIR\n%s/tree/nekahuiro\n' ask.terminal
     printf "$(cat ask.terminal)\n" "$folder" "$folder" >terminal; touch tree/crates/laws/newer
     ok "what is being proved, on a terminal" "proving 2 of 3: rules \(0 min 0[1-9] s so far\)" bash -c "script -qec 'bash terminal' /dev/null </dev/null | tr '\r' '\n'"
+    holds "the library itself at last" grep -q "proving 3 of 3: nekahuiro (0 min 0[2-9] s so far)" out
     holds "and at the end all" grep -q "3 of 3 proved (0 min 0[2-9] s)" out
 fi
