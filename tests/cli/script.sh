@@ -28,7 +28,7 @@ chmod +x rt cargo; mv rt tools/
 fails "proved, and no cargo" 1 "there is no cargo to build it" built
 holds "it says that it proves" grep -q "it is proved and built, which takes some minutes" err
 holds "it counts what is proved, each once" test "$(grep -o '[0-9]* of 3 proved: [a-z]*' err | tr '\n' ',')" = "1 of 3 proved: laws,2 of 3 proved: rules,3 of 3 proved: nekahuiro,"
-holds "with the time so far" grep -q "1 of 3 proved: laws (0 min 0[0-9] s so far)" err
+holds "with the time so far" grep -q "1 of 3 proved: laws (0 min [0-9][0-9] s so far)" err
 holds "the library itself is proved once, as it is built" test "$(tr '\n' ',' <asked)" = "check laws rules,staticlib nekahuiro,"
 holds "the prover's text is in a log" grep -q "fn rules::f: proved" tree/target/nekahuiro.log
 holds "and not on the terminal" bash -c "! grep -q 'fn rules' err"
@@ -47,7 +47,7 @@ holds "a crate that isn't proved: where it is told" grep -q "target/nekahuiro.lo
 if command -v script >/dev/null; then
     text '#!/bin/bash\nexport PATH=%s/tools pause=1.2\nunset CARGO_TARGET_DIR\n%s/tree/nekahuiro\n' ask.terminal
     printf "$(cat ask.terminal)\n" "$folder" "$folder" >terminal; touch tree/crates/laws/newer
-    ok "what is being proved, on a terminal" "proving 2 of 3: rules \(0 min 0[1-9] s so far\)" bash -c "script -qec 'bash terminal' /dev/null </dev/null | tr '\r' '\n'"
-    holds "the library itself at last" grep -q "proving 3 of 3: nekahuiro (0 min 0[2-9] s so far)" out
-    holds "and at the end all" grep -q "3 of 3 proved (0 min 0[2-9] s)" out
+    ok "what is being proved, on a terminal" "proving 2 of 3: rules \(0 min [0-9][0-9] s so far\)" bash -c "script -qec 'bash terminal' /dev/null </dev/null | tr '\r' '\n'"
+    holds "the library itself at last" grep -q "proving 3 of 3: nekahuiro (0 min [0-9][0-9] s so far)" out
+    holds "and at the end all" grep -q "3 of 3 proved (0 min [0-9][0-9] s)" out
 fi
