@@ -12,11 +12,15 @@ _Static_assert(sizeof(nekahuiro_state) == NEKAHUIRO_STATE_BYTES, "the state has 
 
 static int failures = 0;
 
-static void check(const char *what, long found, long due)
+/* Tells a sentence if it is true, and otherwise what was found. */
+static void check(const char *sentence, long found, long due)
 {
-    printf("%-58s %ld%s\n", what, found, found == due ? "" : "   WRONG");
-    if (found != due)
-        failures++;
+    if (found == due) {
+        puts(sentence);
+        return;
+    }
+    printf("NOT SO: %s (%ld, and %ld is due)\n", sentence, found, due);
+    failures++;
 }
 
 /* All that is kept from one event to the next. */
@@ -42,20 +46,20 @@ static void one_by_one(void)
 {
     uint8_t value = 0;
 
-    check("recover", play(0x80003F00, &value), NEKAHUIRO_DONE);
+    check("the store recovers", play(0x80003F00, &value), NEKAHUIRO_DONE);
     check("  the state says up", state.up, 1);
-    check("begin a top transaction", play(0x1F800000, &value), NEKAHUIRO_DONE);
-    check("  its number", value, 0);
-    check("lock record 3", play(0x20180000, &value), NEKAHUIRO_DONE);
+    check("a top transaction begins", play(0x1F800000, &value), NEKAHUIRO_DONE);
+    check("  its number is 0", value, 0);
+    check("it locks record 3", play(0x20180000, &value), NEKAHUIRO_DONE);
     check("  the state says that 0 holds it", (long)state.held[2 * 3], 1);
-    check("  and in write mode", (long)state.held[2 * 3 + 1], 1);
-    check("write A5", play(0x301880A5, &value), NEKAHUIRO_DONE);
+    check("  and that it holds it in write mode", (long)state.held[2 * 3 + 1], 1);
+    check("it writes A5", play(0x301880A5, &value), NEKAHUIRO_DONE);
     check("  the home page is as before", store[(17 + 3) * NEKAHUIRO_PAGE_BYTES + 2], 0);
     check("  the version is in the working buffer", work[3 * NEKAHUIRO_DEPTH_LIMIT * NEKAHUIRO_PAGE_BYTES + 2], 0xA5);
-    check("read it", play(0x40188000, &value), NEKAHUIRO_DONE);
-    check("  the byte", value, 0xA5);
-    check("commit", play(0x50003F00, &value), NEKAHUIRO_DONE);
-    check("  page writes made", value, 4);
+    check("it reads that byte", play(0x40188000, &value), NEKAHUIRO_DONE);
+    check("  the byte is A5", value, 0xA5);
+    check("it commits", play(0x50003F00, &value), NEKAHUIRO_DONE);
+    check("  4 page writes were made", value, 4);
     check("  the home page has it", store[(17 + 3) * NEKAHUIRO_PAGE_BYTES + 2], 0xA5);
     check("  number 0 is free again", state.depth[0], 0);
 }
@@ -64,14 +68,14 @@ static void readers(void)
 {
     uint8_t value = 0;
 
-    check("begin two top transactions", play(0x1F800000, &value), NEKAHUIRO_DONE);
-    check("  the second", play(0x1F800000, &value), NEKAHUIRO_DONE);
+    check("a top transaction begins", play(0x1F800000, &value), NEKAHUIRO_DONE);
+    check("and a second one", play(0x1F800000, &value), NEKAHUIRO_DONE);
     check("0 locks record 3 to read", play(0x20180001, &value), NEKAHUIRO_DONE);
     check("1 does too", play(0x20980001, &value), NEKAHUIRO_DONE);
     check("  the state says that both hold it", (long)state.held[2 * 3], 3);
     check("  and neither in write mode", (long)state.held[2 * 3 + 1], 0);
     check("1 reads", play(0x40988000, &value), NEKAHUIRO_DONE);
-    check("  the byte", value, 0xA5);
+    check("  the byte is A5", value, 0xA5);
     check("1 can't write", play(0x309880FF, &value), NEKAHUIRO_NOT_HELD);
     check("nor raise its lock while 0 reads", play(0x20980000, &value), NEKAHUIRO_NOT_GRANTABLE);
     check("0 commits", play(0x50003F00, &value), NEKAHUIRO_DONE);
@@ -90,14 +94,14 @@ static void refused(void)
     check("a state that isn't sound is refused", play(0x1F800000, &value), NEKAHUIRO_BAD_STATE * 256L);
     check("  the state is untouched", memcmp(&before, &state, sizeof state), 0);
     memset(&state, 0, sizeof state); /* start again, as after a power cut */
-    check("from the start state: begin while down", play(0x1F800000, &value), NEKAHUIRO_DOWN);
-    check("an empty portion",
+    check("from the start state a begin is refused: the store is down", play(0x1F800000, &value), NEKAHUIRO_DOWN);
+    check("an empty portion is played",
           nekahuiro_portion(&state, store, sizeof store, &none, 0, work, sizeof work, &value, 0), NEKAHUIRO_DONE);
 }
 
 int main(void)
 {
-    check("fresh store", nekahuiro_fresh(store, sizeof store), NEKAHUIRO_DONE);
+    check("a fresh store is laid down", nekahuiro_fresh(store, sizeof store), NEKAHUIRO_DONE);
     one_by_one();
     readers();
     refused();

@@ -10,11 +10,15 @@
 
 static int failures = 0;
 
-static void check(const char *what, long found, long due)
+/* Tells a sentence if it is true, and otherwise what was found. */
+static void check(const char *sentence, long found, long due)
 {
-    printf("%-58s %ld%s\n", what, found, found == due ? "" : "   WRONG");
-    if (found != due)
-        failures++;
+    if (found == due) {
+        puts(sentence);
+        return;
+    }
+    printf("NOT SO: %s (%ld, and %ld is due)\n", sentence, found, due);
+    failures++;
 }
 
 /* Packs an event word. */
@@ -51,19 +55,19 @@ static void lost_and_surviving(void)
     uint8_t answers[14];
     int64_t age = 99;
 
-    check("fresh store", nekahuiro_fresh(store, sizeof store), NEKAHUIRO_DONE);
-    check("run, power cut after 1 page write", stamp_record(1, answers), NEKAHUIRO_DONE);
-    check("  the commit is cut", answers[12], NEKAHUIRO_CUT);
-    check("  page writes made", answers[13], 1);
-    check("  record 3 at minute 5: its stamp is still 0, so it is", nekahuiro_age(store, sizeof store, 3, 5, 10, &age),
+    check("a fresh store is laid down", nekahuiro_fresh(store, sizeof store), NEKAHUIRO_DONE);
+    check("a run is played in which the power goes after 1 page write of the last commit", stamp_record(1, answers), NEKAHUIRO_DONE);
+    check("  the commit is answered as cut", answers[12], NEKAHUIRO_CUT);
+    check("  1 page write was made", answers[13], 1);
+    check("  it is lost: the stamp of record 3 is still 0, and at minute 5 the record is live", nekahuiro_age(store, sizeof store, 3, 5, 10, &age),
           NEKAHUIRO_LIVE);
-    check("  its age", (long)age, 5);
+    check("  its age is 5 minutes", (long)age, 5);
 
-    check("run, power cut after 2 page writes", stamp_record(2, answers), NEKAHUIRO_DONE);
-    check("  the commit is cut", answers[12], NEKAHUIRO_CUT);
-    check("  record 3 at minute 5: its stamp is 7, so it is", nekahuiro_age(store, sizeof store, 3, 5, 10, &age),
+    check("a run is played in which the power goes after 2 page writes of the last commit", stamp_record(2, answers), NEKAHUIRO_DONE);
+    check("  the commit is answered as cut", answers[12], NEKAHUIRO_CUT);
+    check("  it survives: the stamp of record 3 is 7, and at minute 5 the record is ahead", nekahuiro_age(store, sizeof store, 3, 5, 10, &age),
           NEKAHUIRO_AHEAD);
-    check("  its age", (long)age, -2);
+    check("  its age is -2 minutes", (long)age, -2);
 }
 
 static void recovered(void)
@@ -74,11 +78,11 @@ static void recovered(void)
     event(list[1], NEKAHUIRO_BEGIN, NEKAHUIRO_NO_PARENT, 0, 0, 0, 0);
     event(list[2], NEKAHUIRO_LOCK, 0, 3, 0, 0, NEKAHUIRO_READ_MODE);
     event(list[3], NEKAHUIRO_READ, 0, 3, 3, 0, 0);
-    check("run: recover, then read the record",
+    check("a run is played that recovers, and then reads the record",
           nekahuiro_run(store, sizeof store, list[0], sizeof list, work, sizeof work, answers, sizeof answers),
           NEKAHUIRO_DONE);
-    check("  page writes of the recover", answers[1], 2);
-    check("  the byte read", answers[7], 7);
+    check("  the recover made 2 page writes", answers[1], 2);
+    check("  the byte read is 7", answers[7], 7);
     check("  page 0 is empty again", store[0], 0x10);
 }
 

@@ -10,11 +10,15 @@
 
 static int failures = 0;
 
-static void check(const char *what, long found, long due)
+/* Tells a sentence if it is true, and otherwise what was found. */
+static void check(const char *sentence, long found, long due)
 {
-    printf("%-66s %ld%s\n", what, found, found == due ? "" : "   WRONG");
-    if (found != due)
-        failures++;
+    if (found == due) {
+        puts(sentence);
+        return;
+    }
+    printf("NOT SO: %s (%ld, and %ld is due)\n", sentence, found, due);
+    failures++;
 }
 
 /* Packs an event word. */
@@ -70,10 +74,10 @@ static void both_commit(void)
     uint8_t list[4][NEKAHUIRO_EVENT_BYTES];
 
     check("the depot starts identity 42", nekahuiro_depot(&depot, NEKAHUIRO_START, &reply), NEKAHUIRO_DONE);
-    check("  its order: prepare", reply, NEKAHUIRO_ORDER_PREPARE);
+    check("  its order is to prepare", reply, NEKAHUIRO_ORDER_PREPARE);
     prepare(42, 7, answer);
     check("  the prepare is done", answer[0], NEKAHUIRO_DONE);
-    check("  page writes: an intention page, the commit page", answer[1], 2);
+    check("  with 2 page writes: an intention page, the commit page", answer[1], 2);
     check("  the gateway votes yes", nekahuiro_vote(NEKAHUIRO_PREPARE, answer[0], answer[1]), NEKAHUIRO_YES);
 
     puts("the power goes at the gateway, and the vote is lost");
@@ -90,15 +94,15 @@ static void both_commit(void)
 
     check("the depot takes the yes", nekahuiro_depot(&depot, NEKAHUIRO_YES, &reply), NEKAHUIRO_DONE);
     check("  it has committed", depot, NEKAHUIRO_COMMITTED);
-    check("  its order: commit", reply, NEKAHUIRO_ORDER_COMMIT);
+    check("  its order is to commit", reply, NEKAHUIRO_ORDER_COMMIT);
     check("the depot can't give up any more", nekahuiro_depot(&depot, NEKAHUIRO_GIVE_UP, &reply), NEKAHUIRO_NOT_TAKEN);
 
     decide(42, NEKAHUIRO_DECIDE_COMMIT, 1, answers);
     check("  the power goes during the decision", answers[2], NEKAHUIRO_CUT);
     check("  after 1 page write, so it is stored", answers[3], 1);
     decide(42, NEKAHUIRO_DECIDE_COMMIT, NEKAHUIRO_NO_CUT, answers);
-    check("  recover copies the record home: page writes", answers[1], 2);
-    check("  the order that comes again does nothing: page writes", answers[3], 0);
+    check("  the recover copies the record home, with 2 page writes", answers[1], 2);
+    check("  the order that comes again does nothing, with no page write", answers[3], 0);
     check("  the byte is the new one", home_byte(), 7);
 }
 
@@ -114,7 +118,7 @@ static void both_abort(void)
     check("the yes comes", nekahuiro_depot(&depot, NEKAHUIRO_YES, &reply), NEKAHUIRO_DONE);
     check("  the depot keeps to its decision: abort", reply, NEKAHUIRO_ORDER_ABORT);
     decide(43, NEKAHUIRO_DECIDE_ABORT, NEKAHUIRO_NO_CUT, answers);
-    check("  page writes: the empty commit page", answers[3], 1);
+    check("  with 1 page write: the empty commit page", answers[3], 1);
     check("  the byte is the one from before", home_byte(), 7);
     check("  page 0 is empty again", store[0], 0x10);
 }
@@ -132,7 +136,7 @@ static void refused(void)
 
 int main(void)
 {
-    check("fresh store", nekahuiro_fresh(store, sizeof store), NEKAHUIRO_DONE);
+    check("a fresh store is laid down", nekahuiro_fresh(store, sizeof store), NEKAHUIRO_DONE);
     both_commit();
     both_abort();
     refused();

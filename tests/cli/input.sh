@@ -3,7 +3,7 @@ text 'recover 63\nbegin none\nlock 0 17\n' bad.txt
 fails "bad record" 4 "bad.txt, line 3: the record .17. isn't a number from 0 to 15" "$run" play store bad.txt
 holds "bad record: the mend" grep -q 'write `lock TRANSACTION RECORD`' err
 fails "unknown event" 4 "line 1: .lok. is no event" bash -c "echo lok 0 1 | '$run' play store -"
-fails "a word missing" 4 "the count is missing" bash -c "echo recover | '$run' play store -"
+fails "a word missing" 4 "the record is missing" bash -c "echo lock 0 | '$run' play store -"
 fails "a word too many" 4 "one word too many" bash -c "echo crash now | '$run' play store -"
 fails "bad value" 4 "isn't a hex number" bash -c "echo write 0 0 0 100 | '$run' play store -"
 fails "short hex word" 4 "8 hex digits" bash -c "echo 8000F | '$run' play store -"
@@ -92,6 +92,6 @@ cp damaged damaged.before
 ok "a damaged store in words" "damaged, it says committed but names no record" "$run" show damaged
 fails "age of a damaged store" 4 "refused 4" "$run" age damaged 3 0 0
 ok "play on a damaged store" "^80003F00 0400$" "$run" play damaged words.txt
-holds "a refused event: where to find why" grep -qx "why an event was refused: --trace tells it" out
+holds "a refused event: why" grep -qx "refused 4: page 0 is damaged: event 1" out
 ok "why an event was refused" "recover 63: refused 4: page 0 is damaged" "$run" play damaged words.txt --trace
 same "a damaged store stays" damaged damaged.before

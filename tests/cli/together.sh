@@ -73,8 +73,8 @@ cp fresh.store store
 ok "strict, and nothing refused" "5 events: 5 done, 0 refused" "$run" play store change.txt --strict --answers due.bin
 ok "as expected" "5 events: 5 done" bash -c "cp fresh.store store; '$run' play store change.txt --strict --expect due.bin"
 text 'recover 63\nlock 0 5\nbegin none\n' refused.txt
-fails "strict, and an event refused" 5 "1 event was refused" "$run" play store refused.txt --strict
-holds "strict: the mend" grep -q -- "--trace tells why; the list was played all the same" err
+fails "strict, and an event refused" 5 "1 event was refused; the first is event 2, lock 0 5: refused 5: the named transaction isn't live" "$run" play store refused.txt --strict
+holds "strict: the mend" grep -q -- "--trace tells of each why; the list was played all the same" err
 holds "strict: the report is there" grep -q "3 events: 2 done, 1 refused" out
 fails "other answers" 6 "event 2, lock 0 5: the answer is 0500, and due.bin has 0000" "$run" play store refused.txt --expect due.bin --strict --dry
 fails "fewer answers" 6 "there are 2 answers, and due.bin has 5" bash -c "head -2 change.txt | '$run' play store - --expect due.bin"

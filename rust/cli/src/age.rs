@@ -1,10 +1,9 @@
 //! `age STORE RECORD CLOCK LIMIT`: how old a record is.
 
-use crate::command::{number, Command};
+use crate::command::{digits, number, record, Command};
 use crate::failure::{Failure, Outcome};
 use crate::{files, say};
-use nekahuiro::limits::RECORDS;
-use nekahuiro::{Clock, Limit, Record, Refusal};
+use nekahuiro::{Clock, Limit};
 
 /// The command.
 pub const COMMAND: Command = Command {
@@ -14,7 +13,8 @@ pub const COMMAND: Command = Command {
     summary: "how old a record is, in minutes: live, ahead or stale",
     help: "\
 CLOCK is the time now and LIMIT how old a record may be, in whole minutes. A record's first four bytes
-are the minute when it was made. It is `stale` if it is older than LIMIT, `ahead` if the clock is behind it.
+are the minute when it was made. It is `live` up to LIMIT, `stale` if it is older, `ahead` if the clock is behind it:
+after `put STORE 4 00000003`, `age STORE 4 5 10` answers `live 2`.
 ",
     run,
 };
@@ -23,17 +23,9 @@ are the minute when it was made. It is `stale` if it is older than LIMIT, `ahead
 fn run(words: &[String]) -> Outcome {
     let ([path, record, clock, limit], _) = COMMAND.read(words)?;
     let (clock, limit) = (minutes("clock", clock)?, minutes("limit", limit)?);
-    let is_number = !record.is_empty() && record.bytes().all(|digit| digit.is_ascii_digit());
-    if !is_number {
-        let reason = format!("the record `{record}` isn't a number");
-        return Err(Failure::usage(&reason, &format!("give a number from 0 to {}", RECORDS - 1)));
-    }
+    digits("record", record)?;
     let store = files::read_store(path)?;
-    let Some(number) = record.parse().ok().and_then(Record::new) else {
-        let reason = format!("there is no record {record} ({})", Refusal::Record);
-        return Err(Failure::refused(&reason, &format!("give a number from 0 to {}", RECORDS - 1)));
-    };
-    match store.age(number, Clock(clock), Limit(limit)) {
+    match store.age(self::record(record)?, Clock(clock), Limit(limit)) {
         Ok(verdict) => say(&format!("{verdict}\n")),
         Err(refusal) => {
             let reason = format!("{path}: {refusal}");

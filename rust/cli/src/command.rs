@@ -1,6 +1,8 @@
 //! A command of the command line: the words that it takes, its help, and what it does.
 
 use crate::failure::{Failure, Outcome};
+use nekahuiro::limits::RECORDS;
+use nekahuiro::{Record, Refusal};
 use std::fmt::Write;
 use std::time::Duration;
 
@@ -160,4 +162,23 @@ fn is_option(word: &str) -> bool {
 /// A number in digits alone: no sign, no blanks.
 pub fn number(word: &str) -> Option<u32> {
     word.bytes().all(|digit| digit.is_ascii_digit()).then(|| word.parse().ok()).flatten()
+}
+
+/// A word in digits alone, which is to be a number of something.
+pub fn digits(what: &str, word: &str) -> Outcome {
+    match !word.is_empty() && word.bytes().all(|digit| digit.is_ascii_digit()) {
+        true => Ok(()),
+        false => {
+            let reason = format!("the {what} `{word}` isn't a number");
+            Err(Failure::usage(&reason, &format!("give a number from 0 to {}", RECORDS - 1)))
+        }
+    }
+}
+
+/// A record by its number.
+pub fn record(word: &str) -> Outcome<Record> {
+    word.parse().ok().and_then(Record::new).ok_or_else(|| {
+        let reason = format!("there is no record {word} ({})", Refusal::Record);
+        Failure::refused(&reason, &format!("give a number from 0 to {}", RECORDS - 1))
+    })
 }

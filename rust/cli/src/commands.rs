@@ -2,15 +2,19 @@
 
 use crate::command::Command;
 use crate::failure::{visible, Failure, Outcome};
-use crate::{age, bench, demo, depot, encode, fresh, help, play, serial, sheet, show, waiting};
+use crate::{age, bench, check, demo, depot, encode, fresh, get, help, play, put, serial, sheet, shell, show, waiting};
 
 /// All commands.
 pub const ALL: &[Command] = &[
     demo::COMMAND,
     fresh::COMMAND,
     play::COMMAND,
+    shell::COMMAND,
     show::COMMAND,
     serial::COMMAND,
+    check::COMMAND,
+    get::COMMAND,
+    put::COMMAND,
     age::COMMAND,
     waiting::COMMAND,
     depot::COMMAND,

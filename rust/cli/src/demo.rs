@@ -16,11 +16,11 @@ pub const COMMAND: Command =
 
 /// What each event of the worked list shows.
 const STEPS: [&str; 16] = [
-    "A run starts down. Recover finds an empty commit page and has nothing to copy.",
+    "A run starts down. Recover finds an empty commit page and has nothing to copy. (63: the power stays.)",
     "A top transaction begins and gets the lowest free number, 0.",
     "A child begins under it.",
     "The child asks for record 3. Nobody holds or retains its lock.",
-    "The child's first write makes its own version of record 3.",
+    "It writes the byte A5 at offset 2. Its first write makes its own version of record 3.",
     "The child commits: its parent retains the lock and takes the version. No page is written.",
     "Number 1 is free again, so a second child gets it.",
     "The lock is retained by the asker's ancestor only, so it is granted.",

@@ -2,7 +2,7 @@
 
 use crate::command::Command;
 use crate::failure::{Outcome, STATUSES};
-use crate::{commands, say, state_file};
+use crate::{as_called, commands, say, state_file};
 use std::fmt::Write;
 
 /// The command.
@@ -23,8 +23,8 @@ is an option; a file whose name begins with - can also be written ./-name.
 /// Prints the help.
 pub fn run(words: &[String]) -> Outcome {
     match &COMMAND.split(words)?.names[..] {
-        [] => say(&all()),
-        [name] => say(&commands::named(name)?.help()),
+        [] => say(&as_called(&all())),
+        [name] => say(&as_called(&commands::named(name)?.help())),
         [_, second, ..] => Err(COMMAND.misuse(&format!("`{second}` is one word too many"))),
     }
 }

@@ -2,8 +2,10 @@
 
 use crate::failure::{Failure, Outcome};
 use crate::files::{name_of, read_list};
+use crate::names::{Known, Named};
 use nekahuiro::limits::{EVENTS, EVENT_BYTES};
-use nekahuiro::{BadWords, Event};
+use nekahuiro::BadWords;
+use std::collections::BTreeMap;
 
 /// The longest word that can be part of a list: no event has one half as long.
 const LONGEST_WORD: usize = 32;
@@ -12,34 +14,62 @@ const SHOWN: usize = 60;
 
 /// How a list is written, for the help.
 pub const HELP: &str = "\
-EVENTS is a file, or - for standard input. It is UTF-8 text with event words in hex, or events in words,
-one to a line; # starts a comment. With --raw it has raw event words of 4 bytes.
+EVENTS is a file, or - for standard input. It is UTF-8 text with events in words, one to a line, or event
+words in hex; # starts a comment. With --raw it has raw event words of 4 bytes.
 
-  begin none | begin PARENT               numbers are given in the answers, from 0
-  lock TRANSACTION RECORD                 to read and to write, alone
+  begin none | begin PARENT               a transaction begins, at the top or under another; its number is
+                                          the answer, the lowest that is free, from 0
+  begin none as NAME                      the same, and NAME may stand for its number in the lines after it
+  lock TRANSACTION RECORD                 to read and to write, alone; records are 0 to 15
   read-lock TRANSACTION RECORD            only to read, beside other readers
-  write TRANSACTION RECORD OFFSET VALUE   VALUE is in hex, all else decimal
-  read TRANSACTION RECORD OFFSET
-  commit TRANSACTION COUNT                the power goes after COUNT page writes; 63: it doesn't
-  abort TRANSACTION                       its locks go with it
+  write TRANSACTION RECORD OFFSET VALUE   one byte: OFFSET is its place in the record, 0 to 31; VALUE is two
+                                          hex digits, as A5; all else is decimal
+  read TRANSACTION RECORD OFFSET          one byte; it is the answer
+  commit TRANSACTION [COUNT]              COUNT makes a power cut: after so many page writes the power goes.
+                                          Left out it is 63, more than are ever due, and no cut comes
+  abort TRANSACTION                       its changes and locks go
   abort TRANSACTION report                its parent retains its locks, since it told what it read
-  crash
-  recover COUNT                           a run starts down: recover comes first
-  prepare TRANSACTION COUNT IDENTITY      end it, its changes waiting for the decision on an identity
-  decide commit COUNT IDENTITY            the decision; for an identity that isn't prepared it does nothing
-  decide abort COUNT IDENTITY
+  crash                                   the power goes: what isn't committed is lost
+  recover [COUNT]                         a run starts down: recover comes first
+  prepare TRANSACTION [COUNT] IDENTITY    end it, its changes waiting for the decision on an identity
+  decide commit [COUNT] IDENTITY          the decision; for an identity that isn't prepared it does nothing
+  decide abort [COUNT] IDENTITY
   query IDENTITY                          whether it is prepared: 1 or 0; identities are from 0 to 255
 ";
 
-/// Reads a list of events into raw words; `raw` says that it has them already.
-pub fn read(path: &str, raw: bool) -> Outcome<Vec<u8>> {
+/// A list of events in raw words, with the names in it by event.
+#[derive(Default)]
+pub struct List {
+    /// Four bytes an event. Where somebody is named, their number is still to come.
+    pub words: Vec<u8>,
+    /// The events with names.
+    pub names: BTreeMap<usize, Named>,
+}
+
+/// Reads a list of events; `raw` says that it has raw words.
+pub fn read_named(path: &str, raw: bool) -> Outcome<List> {
     let bytes = read_list(path)?;
     let name = name_of(path);
     match raw {
-        true => whole(name, bytes),
+        true => Ok(List { words: whole(name, bytes)?, ..List::default() }),
         false => parse(name, text(name, &bytes)?),
     }
 }
+
+/// Reads a list without names into raw words; `raw` says that it has them already.
+pub fn read(path: &str, raw: bool) -> Outcome<Vec<u8>> {
+    let list = read_named(path, raw)?;
+    match list.names.first_key_value() {
+        None => Ok(list.words),
+        Some((at, _)) => {
+            let reason = format!("{}, event {}: {NO_NAMES}", name_of(path), at + 1);
+            Err(Failure::refused(&reason, "give numbers here; `./nekahuiro play` takes names"))
+        }
+    }
+}
+
+/// Why names aren't taken where nothing is played.
+const NO_NAMES: &str = "the number of a name is known from the answers only";
 
 /// The mend for what is no text.
 const SAVE: &str = "save the list as UTF-8 text; raw event words are taken only with --raw";
@@ -69,13 +99,18 @@ fn whole(name: &str, bytes: Vec<u8>) -> Outcome<Vec<u8>> {
 }
 
 /// Reads a list from text; a message names the line.
-fn parse(name: &str, text: &str) -> Outcome<Vec<u8>> {
-    let mut words = Vec::new();
+fn parse(name: &str, text: &str) -> Outcome<List> {
+    let (mut list, mut known) = (List::default(), Known::default());
     for (number, whole) in (1..).zip(text.lines()) {
         let line = without_comment(whole);
-        words.extend(line_words(line).map_err(|bad| bad_line(&format!("{name}, line {number}"), line, &bad))?);
+        let (words, named) =
+            line_events(&mut known, line).map_err(|bad| bad_line(&format!("{name}, line {number}"), line, &bad))?;
+        if named.is_some() {
+            list.names.insert(list.words.len() / EVENT_BYTES, named);
+        }
+        list.words.extend(words);
     }
-    Ok(words)
+    Ok(list)
 }
 
 /// Whether the words are few enough for one run or portion.
@@ -115,9 +150,17 @@ fn shown(line: &str) -> String {
     }
 }
 
-/// The raw words of a line without its comment: an event in words, or any number of hex words.
+/// The raw words of a line without its comment, which may have no names.
 pub fn line_words(line: &str) -> Result<Vec<u8>, BadWords> {
-    let Some(first) = line.split_whitespace().next() else { return Ok(Vec::new()) };
+    match line_events(&mut Known::default(), line)? {
+        (words, named) if !named.is_some() => Ok(words),
+        _ => Err(BadWords { reason: NO_NAMES.to_string(), mend: "leave out `as` and the name".to_string() }),
+    }
+}
+
+/// The raw words of a line without its comment, and its names: an event in words, or any number of hex words.
+pub fn line_events(known: &mut Known, line: &str) -> Result<(Vec<u8>, Named), BadWords> {
+    let Some(first) = line.split_whitespace().next() else { return Ok(<_>::default()) };
     if let Some(long) = line.split_whitespace().find(|word| word.len() > LONGEST_WORD) {
         return Err(BadWords {
             reason: format!("a word of {} letters is no event", long.chars().count()),
@@ -125,13 +168,14 @@ pub fn line_words(line: &str) -> Result<Vec<u8>, BadWords> {
         });
     }
     if first.starts_with(|digit: char| digit.is_ascii_digit()) || first.bytes().all(|digit| digit.is_ascii_hexdigit()) {
-        return line.split_whitespace().map(expect_hex).collect::<Result<Vec<_>, _>>().map(|words| words.concat());
+        let words = line.split_whitespace().map(expect_hex).collect::<Result<Vec<_>, _>>()?;
+        return Ok((words.concat(), Named::default()));
     }
-    line.parse::<Event>().map(|event| event.word().to_vec())
+    known.event(line).map(|(word, named)| (word.to_vec(), named))
 }
 
 /// The mend for what is neither an event in words nor a hex word.
-const MEND: &str = "write 8 hex digits, such as 80003F00, or an event in words, such as `recover 63`";
+const MEND: &str = "write 8 hex digits, such as 80003F00, or an event in words, such as `recover`";
 
 fn expect_hex(word: &str) -> Result<[u8; EVENT_BYTES], BadWords> {
     hex_word(word).ok_or_else(|| BadWords { reason: format!("`{word}` isn't an event word"), mend: MEND.to_string() })

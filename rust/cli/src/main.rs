@@ -3,6 +3,7 @@
 mod age;
 mod alone;
 mod bench;
+mod check;
 mod command;
 mod commands;
 mod demo;
@@ -12,14 +13,20 @@ mod failure;
 mod files;
 mod follow;
 mod fresh;
+mod get;
 mod help;
 mod list;
+mod names;
 mod output;
+mod page;
 mod pair;
 mod picture;
 mod play;
+mod put;
+mod sentence;
 mod serial;
 mod sheet;
+mod shell;
 mod show;
 mod staged;
 mod state_file;
@@ -29,6 +36,7 @@ mod waiting;
 use failure::{Failure, Outcome};
 use std::ffi::OsString;
 use std::io::{ErrorKind, Write};
+use std::path::Path;
 use std::process::ExitCode;
 
 fn main() -> ExitCode {
@@ -36,8 +44,7 @@ fn main() -> ExitCode {
     match words.and_then(|words| commands::run(&words)) {
         Ok(()) => ExitCode::SUCCESS,
         Err(failure) => {
-            // Nothing can be done if standard error is closed too.
-            let _ = write!(std::io::stderr(), "{failure}");
+            complain(&failure);
             ExitCode::from(failure.status as u8)
         }
     }
@@ -48,6 +55,20 @@ fn plain(word: OsString) -> Outcome<String> {
         let reason = format!("`{}` isn't UTF-8 text", word.display());
         Failure::usage(&reason, "rename the file, or reach it through a link with another name")
     })
+}
+
+/// Writes a failure to standard error. Nothing can be done if that is closed too.
+fn complain(failure: &Failure) {
+    let _ = write!(std::io::stderr(), "{}", as_called(&failure.to_string()));
+}
+
+/// Text with the command line's name as it was called: the script is ./nekahuiro, what is installed is nekahuiro.
+fn as_called(text: &str) -> String {
+    let own = std::env::args_os().next().unwrap_or_default();
+    match Path::new(&own).file_name().is_some_and(|name| name == "nekahuiro") {
+        true => text.replace("./nekahuiro", "nekahuiro"),
+        false => text.to_string(),
+    }
 }
 
 /// Writes text to standard output.

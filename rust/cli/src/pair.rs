@@ -51,6 +51,11 @@ impl<'n> Pair<'n> {
     /// old one before the store is replaced, and takes its place after: whatever stops this between, the
     /// state that fits the store is there.
     pub fn replace(self, store: &Store, kept: &Kept) -> Outcome {
+        self.replace_and(store, kept, PLAYED)
+    }
+
+    /// As [`Pair::replace`]; `done` is said where something fails after the store was replaced.
+    pub fn replace_and(self, store: &Store, kept: &Kept, done: &str) -> Outcome {
         let mut new_state = None;
         if let Some(name) = self.state_name {
             let bytes = kept.bytes(name, self.store_name, store);
@@ -65,20 +70,20 @@ impl<'n> Pair<'n> {
             let synced = new_state.as_ref().map_or(Ok(()), Staged::sync);
             synced.and_then(|()| new_store.put()).map_err(|failure| failure.and("no file was changed"))?;
             new_state.iter_mut().for_each(Staged::leave);
-            new_store.sync().map_err(|failure| failure.after(PLAYED))?;
+            new_store.sync().map_err(|failure| failure.after(done))?;
         }
         let Some(mut new_state) = new_state else { return Ok(()) };
         new_state.put().map_err(|failure| match changes {
-            true => failure.after(&format!("{PLAYED}, and the next play finds the new state all the same")),
+            true => failure.after(&format!("{done}, and the next play finds the new state all the same")),
             false => failure.and("no file was changed"),
         })?;
-        new_state.sync().map_err(|failure| failure.after(PLAYED))
+        new_state.sync().map_err(|failure| failure.after(done))
     }
 
     fn check_unchanged(&self) -> Outcome {
         let changed = |name: &str| {
             let reason = format!("{name} was changed by somebody else while the list was played");
-            Err(Failure::with(Status::Busy, &reason, "play the list again; no file was changed"))
+            Err(Failure::with(Status::Busy, &reason, "try again; no file was changed"))
         };
         if read_store(self.store_name)? != self.store {
             return changed(self.store_name);

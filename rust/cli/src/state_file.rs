@@ -28,7 +28,7 @@ const LEAST_BYTES: usize = HEADER_BYTES + STATE_BYTES + WORK_BYTES;
 const MOST_BYTES: usize = LEAST_BYTES + 4096;
 
 /// What is kept between portions, beside the store.
-#[derive(Default)]
+#[derive(Clone, Default)]
 pub struct Kept {
     /// The lent state.
     pub state: State,

@@ -1,15 +1,16 @@
 //! `--trace`: each event and answer in words, with who holds, who retains and what crashed.
 
 use crate::follow::Follower;
+use crate::names::Names;
 use crate::number_of;
 use nekahuiro::limits::EVENT_BYTES;
-use nekahuiro::{describe, page_writes, why_bad, Answer, Event};
+use nekahuiro::{page_writes, why_bad, Answer, Event};
 use nekahuiro_history::{End, History};
 use std::collections::BTreeMap;
 use std::fmt::Write;
 
 /// Tells a run, a line or two for each event, from what is known before it.
-pub fn tell(start: &Follower, words: &[u8], answers: &[Answer], history: &History) -> String {
+pub fn tell(start: &Follower, words: &[u8], names: &Names, answers: &[Answer], history: &History) -> String {
     let mut text = String::from("event  word      answer  what happened\n");
     let mut follower = start.clone();
     let mut locks = follower.locks_in_words();
@@ -24,13 +25,14 @@ pub fn tell(start: &Follower, words: &[u8], answers: &[Answer], history: &Histor
         let event = Event::of(word);
         let bits = u32::from_be_bytes(word);
         let what = what_happened(event, word, *answer);
+        let what = names.begun.get(&at).map_or(what.clone(), |name| format!("{what}, called {name}"));
         let _ = writeln!(
             text,
             "{:5}  {bits:08X}  {:02X}{:02X}    {}: {what}",
             at + 1,
             answer.number,
             answer.value,
-            describe(word)
+            names.describe(at, word)
         );
         if let Some(event) = event {
             follower.event(event, *answer);

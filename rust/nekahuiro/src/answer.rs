@@ -1,6 +1,8 @@
 //! Answers to events, and refusals of whole operations.
 
-use crate::limits::{ANSWER_BYTES, DEPTH_LIMIT, EVENTS, LIST_BYTES, RECORDS, ROWS, STORE_BYTES, TRANSACTIONS, WORK_BYTES};
+use crate::limits::{
+    ANSWER_BYTES, DEPTH_LIMIT, EVENTS, LIST_BYTES, RECORDS, ROWS, STORE_BYTES, TRANSACTIONS, WORK_BYTES,
+};
 use std::fmt;
 
 /// The answer to one event: a number, then a value.

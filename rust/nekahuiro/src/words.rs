@@ -1,4 +1,5 @@
-//! Events in words: `write 1 3 2 A5`. Values are two hex digits, all else is decimal, identities too.
+//! Events in words: `write 1 3 2 A5`. Values are two hex digits, all else is decimal, identities too. A count may be
+//! left out: then it is 63, with which no power cut comes.
 
 use crate::limits::{COUNT_LIMIT, EVENT_BYTES, PAGE_BYTES, RECORDS, TRANSACTION_NAMES};
 use crate::{Event, Fields, Identity, Record, Transaction};
@@ -29,12 +30,12 @@ const FORMS: [(&str, &str); 12] = [
     ("read-lock", "read-lock TRANSACTION RECORD"),
     ("write", "write TRANSACTION RECORD OFFSET VALUE"),
     ("read", "read TRANSACTION RECORD OFFSET"),
-    ("commit", "commit TRANSACTION COUNT"),
+    ("commit", "commit TRANSACTION [COUNT]"),
     ("abort", "abort TRANSACTION | abort TRANSACTION report"),
     ("crash", "crash"),
-    ("recover", "recover COUNT"),
-    ("prepare", "prepare TRANSACTION COUNT IDENTITY"),
-    ("decide", "decide commit COUNT IDENTITY | decide abort COUNT IDENTITY"),
+    ("recover", "recover [COUNT]"),
+    ("prepare", "prepare TRANSACTION [COUNT] IDENTITY"),
+    ("decide", "decide commit [COUNT] IDENTITY | decide abort [COUNT] IDENTITY"),
     ("query", "query IDENTITY"),
 ];
 
@@ -113,15 +114,19 @@ impl FromStr for Event {
             "read" => {
                 Event::Read { transaction: words.transaction()?, record: words.record()?, offset: words.offset()? }
             }
-            "commit" => Event::Commit { transaction: words.transaction()?, count: words.count()? },
+            "commit" => Event::Commit { transaction: words.transaction()?, count: words.count(0)? },
             "abort" => Event::Abort { transaction: words.transaction()?, report: words.report() },
             "crash" => Event::Crash,
-            "prepare" => {
-                Event::Prepare { transaction: words.transaction()?, count: words.count()?, identity: words.identity()? }
+            "prepare" => Event::Prepare {
+                transaction: words.transaction()?,
+                count: words.count(1)?,
+                identity: words.identity()?,
+            },
+            "decide" => {
+                Event::Decide { commit: words.decision()?, count: words.count(1)?, identity: words.identity()? }
             }
-            "decide" => Event::Decide { commit: words.decision()?, count: words.count()?, identity: words.identity()? },
             "query" => Event::Query { identity: words.identity()? },
-            _ => Event::Recover { count: words.count()? },
+            _ => Event::Recover { count: words.count(0)? },
         };
         words.end()?;
         Ok(event)
@@ -222,7 +227,11 @@ impl Words<'_> {
         self.below("value", 256, 16)
     }
 
-    fn count(&mut self) -> Result<u8, BadWords> {
+    /// The count, unless only the `after` words are left that come after it.
+    fn count(&mut self, after: usize) -> Result<u8, BadWords> {
+        if self.rest.clone().count() <= after {
+            return Ok(COUNT_LIMIT);
+        }
         self.below("count", usize::from(COUNT_LIMIT) + 1, 10)
     }
 

@@ -68,12 +68,41 @@ fn prepare_decide_and_query_in_words() {
         assert_eq!(event.word(), u32::to_be_bytes(bits), "{words}");
         assert_eq!(event.to_string(), words.to_lowercase());
     }
-    for bad in
-        ["prepare 3 2", "prepare 3 2 256", "prepare 3 64 0", "decide 1 2", "decide maybe 1 2", "query", "query A5"]
-    {
+    let bad = [
+        "prepare 3",
+        "prepare 3 256",
+        "prepare 3 2 256",
+        "prepare 3 64 0",
+        "prepare 3 2 7 1",
+        "decide 1 2",
+        "decide commit",
+        "decide maybe 1 2",
+        "query",
+        "query A5",
+    ];
+    for bad in bad {
         assert!(bad.parse::<Event>().is_err(), "{bad}");
     }
     assert_eq!(why_bad([0xA0, 0, 0x80, 0]).unwrap(), "decide with offset 2: there are 1 to commit and 0 to abort");
+}
+
+#[test]
+fn a_count_that_is_left_out_is_63() {
+    let rows = [
+        ("commit 1", "commit 1 63"),
+        ("recover", "recover 63"),
+        ("prepare 3 7", "prepare 3 63 7"),
+        ("decide commit 7", "decide commit 63 7"),
+        ("decide abort 0", "decide abort 63 0"),
+    ];
+    for (short, whole) in rows {
+        let event: Event = short.parse().unwrap();
+        assert_eq!(event.to_string(), whole);
+        assert_eq!(whole.parse(), Ok(event));
+    }
+    for bad in ["commit", "commit 1 64", "commit 1 2 3", "recover 1 2", "recover x"] {
+        assert!(bad.parse::<Event>().is_err(), "{bad}");
+    }
 }
 
 #[test]

@@ -32,12 +32,22 @@ pub fn draw(svg: &mut Svg, told: &Told, scale: &Scale, layout: &Layout, top: f64
 }
 
 fn draw_box(svg: &mut Svg, told: &Told, scale: &Scale, bar: &Bar, y: f64) {
-    let transaction = &told.history.transactions[bar.transaction];
-    let fate = told.fate(bar.transaction);
-    let waits = told.history.is_waiting(bar.transaction) && transaction.parent.is_none();
-    let open = if transaction.end == End::Never || waits { " open" } else { "" };
     let x = scale.left(bar.first) + 1.0;
     let width = scale.left(bar.last) + scale.step - 1.0 - x;
+    svg.rect(x, y, width.max(2.0), bar.height, &class(told, bar.transaction), &tip(told, bar.transaction));
+}
+
+/// How a bar is drawn: by what became of its transaction, and dashed if that is open.
+pub fn class(told: &Told, place: usize) -> String {
+    let transaction = &told.history.transactions[place];
+    let waits = told.history.is_waiting(place) && transaction.parent.is_none();
+    let open = if transaction.end == End::Never || waits { " open" } else { "" };
+    format!("{}{open}", told.fate(place))
+}
+
+/// A transaction in words: where it began and ended, and what became of it.
+pub fn tip(told: &Told, place: usize) -> String {
+    let transaction = &told.history.transactions[place];
     let ending = match transaction.end {
         End::Never => "still live at the end".to_string(),
         End::Committed { at, cut: false, .. } => format!("committed at event {}", at + 1),
@@ -55,8 +65,7 @@ fn draw_box(svg: &mut Svg, told: &Told, scale: &Scale, bar: &Bar, y: f64) {
         Some(at) => format!("begun at event {}", at + 1),
         None => "begun before".to_string(),
     };
-    let tip = format!("transaction {}, {begun}, {ending}: {fate}", transaction.number);
-    svg.rect(x, y, width.max(2.0), bar.height, &format!("{fate}{open}"), &tip);
+    format!("transaction {}, {begun}, {ending}: {}", transaction.number, told.fate(place))
 }
 
 /// The transaction's number, where it begins.
@@ -75,22 +84,39 @@ fn draw_badge(svg: &mut Svg, told: &Told, scale: &Scale, bar: &Bar, y: f64) {
 }
 
 fn draw_event(svg: &mut Svg, told: &Told, scale: &Scale, at: usize, y: f64) {
-    let accepted = told.answers[at].is_accepted();
-    let Some((class, letters)) = told.events[at].and_then(letters) else { return };
-    if matches!(told.events[at], Some(Event::Begin { .. })) && accepted {
-        return;
-    }
-    // A commit that was cut and lost is none.
-    let lost = told.answers[at].is_cut() && told.history.owner[at].is_some_and(|owner| told.fate(owner) == "lost");
-    let (class, letters, tick) = match (accepted, lost) {
-        (false, _) => ("event no", letters, "tick-no"),
-        (true, true) => ("event cut", "cut".to_string(), "tick-cut"),
-        (true, false) => (class, letters, "tick"),
-    };
+    let Some(Mark { class, letters, tick }) = Mark::of(told, at) else { return };
     if scale.has_room_for_text() {
         svg.text_with_tip(scale.middle(at), y + 4.0, class, &letters, &told.tip(at));
     } else {
         svg.rect(scale.left(at), y - 2.0, scale.step - 1.0, 9.0, tick, &told.tip(at));
+    }
+}
+
+/// How an event is drawn in its transaction's bar: in letters, or as a tick where there is no room.
+pub struct Mark {
+    /// The class of the letters.
+    pub class: &'static str,
+    /// The letters.
+    pub letters: String,
+    /// The class of the tick.
+    pub tick: &'static str,
+}
+
+impl Mark {
+    /// The mark of an event; none for one that is no transaction's, and where a badge stands.
+    pub fn of(told: &Told, at: usize) -> Option<Mark> {
+        let accepted = told.answers[at].is_accepted();
+        let (class, letters) = told.events[at].and_then(letters)?;
+        if matches!(told.events[at], Some(Event::Begin { .. })) && accepted {
+            return None;
+        }
+        // A commit that was cut and lost is none.
+        let lost = told.answers[at].is_cut() && told.history.owner[at].is_some_and(|owner| told.fate(owner) == "lost");
+        Some(match (accepted, lost) {
+            (false, _) => Mark { class: "event no", letters, tick: "tick-no" },
+            (true, true) => Mark { class: "event cut", letters: "cut".to_string(), tick: "tick-cut" },
+            (true, false) => Mark { class, letters, tick: "tick" },
+        })
     }
 }
 

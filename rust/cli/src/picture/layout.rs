@@ -86,20 +86,13 @@ impl Layout {
         }
         // Children come after their parents, so from the last to the first all heights are known.
         for place in (0..count).rev() {
-            let inner: f64 = builder.shelves(&builder.children[place]).iter().map(|shelf| shelf.height + GAP).sum();
+            let inner = builder.packed(&builder.children[place]).1;
             builder.heights[place] = if inner > 0.0 { ROW + GAP + inner } else { ROW };
         }
         let mut layout = Layout::default();
         layout.height = builder.place(&tops, 0.0, &mut layout.bars);
         layout
     }
-}
-
-/// Siblings that don't overlap in time share a shelf.
-struct Shelf {
-    last: usize,
-    height: f64,
-    members: Vec<usize>,
 }
 
 struct Builder<'h> {
@@ -110,35 +103,41 @@ struct Builder<'h> {
 }
 
 impl Builder<'_> {
-    fn shelves(&self, siblings: &[usize]) -> Vec<Shelf> {
-        let mut shelves: Vec<Shelf> = Vec::new();
+    /// The top of each sibling, in the order of their begins, and the height of all. Each goes as high as those leave
+    /// room that are there at the same time.
+    fn packed(&self, siblings: &[usize]) -> (Vec<f64>, f64) {
+        let (mut tops, mut height) = (Vec::new(), 0.0_f64);
+        let mut beside: Vec<(f64, usize)> = Vec::new();
         for place in siblings {
-            let (first, last, height) =
-                (self.history.transactions[*place].begun.unwrap_or(0), self.last(*place), self.heights[*place]);
-            match shelves.iter_mut().find(|shelf| shelf.last < first) {
-                Some(shelf) => {
-                    shelf.last = last;
-                    shelf.height = shelf.height.max(height);
-                    shelf.members.push(*place);
+            beside.retain(|(_, other)| self.last(*other) >= self.first(*place));
+            let mut top = 0.0_f64;
+            for (other_top, other) in &beside {
+                if top + self.heights[*place] + GAP <= *other_top {
+                    break;
                 }
-                None => shelves.push(Shelf { last, height, members: vec![*place] }),
+                top = top.max(other_top + self.heights[*other] + GAP);
             }
+            beside.push((top, *place));
+            beside.sort_by(|(one, _), (other, _)| one.total_cmp(other));
+            tops.push(top);
+            height = height.max(top + self.heights[*place] + GAP);
         }
-        shelves
+        (tops, height)
     }
 
     /// Places siblings and all below them, parents first; gives the height that they take.
     fn place(&self, siblings: &[usize], top: f64, bars: &mut Vec<Bar>) -> f64 {
-        let mut y = top;
-        for shelf in self.shelves(siblings) {
-            for place in shelf.members {
-                let (first, last) = (self.history.transactions[place].begun.unwrap_or(0), self.last(place));
-                bars.push(Bar { transaction: place, first, last, top: y, height: self.heights[place] });
-                self.place(&self.children[place], y + ROW + GAP, bars);
-            }
-            y += shelf.height + GAP;
+        let (tops, height) = self.packed(siblings);
+        for (place, own) in siblings.iter().zip(tops) {
+            let (first, last, y) = (self.first(*place), self.last(*place), top + own);
+            bars.push(Bar { transaction: *place, first, last, top: y, height: self.heights[*place] });
+            self.place(&self.children[*place], y + ROW + GAP, bars);
         }
-        y - top
+        height
+    }
+
+    fn first(&self, transaction: usize) -> usize {
+        self.history.transactions[transaction].begun.unwrap_or(0)
     }
 
     fn last(&self, transaction: usize) -> usize {
@@ -148,6 +147,41 @@ impl Builder<'_> {
             End::Prepared { decision: Some(decision), .. } => decision.at,
             End::Prepared { cut: false, changed: 1.., .. } => self.events.saturating_sub(1),
             End::Committed { at, .. } | End::Prepared { at, .. } | End::Aborted(at) | End::Crashed(at) => at,
+        }
+    }
+}
+
+#[cfg(test)]
+mod tests {
+    use super::*;
+    use nekahuiro::Store;
+    use nekahuiro_lists::timing;
+
+    /// Whether two bars share a moment.
+    fn meet(one: &Bar, other: &Bar) -> bool {
+        one.first <= other.last && other.first <= one.last
+    }
+
+    #[test]
+    fn children_lie_in_their_parents_and_no_other_bars_overlap() {
+        for (name, words) in timing::all() {
+            let answers = Store::fresh().play_words(&words).unwrap();
+            let bytes: Vec<u8> = answers.iter().flat_map(|answer| answer.bytes()).collect();
+            let history = nekahuiro_history::tell(&words, &bytes).unwrap();
+            let bars = Layout::of(&history, answers.len()).bars;
+            assert_eq!(bars.len(), history.transactions.len(), "{name}");
+            let is_above = |one: &Bar, other: &Bar| history.line(other.transaction).any(|up| up == one.transaction);
+            for (at, one) in bars.iter().enumerate() {
+                for other in bars[at + 1..].iter().filter(|other| meet(one, other)) {
+                    let (end, other_end) = (one.top + one.height, other.top + other.height);
+                    match is_above(one, other) {
+                        true => {
+                            assert!(one.top + ROW <= other.top && other_end <= end, "{name}: a child out of its parent")
+                        }
+                        false => assert!(end <= other.top || other_end <= one.top, "{name}: two bars overlap"),
+                    }
+                }
+            }
         }
     }
 }

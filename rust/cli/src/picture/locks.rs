@@ -9,26 +9,30 @@ use nekahuiro::limits::RECORDS;
 const ROW: f64 = 30.0;
 
 /// A stretch of events during which the same transactions have to do with a lock.
-struct Stretch {
-    first: usize,
+pub struct Stretch {
+    /// The first event.
+    pub first: usize,
     /// One past the last event.
-    end: usize,
+    pub end: usize,
     /// Who, and in which mode.
-    who: Bearers,
+    pub who: Bearers,
 }
 
 /// The lock of one record through a run.
 #[derive(Default)]
-struct Row {
-    held: Vec<Stretch>,
-    retained: Vec<Stretch>,
+pub struct Row {
+    /// Who holds it.
+    pub held: Vec<Stretch>,
+    /// Who retains it.
+    pub retained: Vec<Stretch>,
     /// Where it waits for a decision: from an event to another, and on which identity.
-    prepared: Vec<(usize, usize, u8)>,
+    pub prepared: Vec<(usize, usize, u8)>,
 }
 
 /// The locks of the records that were ever locked.
 pub struct Rows {
-    rows: Vec<(usize, Row)>,
+    /// Each of them with its record.
+    pub rows: Vec<(usize, Row)>,
 }
 
 /// Lengthens the last stretch, or begins another.
@@ -103,8 +107,7 @@ impl Stretch {
         if self.who.is_empty() {
             return;
         }
-        let to_read = self.who.values().all(|mode| *mode == Mode::Read);
-        let class = if to_read { format!("{what}-to-read") } else { what.to_string() };
+        let class = self.class(what);
         let (left, right) = (scale.left(self.first), scale.left(self.end));
         svg.rect(left, y, right - left - 1.0, 12.0, &class, &bearers_in_words(what, &self.who));
         let label = self.label();
@@ -113,8 +116,14 @@ impl Stretch {
         }
     }
 
+    /// How it is drawn: held or retained, and otherwise where all may only read.
+    pub fn class(&self, what: &str) -> String {
+        let to_read = self.who.values().all(|mode| *mode == Mode::Read);
+        format!("{what}{}", if to_read { "-to-read" } else { "" })
+    }
+
     /// Their numbers, those that may only read with an r.
-    fn label(&self) -> String {
+    pub fn label(&self) -> String {
         let short = |(t, mode): (&u8, &Mode)| format!("{t}{}", if *mode == Mode::Read { "r" } else { "" });
         self.who.iter().map(short).collect::<Vec<_>>().join(" ")
     }

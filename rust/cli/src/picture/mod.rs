@@ -9,13 +9,18 @@ mod svg;
 use crate::failure::{Failure, Outcome};
 use crate::follow::Follower;
 use crate::{number_of, trace};
-use layout::{Layout, Scale};
+use layout::Scale;
 use nekahuiro::limits::EVENT_BYTES;
 use nekahuiro::{describe, Answer, Event};
 use nekahuiro_history::History;
 use std::collections::BTreeMap;
 use std::path::Path;
 use svg::Svg;
+
+pub use bars::{class as bar_class, tip as bar_tip, Mark};
+pub use layout::{Layout, GAP, ROW};
+pub use locks::{Rows, Stretch};
+pub use svg::STYLE;
 
 /// What each part of the picture is drawn from.
 pub struct Told<'t> {
@@ -31,7 +36,14 @@ pub struct Told<'t> {
     pub start: &'t Follower,
 }
 
-impl Told<'_> {
+impl<'t> Told<'t> {
+    /// What the events and answers tell.
+    pub fn of(start: &'t Follower, words: &[u8], answers: &'t [Answer], history: &'t History) -> Told<'t> {
+        let words: Vec<[u8; EVENT_BYTES]> = words.chunks_exact(EVENT_BYTES).map(|w| [w[0], w[1], w[2], w[3]]).collect();
+        let events = words.iter().map(|word| Event::of(*word)).collect();
+        Told { words, events, answers, history, start }
+    }
+
     /// An event and its answer in words.
     pub fn tip(&self, at: usize) -> String {
         let word = self.words[at];
@@ -50,7 +62,7 @@ impl Told<'_> {
     }
 
     /// The refusals of this run, each number once.
-    fn refusals(&self) -> BTreeMap<u8, String> {
+    pub fn refusals(&self) -> BTreeMap<u8, String> {
         self.answers.iter().filter_map(|answer| Some((answer.number, answer.refusal()?))).collect()
     }
 
@@ -84,9 +96,7 @@ pub fn check_name(name: &str) -> Outcome {
 
 /// Draws a run.
 pub fn draw(start: &Follower, words: &[u8], answers: &[Answer], history: &History) -> String {
-    let words: Vec<[u8; EVENT_BYTES]> = words.chunks_exact(EVENT_BYTES).map(|w| [w[0], w[1], w[2], w[3]]).collect();
-    let events = words.iter().map(|word| Event::of(*word)).collect();
-    let told = Told { words, events, answers, history, start };
+    let told = Told::of(start, words, answers, history);
     let scale = Scale::of(answers.len());
     let bars = Layout::of(history, answers.len());
     let locks = locks::Rows::of(&told);

@@ -7,7 +7,8 @@ pub struct Svg {
     text: String,
 }
 
-const STYLE: &str = "
+/// How each class is drawn.
+pub const STYLE: &str = "
 text { font-family: sans-serif; font-size: 11px; fill: #222 }
 .title { font-size: 14px; font-weight: bold }
 .label { fill: #555 } .legend { fill: #333 }

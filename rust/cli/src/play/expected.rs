@@ -30,7 +30,7 @@ pub fn compare(name: &str, expected: &[Answer], Played { words, answers, .. }: &
         if found != due {
             let event = describe([word[0], word[1], word[2], word[3]]);
             let reason = format!("event {at}, {event}: the answer is {}, and {name} has {}", hex(found), hex(due));
-            return differs(&reason);
+            return Err(Failure::with(Status::OtherAnswers, &reason, &format!("{found} and not {due}; {mend}")));
         }
     }
     if answers.len() != expected.len() {

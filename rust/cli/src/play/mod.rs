@@ -2,20 +2,24 @@
 
 mod expected;
 mod options;
+mod outputs;
 mod report;
 
 use crate::alone::Alone;
 use crate::command::{Command, WAIT};
 use crate::failure::{Failure, Outcome, Status};
+use crate::files::name_of;
 use crate::follow::Follower;
-use crate::output::Output;
+use crate::list::List;
+use crate::names::Names;
 use crate::pair::Pair;
 use crate::state_file::{self, Kept};
-use crate::{list, number_of, picture, say, sheet};
+use crate::{list, names, number_of, page, say, sheet, trace};
 use nekahuiro::limits::{EVENTS, EVENT_BYTES};
-use nekahuiro::{Answer, Refusal, Store};
+use nekahuiro::{Answer, Event, Refusal, Store};
 use nekahuiro_history::{tell_from, Earlier, History};
 use options::Options;
+use outputs::Outputs;
 
 /// The command.
 pub const COMMAND: Command = Command {
@@ -25,6 +29,7 @@ pub const COMMAND: Command = Command {
         ("--answers", "FILE", "write the answers there, two bytes each"),
         ("--trace", "", "tell each event in words: who holds, who retains, what crashed"),
         ("--picture", "FILE.svg", "draw the run as a timeline"),
+        ("--page", "FILE.html", "make a page for a browser, with the store after each event; answers aren't told then"),
         ("--portions", "N", "play N events at a time; the list may then have any length"),
         ("--state", "FILE", "go on from the state in FILE, and leave the new state there; without it, start down"),
         ("--strict", "", "end with status 5 if an event is refused; the list is played all the same"),
@@ -36,14 +41,17 @@ pub const COMMAND: Command = Command {
     ],
     summary: "play a list of events on a store",
     help: "\
-`./nekahuiro help` says how a list is written. Each event has an answer of two bytes, told in hex: a
-number (00 done, 01 to 0A, 0D, 0E and 1B refused, 0B cut by a crash), then a value. --trace tells it in words;
-a lock is to write unless it is said to be to read. include/nekahuiro.h has all the numbers.
+`./nekahuiro help` says how a list is written. A name stands for the transaction that the last begin with it
+began, and for nobody once that has ended; an event that names nobody is refused with 5.
+
+Each event has an answer of two bytes, told in hex: a number (00 done, 01 to 0A, 0D, 0E and 1B refused, 0B
+cut by a crash), then a value. Refusals are told in words below; --trace tells each event in words, and there a
+lock is to write unless it is said to be to read. include/nekahuiro.h has all the numbers.
 
 When the list has been read, the command has the folders of its files for itself until they are
 replaced, and another one waits. Nothing is told as done before it is: first the store is replaced, in one
-step, then the state file, then answers and picture; then the report is printed. If somebody else
-changed store or state file meanwhile, nothing is replaced.
+step, then the state file, then answers, picture and page; then the report is printed. If somebody
+else changed store or state file meanwhile, nothing is replaced.
 
 A state file has what is live between two portions: a line that says what it is and of which version,
 a digest of the store left with it and one of what follows, the lent state, the working buffer, and the
@@ -65,8 +73,20 @@ struct Played {
     /// What is left for the next portion.
     left: Kept,
     words: Vec<u8>,
+    names: Names,
     answers: Vec<Answer>,
     history: History,
+}
+
+impl Played {
+    /// The refused events: where, and what was refused why.
+    fn refusals(&self) -> impl Iterator<Item = (usize, String)> + '_ {
+        let answered = self.words.chunks_exact(EVENT_BYTES).zip(&self.answers).enumerate();
+        answered.filter(|(_, (_, answer))| !answer.is_accepted()).map(|(at, (word, answer))| {
+            let word = [word[0], word[1], word[2], word[3]];
+            (at, format!("{}: {}", self.names.describe(at, word), trace::what_happened(Event::of(word), word, *answer)))
+        })
+    }
 }
 
 /// Plays, replaces store and state, hands out what was asked for, and then tells it.
@@ -74,37 +94,32 @@ pub fn run(words: &[String]) -> Outcome {
     let options = Options::of(words)?;
     options.check_files()?;
     // The list may come slowly, and the files are read when they are needed.
-    let words = match options.sheet {
-        true => sheet::read(options.events)?,
-        false => list::read(options.events, options.raw)?,
+    let list = match options.sheet {
+        true => List { words: sheet::read(options.events)?, ..List::default() },
+        false => list::read_named(options.events, options.raw)?,
     };
     if options.portions.is_none() {
-        list::check_length(options.events, &words)?;
+        list::check_length(options.events, &list.words)?;
+    }
+    if options.page.is_some() {
+        page::check_length(name_of(options.events), &list.words)?;
     }
     let expected = options.expect.map(expected::read).transpose()?;
-    let mut answers_to = options.answers.map(Output::open).transpose()?;
-    let mut picture_to = options.picture.map(Output::open).transpose()?;
-    let files = answers_to.iter().chain(&picture_to).filter_map(Output::file);
-    let files: Vec<&str> = std::iter::once(options.store).chain(options.state).chain(files).collect();
+    let mut outputs = Outputs::open(&options)?;
+    let files: Vec<&str> = std::iter::once(options.store).chain(options.state).chain(outputs.files()).collect();
     let alone = Alone::with(&files, options.wait)?;
     let (pair, kept) = Pair::read(options.store, options.state, options.dry)?;
-    let played = play(&options, pair.store.clone(), kept, words)?;
+    let before = kept.clone();
+    let played = play(&options, pair.store.clone(), kept, list)?;
     // All new content is on the disk before any file is replaced.
-    if let Some(output) = &mut answers_to {
-        output.stage(played.answers.iter().flat_map(|answer| answer.bytes()).collect())?;
-    }
-    if let Some(output) = &mut picture_to {
-        let Played { start, words, answers, history, .. } = &played;
-        output.stage(picture::draw(start, words, answers, history).into_bytes())?;
-    }
+    outputs.stage(&options, &played, (&pair.store, &before))?;
     if !options.dry {
         pair.replace(&played.store, &played.left)?;
     }
-    let mut outputs: Vec<Output> = answers_to.into_iter().chain(picture_to).collect();
-    let told = outputs.iter_mut().try_for_each(Output::put);
+    let told = outputs.put();
     // Nobody has to wait for the readers of the outputs.
     drop(alone);
-    let told = told.and_then(|()| outputs.iter_mut().try_for_each(Output::send));
+    let told = told.and_then(|()| outputs.send());
     told.and_then(|()| say(&report::text(&options, &played))).map_err(|failure| match options.dry {
         true => failure,
         false => failure.after(&format!("the list was played on {}, so don't play it again", options.store)),
@@ -121,16 +136,20 @@ fn verdict(options: &Options, played: &Played, expected: Option<&[Answer]>) -> O
     let refused = played.answers.iter().filter(|answer| !answer.is_accepted()).count();
     if options.strict && refused > 0 {
         let verb = if refused == 1 { "was" } else { "were" };
-        let reason = format!("{} {verb} refused", number_of(refused, "event"));
-        return Err(Failure::with(Status::EventRefused, &reason, "--trace tells why").and(kept));
+        let first = played.refusals().next().map(|(at, what)| format!("event {}, {what}", at + 1)).unwrap_or_default();
+        let reason = format!("{} {verb} refused; the first is {first}", number_of(refused, "event"));
+        return Err(Failure::with(Status::EventRefused, &reason, "--trace tells of each why").and(kept));
     }
     Ok(())
 }
 
-fn play(options: &Options, mut store: Store, mut left: Kept, words: Vec<u8>) -> Outcome<Played> {
-    let words = if options.sheet { sheet::led_in(&left.state, words)? } else { words };
+fn play(options: &Options, mut store: Store, mut left: Kept, list: List) -> Outcome<Played> {
+    let List { words, names } = list;
+    let mut words = if options.sheet { sheet::led_in(&left.state, words)? } else { words };
     let (start, earlier) = (Follower::of(&left.state, store.commit_page()), left.earlier());
-    let played = if options.portions.is_some() || options.state.is_some() || options.sheet {
+    let played = if !names.is_empty() {
+        names::play(&mut store, &mut left, &mut words, &names)
+    } else if options.portions.is_some() || options.state.is_some() || options.sheet {
         portions(&mut store, &mut left, &words, options.portions.unwrap_or(EVENTS))
     } else {
         store.play_words(&words)
@@ -140,7 +159,8 @@ fn play(options: &Options, mut store: Store, mut left: Kept, words: Vec<u8>) -> 
         _ => Failure::refused(&format!("the run was {refusal}"), "nothing was played, and no file was changed"),
     })?;
     let history = history(&earlier, &words, &answers)?;
-    Ok(Played { store, start, left, words, answers, history })
+    let names = Names::of(names, &answers);
+    Ok(Played { store, start, left, words, names, answers, history })
 }
 
 /// Plays the words, at most so many events at a time. No words are one empty portion, so that a state

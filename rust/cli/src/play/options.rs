@@ -4,7 +4,7 @@ use super::COMMAND;
 use crate::command::number;
 use crate::failure::{Failure, Outcome};
 use crate::files::{need_different, need_plain};
-use crate::picture;
+use crate::{page, picture};
 use nekahuiro::limits::EVENTS;
 use std::time::Duration;
 
@@ -18,6 +18,8 @@ pub struct Options<'w> {
     pub answers: Option<&'w str>,
     /// Where the picture goes.
     pub picture: Option<&'w str>,
+    /// Where the page goes.
+    pub page: Option<&'w str>,
     /// The state file.
     pub state: Option<&'w str>,
     /// The answers that should be given.
@@ -50,6 +52,7 @@ impl<'w> Options<'w> {
             events,
             answers: given.value("--answers"),
             picture: given.value("--picture"),
+            page: given.value("--page"),
             state: given.value("--state"),
             expect: given.value("--expect"),
             portions: given.value("--portions").map(portion_length).transpose()?,
@@ -64,6 +67,7 @@ impl<'w> Options<'w> {
 
     /// No file may be written that is read or written as something else.
     pub fn check_files(&self) -> Outcome {
+        self.page.map_or(Ok(()), page::check_name)?;
         need_plain(self.store, "store")?;
         self.state.map_or(Ok(()), |path| need_plain(path, "state file"))?;
         let events = if self.events == "-" { "/dev/stdin" } else { self.events };
@@ -73,6 +77,7 @@ impl<'w> Options<'w> {
             ("the expected answers", self.expect),
             ("the answers", self.answers),
             ("the picture", self.picture),
+            ("the page", self.page),
         ];
         files.extend(others.into_iter().filter_map(|(what, name)| Some((what, name?))));
         need_different(&files)?;

@@ -5,44 +5,67 @@ use crate::failure::visible;
 use crate::{number_of, show, trace};
 use nekahuiro::limits::EVENT_BYTES;
 use nekahuiro::Answer;
+use std::collections::BTreeMap;
 use std::fmt::Write;
+
+/// As many events of a refusal as are told.
+const SHOWN: usize = 8;
 
 /// The answers or the trace, and what came of it.
 pub fn text(options: &Options, played: &Played) -> String {
-    let Played { store, start, left, words, answers, history, .. } = played;
+    let Played { store, start, words, names, answers, history, .. } = played;
     let mut text = String::new();
     if options.trace {
-        text.push_str(&trace::tell(start, words, answers, history));
-    } else if options.answers.is_none() {
+        text.push_str(&trace::tell(start, words, names, answers, history));
+    } else if options.answers.is_none() && options.page.is_none() {
         for (word, answer) in words.chunks_exact(EVENT_BYTES).zip(answers) {
             let bits = u32::from_be_bytes([word[0], word[1], word[2], word[3]]);
             let _ = writeln!(text, "{bits:08X} {:02X}{:02X}", answer.number, answer.value);
         }
     }
-    let count = |wanted: fn(&Answer) -> bool| answers.iter().filter(|answer| wanted(answer)).count();
-    let (accepted, cut) = (count(|answer| answer.is_accepted()), count(|answer| answer.is_cut()));
-    let _ = writeln!(
-        text,
-        "{}: {} done, {} refused, {cut} cut by a crash; {}",
-        number_of(answers.len(), "event"),
-        accepted - cut,
-        answers.len() - accepted,
-        trace::fates(history),
-    );
-    if accepted < answers.len() && !options.trace {
-        let _ = writeln!(text, "why an event was refused: --trace tells it");
+    text.push_str(&counts(played));
+    if !options.trace {
+        text.push_str(&refusals(answers));
     }
     let open = (0..history.transactions.len()).any(|place| history.is_undecided(place));
     match options.state {
         Some(path) => {
-            let _ = writeln!(text, "{}: {}", visible(path), left.in_words());
+            let _ = writeln!(text, "{}: {}", visible(path), played.left.in_words());
         }
         None if open => text.push_str("what is live at the end isn't kept without --state\n"),
         None => {}
     }
     let _ = writeln!(text, "{}", show::commit_page(store));
+    if let Some(page) = options.page {
+        let _ = writeln!(text, "{}: the run to look at, in a browser", visible(page));
+    }
     if options.dry {
         let _ = writeln!(text, "a dry run: the store is left as it was, and so is the state file");
+    }
+    text
+}
+
+/// How many events were done, refused and cut, and what became of the transactions.
+fn counts(Played { answers, history, .. }: &Played) -> String {
+    let count = |wanted: fn(&Answer) -> bool| answers.iter().filter(|answer| wanted(answer)).count();
+    let (accepted, cut) = (count(|answer| answer.is_accepted()), count(|answer| answer.is_cut()));
+    let (events, refused) = (number_of(answers.len(), "event"), answers.len() - accepted);
+    let done = accepted - cut;
+    format!("{events}: {done} done, {refused} refused, {cut} cut by a crash; {}\n", trace::fates(history))
+}
+
+/// Each refusal in words, once, and where it was given.
+fn refusals(answers: &[Answer]) -> String {
+    let mut places: BTreeMap<u8, Vec<usize>> = BTreeMap::new();
+    for (at, answer) in (1..).zip(answers).filter(|(_, answer)| !answer.is_accepted()) {
+        places.entry(answer.number).or_default().push(at);
+    }
+    let mut text = String::new();
+    for (number, places) in places {
+        let shown: Vec<String> = places.iter().take(SHOWN).map(usize::to_string).collect();
+        let more = if places.len() > SHOWN { " and more" } else { "" };
+        let events = if places.len() == 1 { "event" } else { "events" };
+        let _ = writeln!(text, "{}: {events} {}{more}", Answer { number, value: 0 }, shown.join(", "));
     }
     text
 }

@@ -1,10 +1,10 @@
-//! A play that is killed leaves the old pair of store and state file, or the new one.
+//! A play or a put that is killed leaves the old pair of store and state file, or the new one.
 
 use crate::folder::Folder;
 use std::thread::sleep;
 use std::time::{Duration, Instant};
 
-/// Kills of each list.
+/// Kills of each list; half of that of a put.
 const KILLS: usize = 250;
 
 /// A store and a state file.
@@ -19,9 +19,11 @@ fn write(folder: &Folder, [store, state]: &Pair) {
     folder.write("state", state);
 }
 
-/// Kills plays of a list at random moments.
-fn kill(name: &str, list: &str, changes_store: bool) {
-    const PLAY: &str = "play store list --state state";
+/// What plays a list.
+const PLAY: &str = "play store list --state state";
+
+/// Kills a command at random moments.
+fn kill(kills: usize, name: &str, command: &str, list: &str, changes_store: bool) {
     let folder = Folder::new(&name.replace(' ', "-"));
     folder.run("fresh store");
     folder.write("start", "recover 63\nbegin none\nbegin none\nlock 0 3\nwrite 0 3 0 A5\nlock 1 5\nwrite 1 5 0 5A\n");
@@ -30,14 +32,14 @@ fn kill(name: &str, list: &str, changes_store: bool) {
     folder.run("play store start --state state");
     let old = read(&folder);
     let start = Instant::now();
-    folder.run(PLAY);
+    folder.run(command);
     let whole = start.elapsed().as_micros() as u64;
     let new = read(&folder);
     assert_eq!(old[0] != new[0], changes_store);
     let (mut chance, mut renewed, mut halfway) = (1u64, 0, 0);
-    for _ in 0..KILLS {
+    for _ in 0..kills {
         write(&folder, &old);
-        let mut child = folder.start(PLAY);
+        let mut child = folder.start(command);
         chance = chance.wrapping_mul(6364136223846793005).wrapping_add(1442695040888963407);
         sleep(Duration::from_micros((chance >> 33) % (whole + whole / 4)));
         child.kill().expect("a process to kill");
@@ -49,19 +51,24 @@ fn kill(name: &str, list: &str, changes_store: bool) {
         assert!(found == new || output.stdout.is_empty(), "told as done, and not done");
         renewed += usize::from(found == new);
     }
-    println!("kills of {name}: {KILLS}, new pair {renewed}, of these halfway {halfway}, old pair {}", KILLS - renewed);
+    println!("kills of {name}: {kills}, new pair {renewed}, of these halfway {halfway}, old pair {}", kills - renewed);
     // What kills leave over has one name for each file, and goes with the next play.
     write(&folder, &old);
-    folder.run(PLAY);
+    folder.run(command);
     assert_eq!(folder.names(), ["list", "nothing", "start", "state", "store"]);
 }
 
 #[test]
 fn kills_of_a_play_that_leaves_the_store() {
-    kill("a play that leaves the store", "write 0 3 1 11\nbegin 1\nlock 2 7\n", false);
+    kill(KILLS, "a play that leaves the store", PLAY, "write 0 3 1 11\nbegin 1\nlock 2 7\n", false);
 }
 
 #[test]
 fn kills_of_a_play_that_changes_the_store() {
-    kill("a play that changes the store", "commit 0 63\nbegin none\nlock 0 7\n", true);
+    kill(KILLS, "a play that changes the store", PLAY, "commit 0 63\nbegin none\nlock 0 7\n", true);
+}
+
+#[test]
+fn kills_of_a_put() {
+    kill(KILLS / 2, "a put", "put store 7 77 --state state", "", true);
 }

@@ -1,0 +1,90 @@
+//! `check STORE`: what page 0 says, and what a recover would do.
+
+use crate::command::Command;
+use crate::failure::{visible, Failure, Outcome};
+use crate::{files, number_of, say, show};
+use nekahuiro::limits::{COUNT_LIMIT, PAGE_BYTES, RECORDS};
+use nekahuiro::{page_writes, CommitPage, Event, Map, Page, Record, Refusal, Store};
+use std::fmt::Write;
+
+/// The command.
+pub const COMMAND: Command = Command {
+    name: "check",
+    names: &["STORE"],
+    options: &[],
+    summary: "what page 0 says, and what a recover would do",
+    help: "\
+Nothing is changed: the recover is played on a copy. The status is 4 if page 0 is damaged, or if it is no store.
+",
+    run,
+};
+
+/// Tells it, from page 0 and from a recover that is played on a copy.
+fn run(words: &[String]) -> Outcome {
+    let ([path], _) = COMMAND.read(words)?;
+    let store = files::read_store(path)?;
+    let mut after = store.clone();
+    let answers = after.play(&[Event::Recover { count: COUNT_LIMIT }]).map_err(|refusal| {
+        Failure::refused(&format!("{path}: {refusal}"), "name a store; `./nekahuiro fresh STORE` makes one")
+    })?;
+    let value = answers.first().map_or(0, |answer| answer.value);
+    let mut text = format!("{}\n{}\n", visible(path), show::commit_page(&store));
+    match store.commit_page() {
+        CommitPage::Empty => text.push_str("a recover has nothing to do, and writes no page\n"),
+        CommitPage::Committed(map) => {
+            let _ = writeln!(text, "a recover makes {}:", page_writes(value));
+            text.push_str(&home_pages(&store, &after, map));
+            text.push_str("  page 0 becomes empty\n");
+        }
+        CommitPage::Prepared(map, identity) => {
+            text.push_str("a recover has nothing to do, and writes no page\n");
+            let _ = writeln!(text, "`decide commit {identity}` would change:");
+            text.push_str(&home_pages(&store, &decided(&store, identity), map));
+            let _ = writeln!(text, "`decide abort {identity}` would leave the records as they are");
+        }
+        CommitPage::Damaged(why) => {
+            say(&text)?;
+            let reason = format!("{path}: {}: {why}; a recover is refused, and changes nothing", Refusal::Damaged);
+            return Err(Failure::refused(&reason, "restore it from a copy, or look at its pages with `show`"));
+        }
+    }
+    say(&text)
+}
+
+/// The store after the decision to commit.
+fn decided(store: &Store, identity: nekahuiro::Identity) -> Store {
+    let (mut after, count) = (store.clone(), COUNT_LIMIT);
+    // Nothing refuses it: page 0 is prepared with this identity.
+    let _ = after.play(&[Event::Recover { count }, Event::Decide { commit: true, count, identity }]);
+    after
+}
+
+/// What is copied home.
+fn home_pages(before: &Store, after: &Store, map: Map) -> String {
+    let mut text = String::new();
+    for record in map.records() {
+        let (old, new) = (before.page(home(record)), after.page(home(record)));
+        let from = 1 + usize::from(record.number());
+        let _ = writeln!(
+            text,
+            "  home page {} from intention page {from}: record {record}, {}",
+            home(record),
+            changes(&old, &new)
+        );
+    }
+    text
+}
+
+fn home(record: Record) -> usize {
+    1 + RECORDS + usize::from(record.number())
+}
+
+/// The bytes that differ.
+fn changes(old: &Page, new: &Page) -> String {
+    let differ: Vec<usize> = (0..PAGE_BYTES).filter(|at| old[*at] != new[*at]).collect();
+    match differ[..] {
+        [] => "which is as it was".to_string(),
+        [at] => format!("offset {at}: {:02X} becomes {:02X}", old[at], new[at]),
+        [first, .., last] => format!("{} from offset {first} to {last}", number_of(differ.len(), "changed byte")),
+    }
+}

@@ -1,0 +1,32 @@
+//! `get STORE RECORD`: a record's settled value.
+
+use crate::command::{digits, record, Command};
+use crate::failure::{Failure, Outcome};
+use crate::{files, say};
+use nekahuiro::{CommitPage, Refusal};
+
+/// The command.
+pub const COMMAND: Command = Command {
+    name: "get",
+    names: &["STORE", "RECORD"],
+    options: &[],
+    summary: "a record's 32 bytes in hex, as they are settled",
+    help: "\
+The settled value is what a power cut now would leave, once the store has recovered. `put` takes what `get` prints.
+",
+    run,
+};
+
+/// Prints 64 hex digits.
+fn run(words: &[String]) -> Outcome {
+    let ([path, number], _) = COMMAND.read(words)?;
+    digits("record", number)?;
+    let store = files::read_store(path)?;
+    let record = record(number)?;
+    if let CommitPage::Damaged(why) = store.commit_page() {
+        let reason = format!("{path}: {}, {why}, so it isn't known where records are settled", Refusal::Damaged);
+        return Err(Failure::refused(&reason, &format!("`./nekahuiro show {path}` shows the home pages")));
+    }
+    let hex: String = store.settled(record).iter().map(|byte| format!("{byte:02X}")).collect();
+    say(&format!("{hex}\n"))
+}

@@ -1,0 +1,51 @@
+//! An event in a sentence, for a reader who doesn't know how lists are written.
+
+use nekahuiro::limits::{COUNT_LIMIT, EVENT_BYTES};
+use nekahuiro::{page_writes, why_bad, Event, Transaction};
+
+/// What an event word asks for.
+pub fn of(word: [u8; EVENT_BYTES]) -> String {
+    let Some(event) = Event::of(word) else {
+        return format!("no event: {}", why_bad(word).unwrap_or_default());
+    };
+    match event {
+        Event::Begin { parent: Transaction::NONE } => "a top transaction begins".to_string(),
+        Event::Begin { parent } => format!("a child of transaction {parent} begins"),
+        Event::Lock { transaction, record } => {
+            format!("transaction {transaction} asks for record {record}, to read and to write")
+        }
+        Event::ReadLock { transaction, record } => {
+            format!("transaction {transaction} asks for record {record}, only to read")
+        }
+        Event::Write { transaction, record, offset, value } => {
+            format!("transaction {transaction} writes {value:02X} at offset {offset} of record {record}")
+        }
+        Event::Read { transaction, record, offset } => {
+            format!("transaction {transaction} reads the byte at offset {offset} of record {record}")
+        }
+        Event::Commit { transaction, count } => format!("transaction {transaction} commits{}", cut(count)),
+        Event::Abort { transaction, report: false } => format!("transaction {transaction} aborts"),
+        Event::Abort { transaction, report: true } => {
+            format!("transaction {transaction} aborts, and tells its parent why")
+        }
+        Event::Crash => "the power goes".to_string(),
+        Event::Recover { count } => format!("the store recovers{}", cut(count)),
+        Event::Prepare { transaction, count, identity } => {
+            format!("transaction {transaction} prepares under identity {identity}{}", cut(count))
+        }
+        Event::Decide { commit, count, identity } => {
+            let decision = if commit { "commit" } else { "abort" };
+            format!("the decision on identity {identity} is to {decision}{}", cut(count))
+        }
+        Event::Query { identity } => format!("is identity {identity} prepared?"),
+    }
+}
+
+/// Where the power goes, if it does.
+fn cut(count: u8) -> String {
+    match count {
+        COUNT_LIMIT => String::new(),
+        0 => "; the power goes before the first page write, if one is due".to_string(),
+        _ => format!("; the power goes after {}, if more are due", page_writes(count)),
+    }
+}
