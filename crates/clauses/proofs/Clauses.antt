@@ -133,13 +133,6 @@ share-decided above beneath held heldWriting retained retainedWriting t one e f 
     (decides-if (bits heldWriting t) (within-word retained above c)))
     (decides-if (bits retained t) (within-either retainedWriting above beneath d))))
 
--- a free number has nothing to be looked at
-pub free-share : {P : Type 0} (depth : List ℕ) (t : ℕ) → getD depth t 0 ≡ 0 → Decides true (0 < getD depth t 0 → P)
-free-share depth t e = record { yes = λ z h. absurd (omega arith); no = λ z f. true≢false z }
-
-pub live-share : {b : Bool} {P : Type 0} (depth : List ℕ) (t : ℕ) → 0 < getD depth t 0 → Decides b P → Decides b (0 < getD depth t 0 → P)
-live-share depth t h d = decides-as (λ p z. p) (λ f. f h) d
-
 -- what is read of a page as a map's, and as a prepared transaction's: whether it is empty, whether it is prepared and with which map
 empty-is : (o : Option ℕ) → (heard o .good && same (heard o .map) 0) ≡ isEmptied o
 unfolding heard isEmptied

@@ -22,6 +22,10 @@ decides-as f g d = record { yes = λ e. f (d .yes e); no = λ e q. d .no e (g q)
 pub decides-by : {a b : Bool} {P : Type 0} → a ≡ b → Decides b P → Decides a P
 decides-by e d = record { yes = λ h. d .yes (sym e ∙ h); no = λ h. d .no (sym e ∙ h) }
 
+-- what holds is decided without a test
+pub decides-true : {P : Type 0} → P → Decides true P
+decides-true p = record { yes = λ e. p; no = λ e q. true≢false e }
+
 pub decides-self : (b : Bool) → Decides b (b ≡ true)
 decides-self b = record { yes = λ e. e; no = λ e f. clash f e }
 
@@ -32,6 +36,11 @@ decides-not false = record { yes = λ e. refl; no = λ e f. true≢false e }
 pub decides-and : {a b : Bool} {P Q : Type 0} → Decides a P → Decides b Q → Decides (a && b) (P × Q)
 decides-and {a = true} d e = record { yes = λ h. (d .yes refl, e .yes h); no = λ h x. e .no h (x .1) }
 decides-and {a = false} d e = record { yes = λ h. absurd (false≢true h); no = λ h x. d .no refl (x .0) }
+
+-- the second test need decide only where the first statement holds
+pub decides-given : {a b : Bool} {P Q : Type 0} → Decides a P → (P → Decides b Q) → Decides (a && b) (P × Q)
+decides-given {a = true} d e = let p = d .yes refl in record { yes = λ h. (p, e p .yes h); no = λ h x. e p .no h (x .1) }
+decides-given {a = false} d e = record { yes = λ h. absurd (false≢true h); no = λ h x. d .no refl (x .0) }
 
 pub decides-or : {a b : Bool} {P Q : Type 0} → Decides a P → Decides b Q → Decides (a || b) (P ⊎ Q)
 decides-or {a} {b} {P} {Q} d e = record { yes = λ h. or-cases a b h (λ x. inl (d .yes x)) (λ x. inr (e .yes x)); no = λ h s. neither a b d e h s }

@@ -1,14 +1,15 @@
--- Two numbers with the same bits are the same; a number with no bit from place n on.
-use mathlib.Core.Path.{_≡_, refl, sym, ap, _∙_, fun-ext}
-use mathlib.Core.Bool.{Bool, true, false, true≢false}
+-- Two numbers with the same bits are the same; a number with no bit from place n on; one with a single bit at most.
+use mathlib.Core.Path.{_≡_, refl, sym, ap, ap₂, _∙_, fun-ext}
+use mathlib.Core.Bool.{Bool, true, false, _&&_, true≢false}
 use mathlib.Core.Logic.{dite}
 use native.Mathlib.Decide.{decLt}
 use native.Mathlib.Omega.{arith}
 use Prim.Native.Nat.{ℕ, zero, suc, _+_, _-_, _/_, _%_, _^_, _<_, _≤_}
+use lib.Bits.{bitAnd}
 use Rattle.laws.specs.Tests.{same}
 use Rattle.laws.specs.Bits.{bits}
-use Rattle.laws.proofs.Tests.{same?, Same, is, isnt}
-use Rattle.laws.proofs.Bits.{bits-zero, bits-over}
+use Rattle.laws.proofs.Tests.{same?, Same, is, isnt, same-eq}
+use Rattle.laws.proofs.Bits.{bits-zero, bits-suc, bits-over, bits-and}
 use Rattle.clauses.specs.Decides.{Decides}
 use Rattle.clauses.proofs.Decides.{decides-as, decides-same}
 
@@ -60,3 +61,23 @@ decides-numbered n s = decides-as below none (decides-bits (s / 2 ^ n) 0)
 
     none : ((k : ℕ) → bits s k ≡ true → k < n) → bits (s / 2 ^ n) ≡ bits 0
     none f = fun-ext (λ k. sym (bits-over s n k) ∙ off k (bits s (n + k)) refl f ∙ sym (bits-zero k))
+
+odd-less : (s u : ℕ) → s % 2 ≡ 1 → bits s (suc u) ≡ true → bits (s - 1) (suc u) ≡ true
+odd-less s u o b = let e : (s - 1) / 2 ≡ s / 2 = omega arith in bits-suc (s - 1) u ∙ ap (λ (x : ℕ). bits x u) e ∙ sym (bits-suc s u) ∙ b
+
+-- Where a number has a bit below place u, taking one away leaves the bit there.
+less-one : (u t s : ℕ) → t < u → bits s t ≡ true → bits s u ≡ true → bits (s - 1) u ≡ true
+less-one zero t s h a b = absurd (omega arith)
+less-one (suc u) zero s h a b = odd-less s u (same-eq (s % 2) 1 (sym (last s) ∙ a)) b
+less-one (suc u) (suc t) s h a b =
+    dite (decLt 0 (s % 2)) (λ lt. odd-less s u (omega arith) b)
+    (λ ge. let e : (s - 1) / 2 ≡ s / 2 - 1 = omega arith in
+        bits-suc (s - 1) u ∙ ap (λ (x : ℕ). bits x u) e ∙ less-one u t (s / 2) (omega arith) (sym (bits-suc s t) ∙ a) (sym (bits-suc s u) ∙ b))
+
+-- a number that has no bit in common with the one below it has one bit at most
+pub one-bit : (s t u : ℕ) → bitAnd s (s - 1) ≡ 0 → bits s t ≡ true → bits s u ≡ true → t ≡ u
+one-bit s t u e a b = dite (decLt t u) (λ lt. absurd (apart t u lt a b)) (λ ge. dite (decLt u t) (λ lt. absurd (apart u t lt b a)) (λ ge′. omega arith))
+  where
+    apart : (t u : ℕ) → t < u → bits s t ≡ true → bits s u ≡ true → ⊥
+    apart t u h a b =
+        true≢false (sym (ap₂ _&&_ b (less-one u t s h a b)) ∙ sym (bits-and s (s - 1) u) ∙ ap (λ (x : ℕ). bits x u) e ∙ bits-zero u)

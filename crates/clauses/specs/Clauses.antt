@@ -73,13 +73,25 @@ abbrev pub ShareOf : List ℕ → List ℕ → List ℕ → ℕ → ℕ → Type
 ShareOf line held retained t r =
     Share (sets line t) (λ u. sets line u t) (anyMode (sets held) r) (writeMode (sets held) r) (anyMode (sets retained) r) (writeMode (sets retained) r) t
 
--- what t has of each lock
+-- what each transaction has of the lock of record r
 abbrev pub SharesOf : List ℕ → List ℕ → List ℕ → ℕ → Type 0
-SharesOf line held retained t = (r : ℕ) → r < 16 → ShareOf line held retained t r
+SharesOf line held retained r = (t : ℕ) → t < transactions → ShareOf line held retained t r
 
--- what each live transaction has of each lock
-abbrev pub Shares : List ℕ → List ℕ → List ℕ → List ℕ → Type 0
-Shares depth line held retained = (t : ℕ) → t < transactions → 0 < getD depth t 0 → SharesOf line held retained t
+-- what each transaction has of each lock
+abbrev pub Shares : List ℕ → List ℕ → List ℕ → Type 0
+Shares line held retained = (r : ℕ) → r < 16 → SharesOf line held retained r
+
+-- t holds or retains the lock of record r
+unfoldable pub sharing : List ℕ → List ℕ → ℕ → ℕ → Bool
+sharing held retained r t =
+    ((anyMode (sets held) r t || writeMode (sets held) r t) || anyMode (sets retained) r t) || writeMode (sets retained) r t
+
+-- who has the lock of record r is on its own line
+abbrev pub LinedOf : List ℕ → List ℕ → List ℕ → ℕ → Type 0
+LinedOf line held retained r = (t : ℕ) → sharing held retained r t ≡ true → sets line t t ≡ true
+
+abbrev pub Lined : List ℕ → List ℕ → List ℕ → Type 0
+Lined line held retained = (r : ℕ) → r < 16 → LinedOf line held retained r
 
 -- nobody has the lock of record r, if a map names it
 abbrev pub UnlockedOf : ℕ → List ℕ → List ℕ → ℕ → Type 0

@@ -1,6 +1,6 @@
 // Whether the sets of one lock fit each other, and what one transaction has of it fits what others have.
 ghost use mathlib.Core.Path.{_≡_};
-ghost use mathlib.Core.Bool.{true};
+ghost use mathlib.Core.Bool.{true, false};
 ghost use Prim.Native.Nat.{ℕ, _<_};
 ghost use Rattle.laws.specs.Bits.{bits};
 ghost use Rattle.rules.specs.Geometry.{transactions};
@@ -59,4 +59,14 @@ pub fn is_share(
     let writer_beneath = !writes | below_all;
     let on_one_line = !retains | aligned;
     holder_beneath & writer_alone & writer_beneath & on_one_line
+}
+
+// More than one transaction is in the set.
+pub fn is_crowded(s: u32) -> bool
+    ensures { λ r. ⌜ (r ≡ false → (t u : ℕ) → bits s t ≡ true → bits s u ≡ true → t ≡ u) ⌝ }
+{
+    if s == 0 {
+        return false;
+    }
+    s & (s - 1) != 0
 }

@@ -1,44 +1,75 @@
--- What is beneath a transaction matters to its share of a lock only where it retains that lock: of another the clause on one line asks nothing.
--- So it is enough to know what is beneath those that retain some lock.
-use mathlib.Core.Path.{_≡_, sym, ap, subst, _∙_}
-use mathlib.Core.Bool.{Bool, true, _||_}
+-- What one transaction has of a lock, with less known than the clauses name: what is beneath it matters only where it retains the lock and some
+-- write-mode retainer isn't above it; who has nothing of the lock, and who alone has it, goes with all others.
+use mathlib.Core.Path.{_≡_, refl, sym, subst}
+use mathlib.Core.Bool.{Bool, true, false, not, _||_}
 use mathlib.Core.List.{List}
 use Prim.Native.Nat.{ℕ, _<_}
-use Rattle.laws.specs.Bits.{bits}
-use Rattle.laws.specs.Counting.{any}
-use Rattle.laws.proofs.Tests.{Is, is?, yes′, no′}
-use Rattle.laws.proofs.Booleans.{clash}
-use Rattle.laws.proofs.Counting.{any-false}
+use Rattle.laws.specs.Tests.{same}
+use Rattle.laws.specs.Counting.{all}
+use Rattle.laws.proofs.Tests.{Is, is?, yes′, no′, same-refl}
+use Rattle.laws.proofs.Booleans.{clash, or-left, or-right}
 use Rattle.sets.specs.Sets.{sets}
 use Rattle.arrays.specs.View.{anyMode, writeMode}
 use Rattle.clauses.specs.Decides.{Decides}
-use Rattle.clauses.specs.Clauses.{Within, Share, ShareOf}
-use Rattle.clauses.proofs.Decides.{decides-as}
-use Rattle.soundness.specs.Retaining.{retainersOf}
+use Rattle.clauses.specs.Clauses.{Within, Share, SharesOf, LinedOf, sharing}
+use Rattle.clauses.proofs.Decides.{decides-as, decides-within}
 
--- one passes: some do
-any-true : (n : ℕ) (p : ℕ → Bool) (k : ℕ) → k < n → p k ≡ true → any n p ≡ true
-any-true n p k h e = go (is? (any n p))
-  where
-    go : Is (any n p) → any n p ≡ true
-    go (yes′ q) = q
-    go (no′ q) = clash e (any-false n p k q h)
+module _ {above held heldWriting retained retainedWriting : ℕ → Bool} {t : ℕ} where
+  -- the sets beneath may differ but where t retains the lock and some write-mode retainer isn't above it
+  share-as : {f g : ℕ → Bool} → (retained t ≡ true → all 24 (λ k. not (retainedWriting k) || above k) ≡ false → f ≡ g)
+      → Share above f held heldWriting retained retainedWriting t → Share above g held heldWriting retained retainedWriting t
+  share-as {f} {g} alike S = record {
+    holder-beneath = S .holder-beneath;
+    writer-alone = S .writer-alone;
+    writer-beneath = S .writer-beneath;
+    on-one-line = λ e. go e (is? (all 24 (λ k. not (retainedWriting k) || above k)));
+  }
+    where
+      go : retained t ≡ true → Is (all 24 (λ k. not (retainedWriting k) || above k)) → Within retainedWriting (λ u. above u || g u)
+      go e (yes′ q) = λ u l w. or-left _ _ (decides-within {b = all 24 (λ k. not (retainedWriting k) || above k)} 24 retainedWriting above refl .yes q u l w)
+      go e (no′ q) = subst (λ (s : ℕ → Bool). Within retainedWriting (λ u. above u || s u)) (alike e q) (S .on-one-line e)
 
--- the sets beneath may differ where t doesn't retain the lock
-share-as : {above f g held heldWriting retained retainedWriting : ℕ → Bool} {t : ℕ} → (retained t ≡ true → f ≡ g)
-    → Share above f held heldWriting retained retainedWriting t → Share above g held heldWriting retained retainedWriting t
-share-as {above} {f} {g} {held} {heldWriting} {retained} {retainedWriting} {t} same S = record {
-  holder-beneath = S .holder-beneath;
-  writer-alone = S .writer-alone;
-  writer-beneath = S .writer-beneath;
-  on-one-line = λ e. subst (λ (s : ℕ → Bool). Within retainedWriting (λ u. above u || s u)) (same e) (S .on-one-line e);
+  pub share-beneath : {b : Bool} {f g : ℕ → Bool} → (retained t ≡ true → all 24 (λ k. not (retainedWriting k) || above k) ≡ false → f ≡ g)
+      → Decides b (Share above f held heldWriting retained retainedWriting t) → Decides b (Share above g held heldWriting retained retainedWriting t)
+  share-beneath alike d = decides-as (share-as alike) (share-as (λ e q. sym (alike e q))) d
+
+  -- who has nothing of the lock
+  pub share-none : {beneath : ℕ → Bool} → held t ≡ false → heldWriting t ≡ false → retained t ≡ false
+      → Share above beneath held heldWriting retained retainedWriting t
+  share-none h w m = record {
+    holder-beneath = λ e. clash e h;
+    writer-alone = λ e. clash e w;
+    writer-beneath = λ e. clash e w;
+    on-one-line = λ e. clash e m;
+  }
+
+-- whoever is in a set of the lock has it
+module _ (held retained : List ℕ) (r t : ℕ) where
+  by-held : anyMode (sets held) r t ≡ true → sharing held retained r t ≡ true
+  unfolding sharing
+  by-held e = or-left _ _ (or-left _ _ (or-left _ _ e))
+
+  by-held-writing : writeMode (sets held) r t ≡ true → sharing held retained r t ≡ true
+  unfolding sharing
+  by-held-writing e = or-left _ _ (or-left _ _ (or-right (anyMode (sets held) r t) _ e))
+
+  by-retained : anyMode (sets retained) r t ≡ true → sharing held retained r t ≡ true
+  unfolding sharing
+  by-retained e = or-left _ _ (or-right (anyMode (sets held) r t || writeMode (sets held) r t) _ e)
+
+  by-retained-writing : writeMode (sets retained) r t ≡ true → sharing held retained r t ≡ true
+  unfolding sharing
+  by-retained-writing e = or-right ((anyMode (sets held) r t || writeMode (sets held) r t) || anyMode (sets retained) r t) _ e
+
+-- who alone has it
+pub shares-alone : (line held retained : List ℕ) (r : ℕ) → LinedOf line held retained r
+    → ((t u : ℕ) → sharing held retained r t ≡ true → sharing held retained r u ≡ true → t ≡ u) → SharesOf line held retained r
+shares-alone line held retained r lined one t l = record {
+  holder-beneath = λ e u k f. itself u (by-held held retained r t e) (by-retained-writing held retained r u f);
+  writer-alone = λ e u k f. rw (one u t (by-held held retained r u f) (by-held-writing held retained r t e)) (same-refl t);
+  writer-beneath = λ e u k f. itself u (by-held-writing held retained r t e) (by-retained held retained r u f);
+  on-one-line = λ e u k f. or-left _ _ (itself u (by-retained held retained r t e) (by-retained-writing held retained r u f));
 }
-
-pub share-beneath : {b : Bool} (line held retained : List ℕ) (t r retaining beneath : ℕ) → r < 16 → bits retaining ≡ retainersOf retained
-    → (bits retaining t ≡ true → bits beneath ≡ (λ u. sets line u t))
-    → Decides b (Share (sets line t) (bits beneath) (anyMode (sets held) r) (writeMode (sets held) r) (anyMode (sets retained) r) (writeMode (sets retained) r) t)
-    → Decides b (ShareOf line held retained t r)
-share-beneath line held retained t r retaining beneath h among sought d = decides-as (share-as known) (share-as (λ e. sym (known e))) d
   where
-    known : anyMode (sets retained) r t ≡ true → bits beneath ≡ (λ u. sets line u t)
-    known e = sought (ap (λ (s : ℕ → Bool). s t) among ∙ any-true 16 (λ k. anyMode (sets retained) k t) r h e)
+    itself : (u : ℕ) → sharing held retained r t ≡ true → sharing held retained r u ≡ true → sets line t u ≡ true
+    itself u a b = rw (one u t b a) (lined t a)

@@ -1,4 +1,4 @@
--- The locks, each by itself and with each live transaction's share, are right exactly if holders, retainers and versions are as soundness asks.
+-- The locks, each by itself and with each transaction's share, are right exactly if holders, retainers and versions are as soundness asks.
 use mathlib.Core.Path.{_≡_, sym, ap, ap₂, _∙_}
 use mathlib.Core.Bool.{Bool, true, not, _||_, true≢false, Bool·not-not}
 use mathlib.Core.List.{List}
@@ -18,7 +18,7 @@ use Rattle.sets.proofs.Sets.{sets-past}
 use Rattle.arrays.specs.View.{bearersOf, anyMode, writeMode, Nested}
 use Rattle.arrays.proofs.View.{free-is, deep-is, some-is}
 use Rattle.arrays.proofs.Modes.{lock-is, writing-is}
-use Rattle.clauses.specs.Clauses.{Locks, ShareOf, Shares}
+use Rattle.clauses.specs.Clauses.{Entry, Locks, ShareOf, Shares, sharing, Lined}
 use Rattle.soundness.specs.Encoded.{stateOf}
 
 -- a set that isn't empty is one of the array's
@@ -57,7 +57,7 @@ module _ (parent depth line held retained writers : List ℕ) (lines : sets line
   on t u = ap (λ (f : ℕ → ℕ → Bool). f t u) lines
 
   module _ (h : length held ≡ 32) (m : length retained ≡ 32) (w : length writers ≡ 16)
-      (C : Locks (living depth) held retained writers) (D : Shares depth line held retained) where
+      (C : Locks (living depth) held retained writers) where
     -- whoever is in a set of one lock bears a transaction number
     held-low : (r t : ℕ) → r < 16 → anyMode (sets held) r t ≡ true → t < 24
     held-low r t k e = C r k .numbered t (or-left _ _ (or-left _ _ (or-left _ _ (or-left _ _ e))))
@@ -86,31 +86,45 @@ module _ (parent depth line held retained writers : List ℕ) (lines : sets line
     retains-writing : Nested (sets retained)
     retains-writing r t e = let k = write-range retained r t m e in C r k .retained-nested t (retained-writing-low r t k e) e
 
-    holder : (r t : ℕ) → anyMode (sets held) r t ≡ true → ShareOf line held retained t r
-    holder r t e = let k = any-range held r t h e in D t (held-low r t k e) (deep-is parent depth t (held-live r t e)) r k
+    -- whoever has a lock is live, and so on its own line
+    sharer-live : (r t : ℕ) → sharing held retained r t ≡ true → isActive (bearersOf parent depth t) ≡ true
+    unfolding sharing
+    sharer-live r t e =
+        or-cases _ (writeMode (sets retained) r t) e
+        (λ f. or-cases _ (anyMode (sets retained) r t) f
+        (λ g. or-cases (anyMode (sets held) r t) (writeMode (sets held) r t) g (held-live r t) (λ i. held-live r t (holds-writing r t i)))
+        (retained-live r t))
+        (λ f. retained-live r t (retains-writing r t f))
 
-    retainer : (r t : ℕ) → anyMode (sets retained) r t ≡ true → ShareOf line held retained t r
-    retainer r t e = let k = any-range retained r t m e in D t (retained-low r t k e) (deep-is parent depth t (retained-live r t e)) r k
+    pub sharers-lined : ((t : ℕ) → Entry parent depth line t) → Lined line held retained
+    sharers-lined E r k t e =
+        ap (λ (f : ℕ → Bool). f t) (E t .seated (deep-is parent depth t (sharer-live r t e)) .lined) ∙ or-right (sets line (getD parent t 0) t) _ (same-refl t)
 
-    pub locked-by : Locked parent depth held retained writers
+    holder : Shares line held retained → (r t : ℕ) → anyMode (sets held) r t ≡ true → ShareOf line held retained t r
+    holder D r t e = let k = any-range held r t h e in D r k t (held-low r t k e)
+
+    retainer : Shares line held retained → (r t : ℕ) → anyMode (sets retained) r t ≡ true → ShareOf line held retained t r
+    retainer D r t e = let k = any-range retained r t m e in D r k t (retained-low r t k e)
+
+    pub locked-by : Shares line held retained → Locked parent depth held retained writers
     unfolding inLine
-    locked-by = record {
+    locked-by D = record {
       holder-live = held-live;
       retainer-live = retained-live;
       held-nested = holds-writing;
       retained-nested = retains-writing;
       on-one-line = λ r t u e f.
-          sym (ap₂ _||_ (on u t) (on t u)) ∙ retainer r u f .on-one-line f t (retained-writing-low r t (write-range retained r t m e) e) e;
-      beneath = λ r t u e f. sym (on t u) ∙ holder r t e .holder-beneath e u (retained-writing-low r u (write-range retained r u m f) f) f;
-      one-holder = λ r t u e f. sym (same-eq u t (holder r t (holds-writing r t e) .writer-alone e u (held-low r u (any-range held r u h f) f) f));
+          sym (ap₂ _||_ (on u t) (on t u)) ∙ retainer D r u f .on-one-line f t (retained-writing-low r t (write-range retained r t m e) e) e;
+      beneath = λ r t u e f. sym (on t u) ∙ holder D r t e .holder-beneath e u (retained-writing-low r u (write-range retained r u m f) f) f;
+      one-holder = λ r t u e f. sym (same-eq u t (holder D r t (holds-writing r t e) .writer-alone e u (held-low r u (any-range held r u h f) f) f));
       beneath-writing = λ r t u e f.
-          sym (on t u) ∙ holder r t (holds-writing r t e) .writer-beneath e u (retained-low r u (any-range retained r u m f) f) f;
+          sym (on t u) ∙ holder D r t (holds-writing r t e) .writer-beneath e u (retained-low r u (any-range retained r u m f) f) f;
       by-lock = λ t r e. let k : r < 16 = let l = in-range writers r t e in omega arith in C r k .by-lock t (writers-low r t k e) e;
     }
 
-  pub shares-of : Locked parent depth held retained writers → Shares depth line held retained
+  pub shares-of : Locked parent depth held retained writers → Shares line held retained
   unfolding inLine
-  shares-of L t h d r k = record {
+  shares-of L r k t h = record {
     holder-beneath = λ e u l f. on t u ∙ L .beneath r t u e f;
     writer-alone = λ e u l f. rw (sym (L .one-holder r t u e f)) (same-refl t);
     writer-beneath = λ e u l f. on t u ∙ L .beneath-writing r t u e f;

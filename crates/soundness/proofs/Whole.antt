@@ -22,16 +22,16 @@ use Rattle.arrays.specs.View.{bearersOf, writeMode, Nested, slot, versionsOf}
 use Rattle.arrays.proofs.View.{depth-is, deep-is, active-is, idle-is, some-is}
 use Rattle.arrays.proofs.Modes.{lock-is, writing-is}
 use Rattle.clauses.specs.Decides.{Decides}
-use Rattle.clauses.specs.Clauses.{Entry, Entries, Locks, Shares, Unlocked, Phase}
+use Rattle.clauses.specs.Clauses.{Entry, Entries, Locks, Shares, Lined, Unlocked, Phase}
 use Rattle.soundness.specs.Encoded.{stateOf, Encoded, Sized}
-use Rattle.clauses.proofs.Decides.{decides-as, decides-and}
+use Rattle.clauses.proofs.Decides.{decides-as, decides-and, decides-given}
 use Rattle.soundness.proofs.Tree.{below, everywhere, tree-rooted, tree-lines, tree-parented, tree-shallow, entry-of}
-use Rattle.soundness.proofs.Locks.{living, Locked, in-range, locked-by, shares-of, locks-of, locked-of}
+use Rattle.soundness.proofs.Locks.{living, Locked, in-range, locked-by, sharers-lined, shares-of, locks-of, locked-of}
 
 -- the clauses, in the order of the code's tests
 abbrev Clauses : ℕ → List ℕ → List ℕ → List ℕ → List ℕ → List ℕ → List ℕ → List ℕ → Type 0
 Clauses up parent depth line held retained writers store =
-    ((Entries parent depth line × Locks (living depth) held retained writers) × Shares depth line held retained) × Phase up depth held retained store
+    ((Entries parent depth line × Locks (living depth) held retained writers) × Shares line held retained) × Phase up depth held retained store
 
 page-long : (work : List ℕ) (n : ℕ) → 32 * n + 32 ≤ length work → length (pagesOf work n) ≡ 32
 unfolding pagesOf
@@ -132,7 +132,12 @@ module _ (up : ℕ) (parent depth line held retained writers work store : List �
         record { flag = N .flag; idle = λ e t h. down-free S e t; calm = S .calm; reserved = unlocked-of (N .held-nested) (N .retained-nested) S },
       )
 
+  lined-by : Entries parent depth line × Locks (living depth) held retained writers → Lined line held retained
+  lined-by x =
+      let E = everywhere parent depth line (Z .parents) (Z .depths) (Z .lines) (x .0) in
+      sharers-lined parent depth line held retained writers (tree-lines parent depth line (Z .depths) E) (Z .helds) (Z .retaineds) (Z .writerss) (x .1) E
+
   pub whole-decided : {a b c d : Bool} → Decides a (Entries parent depth line) → Decides b (Locks (living depth) held retained writers)
-      → Decides c (Shares depth line held retained) → Decides d (Phase up depth held retained store)
+      → (Lined line held retained → Decides c (Shares line held retained)) → Decides d (Phase up depth held retained store)
       → Decides (((a && b) && c) && d) (Encoded up parent depth line held retained writers work store)
-  whole-decided a b c d = decides-as encoded-by clauses-of (decides-and (decides-and (decides-and a b) c) d)
+  whole-decided a b c d = decides-as encoded-by clauses-of (decides-and (decides-given (decides-and a b) (λ x. c (lined-by x))) d)

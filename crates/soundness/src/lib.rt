@@ -1,18 +1,18 @@
 // Whether any bytes in the engine's arrays encode a sound state. The results of the tests are joined at the end, so that there are few branches; what a
 // free number has of the locks isn't looked at, since holders and retainers are live.
 ghost use mathlib.Core.Path.{_≡_};
-ghost use mathlib.Core.Bool.{true};
+ghost use mathlib.Core.Bool.{true, false, not, _||_};
 ghost use mathlib.Core.List.{List};
 ghost use Prim.Native.Nat.{ℕ, _<_};
-ghost use lib.ListN.{length, getD};
+ghost use lib.ListN.{length};
+ghost use Rattle.laws.specs.Counting.{all};
 ghost use Rattle.laws.specs.Bits.{bits};
 ghost use Rattle.rules.specs.Editions.{workBytes};
 ghost use Rattle.rules.specs.Geometry.{transactions};
 ghost use Rattle.sets.specs.Sets.{sets};
 ghost use Rattle.clauses.specs.Decides.{Decides};
-ghost use Rattle.clauses.specs.Clauses.{Entries, Locks, SharesOf, Shares};
+ghost use Rattle.clauses.specs.Clauses.{Entries, Locks, Share, SharesOf, Shares, LinedOf, Lined};
 ghost use Rattle.soundness.specs.Encoded.{Encoded, Sized};
-ghost use Rattle.soundness.specs.Retaining.{retainersOf};
 
 // The parents, depths and lines are those of a tree of transactions.
 fn is_tree(parent: &[u8; 24], depth: &[u8; 24], line: &[u32; 24]) -> bool
@@ -48,87 +48,91 @@ fn are_locks(live: u32, held: &[u32; 32], retained: &[u32; 32], writers: &[u32; 
     ok
 }
 
-// The transactions that retain some lock.
-fn retainers(retained: &[u32; 32]) -> u32
-    ensures { λ m. ⌜ bits m ≡ retainersOf (now (retained .entry)) ⌝ }
-{
-    let mut m = 0u32;
-    for r in 0..16usize {
-        let any = 2 * r;
-        m = m | retained[any];
-    }
-    m
-}
-
-// The transactions at or beneath t, if it is among those retaining. What is beneath another matters to no clause, so it isn't sought.
-fn beneath_of(line: &[u32; 24], retaining: u32, t: u8) -> u32
+// The transactions at or beneath t, if it retains the lock and some write-mode retainer isn't at or above it. Elsewhere no clause asks for them,
+// so they aren't sought.
+fn beneath_of(line: &[u32; 24], above: u32, retained: u32, retained_writing: u32, t: u8) -> u32
     requires { ⌜ (t < 24) × (length (now line) ≡ 24) ⌝ }
-    ensures { λ m. ⌜ (bits retaining t ≡ true → bits m ≡ (λ u. sets (now (line .entry)) u t)) ⌝ }
+    ensures { λ m. ⌜ (bits retained t ≡ true → all transactions (λ k. not (bits «retained_writing» k) || bits above k) ≡ false → bits m ≡ (λ u. sets (now (line .entry)) u t)) ⌝ }
 {
-    if sets::contains(retaining, t) {
+    let retains = sets::contains(retained, t);
+    let below_writers = sets::within(retained_writing, above);
+    if retains & !below_writers {
         return transactions::descendants(line, t);
     }
     0
 }
 
-// What t has of each lock goes with what others have.
-fn are_shares_of(
+// What t has of one lock goes with what others have.
+fn is_share_of(
     line: &[u32; 24],
-    held: &[u32; 32],
-    retained: &[u32; 32],
-    retaining: u32,
+    held: u32,
+    held_writing: u32,
+    retained: u32,
+    retained_writing: u32,
     t: u8,
 ) -> bool
-    requires { ⌜ (t < 24) × (length (now line) ≡ 24) × (length (now held) ≡ 32) × (length (now retained) ≡ 32) × (bits retaining ≡ retainersOf (now retained)) ⌝ }
-    ensures { λ b. ⌜ Decides b (SharesOf (now (line .entry)) (now (held .entry)) (now (retained .entry)) t) ⌝ }
+    requires { ⌜ (t < 24) × (length (now line) ≡ 24) ⌝ }
+    ensures { λ b. ⌜ Decides b (Share (sets (now (line .entry)) t) (λ u. sets (now (line .entry)) u t) (bits held) (bits «held_writing») (bits retained) (bits «retained_writing») t) ⌝ }
 {
-    let above = line[t as usize];
-    let beneath = beneath_of(line, retaining, t);
+    if sets::contains(held | held_writing | retained, t) {
+        let above = line[t as usize];
+        let beneath = beneath_of(line, above, retained, retained_writing, t);
+        return shares::is_share(
+            above,
+            beneath,
+            held,
+            held_writing,
+            retained,
+            retained_writing,
+            t,
+        );
+    }
+    true
+}
+
+// What each transaction has of one lock goes with what others have.
+fn are_shares_of(
+    line: &[u32; 24],
+    held: u32,
+    held_writing: u32,
+    retained: u32,
+    retained_writing: u32,
+) -> bool
+    requires { ⌜ length (now line) ≡ 24 ⌝ }
+    ensures { λ b. ⌜ Decides b ((t : ℕ) → t < transactions → Share (sets (now (line .entry)) t) (λ u. sets (now (line .entry)) u t) (bits held) (bits «held_writing») (bits retained) (bits «retained_writing») t) ⌝ }
+{
     let mut ok = true;
-    for r in 0..16usize {
-        let any = 2 * r;
-        let writing = any + 1;
-        ok = ok
-            & shares::is_share(
-                above,
-                beneath,
-                held[any],
-                held[writing],
-                retained[any],
-                retained[writing],
-                t,
-            );
+    for t in 0..24u8 {
+        ok = ok & is_share_of(line, held, held_writing, retained, retained_writing, t);
     }
     ok
 }
 
-// The number t is free, or what its transaction has of each lock goes with what others have.
-fn are_shares_at(
-    depth: &[u8; 24],
-    line: &[u32; 24],
-    held: &[u32; 32],
-    retained: &[u32; 32],
-    retaining: u32,
-    t: u8,
-) -> bool
-    requires { ⌜ (t < 24) × (length (now depth) ≡ 24) × (length (now line) ≡ 24) × (length (now held) ≡ 32) × (length (now retained) ≡ 32) × (bits retaining ≡ retainersOf (now retained)) ⌝ }
-    ensures { λ b. ⌜ Decides b (0 < getD (now (depth .entry)) t 0 → SharesOf (now (line .entry)) (now (held .entry)) (now (retained .entry)) t) ⌝ }
+// The same of the lock of record r, with one look where a single transaction has it, or nobody: it goes with itself, being on its own line.
+fn are_shares_at(line: &[u32; 24], held: &[u32; 32], retained: &[u32; 32], r: usize) -> bool
+    requires { ⌜ (r < 16) × (length (now line) ≡ 24) × (length (now held) ≡ 32) × (length (now retained) ≡ 32) ⌝ }
+    ensures { λ b. ⌜ (LinedOf (now (line .entry)) (now (held .entry)) (now (retained .entry)) r → Decides b (SharesOf (now (line .entry)) (now (held .entry)) (now (retained .entry)) r)) ⌝ }
 {
-    if depth[t as usize] == 0 {
-        return true;
+    let any = 2 * r;
+    let writing = any + 1;
+    let h = held[any];
+    let hw = held[writing];
+    let m = retained[any];
+    let mw = retained[writing];
+    if shares::is_crowded(h | hw | m | mw) {
+        return are_shares_of(line, h, hw, m, mw);
     }
-    are_shares_of(line, held, retained, retaining, t)
+    true
 }
 
-// What each live transaction has of each lock goes with what others have.
-fn are_shares(depth: &[u8; 24], line: &[u32; 24], held: &[u32; 32], retained: &[u32; 32]) -> bool
-    requires { ⌜ (length (now depth) ≡ 24) × (length (now line) ≡ 24) × (length (now held) ≡ 32) × (length (now retained) ≡ 32) ⌝ }
-    ensures { λ b. ⌜ Decides b (Shares (now (depth .entry)) (now (line .entry)) (now (held .entry)) (now (retained .entry))) ⌝ }
+// What each transaction has of each lock goes with what others have, if who has one is on its own line.
+fn are_shares(line: &[u32; 24], held: &[u32; 32], retained: &[u32; 32]) -> bool
+    requires { ⌜ (length (now line) ≡ 24) × (length (now held) ≡ 32) × (length (now retained) ≡ 32) ⌝ }
+    ensures { λ b. ⌜ (Lined (now (line .entry)) (now (held .entry)) (now (retained .entry)) → Decides b (Shares (now (line .entry)) (now (held .entry)) (now (retained .entry)))) ⌝ }
 {
-    let retaining = retainers(retained);
     let mut ok = true;
-    for t in 0..24u8 {
-        ok = ok & are_shares_at(depth, line, held, retained, retaining, t);
+    for r in 0..16usize {
+        ok = ok & are_shares_at(line, held, retained, r);
     }
     ok
 }
@@ -150,7 +154,7 @@ pub fn is_sound(
     let tree = is_tree(parent, depth, line);
     let live = transactions::live_set(depth);
     let locks = are_locks(live, held, retained, writers);
-    let shares = are_shares(depth, line, held, retained);
+    let shares = are_shares(line, held, retained);
     let phase = phase::is_phase(up, depth, held, retained, store);
     tree & locks & shares & phase
 }

@@ -1,12 +1,19 @@
-//! The three lists of the benchmark: deep nesting, flat transactions, and a mixture with refusals.
+//! The lists of the benchmark: deep nesting, flat transactions, and a mixture with refusals. Each seed gives others of the
+//! same kind. They are no test of answers: home pages are hardly read.
 
 use crate::Rng;
 use nekahuiro::limits::{COUNT_LIMIT, DEPTH_LIMIT, EVENTS, RECORDS, TRANSACTIONS};
 use nekahuiro::{Fields, Transaction};
 
-/// The name and the words of each list, all of the greatest length.
+/// A list by its seed, of the greatest length.
+pub type Make = fn(u64) -> Vec<u8>;
+
+/// The kinds of lists, by name.
+pub const KINDS: [(&str, Make); 3] = [("deep", deep), ("flat", flat), ("mixed", mixed)];
+
+/// One list of each kind.
 pub fn all() -> [(&'static str, Vec<u8>); 3] {
-    [("deep", deep()), ("flat", flat()), ("mixed", mixed())]
+    KINDS.map(|(name, make)| (name, make(1)))
 }
 
 const NO_PARENT: u8 = Transaction::NONE.number();
@@ -44,8 +51,8 @@ fn words(mut list: Vec<Fields>) -> Vec<u8> {
 }
 
 /// Nest to the depth limit, working at each depth, then commit or abort back up.
-pub fn deep() -> Vec<u8> {
-    let (mut rng, mut list) = (Rng::new(1), vec![recover()]);
+pub fn deep(seed: u64) -> Vec<u8> {
+    let (mut rng, mut list) = (Rng::new(seed), vec![recover()]);
     while list.len() < EVENTS {
         for depth in 0..DEPTH_LIMIT as u8 {
             list.push(begin(if depth == 0 { NO_PARENT } else { depth - 1 }));
@@ -59,8 +66,8 @@ pub fn deep() -> Vec<u8> {
 }
 
 /// Eight top transactions side by side, then each commits or aborts.
-pub fn flat() -> Vec<u8> {
-    let (mut rng, mut list) = (Rng::new(2), vec![recover()]);
+pub fn flat(seed: u64) -> Vec<u8> {
+    let (mut rng, mut list) = (Rng::new(seed), vec![recover()]);
     while list.len() < EVENTS {
         for transaction in 0..8 {
             list.push(begin(NO_PARENT));
@@ -74,8 +81,8 @@ pub fn flat() -> Vec<u8> {
 }
 
 /// Random events with random numbers: many are refused.
-pub fn mixed() -> Vec<u8> {
-    let (mut rng, mut list) = (Rng::new(3), vec![recover()]);
+pub fn mixed(seed: u64) -> Vec<u8> {
+    let (mut rng, mut list) = (Rng::new(seed), vec![recover()]);
     while list.len() < EVENTS {
         let transaction = rng.below(TRANSACTIONS) as u8;
         let (record, offset) = (rng.below(RECORDS) as u8, rng.below(32) as u8);

@@ -13,13 +13,15 @@ pub struct Case {
     pub events: Vec<u8>,
 }
 
-/// A program that plays lists: the proved library, the ordinary player, or a copy with a bug.
+/// A program that plays lists: the proved library, the ordinary player, the tuned one, or a copy with a bug.
 #[derive(Clone, Copy, Debug, PartialEq, Eq)]
 pub enum Program {
     /// The proved library.
     Engine,
     /// The ordinary player.
     Player,
+    /// The player that is written to be quick.
+    Tuned,
     /// The ordinary player with a bug planted.
     Planted(Bug),
 }
@@ -46,6 +48,7 @@ impl Program {
         match self {
             Program::Engine => "engine",
             Program::Player => "player",
+            Program::Tuned => "tuned",
             Program::Planted(_) => "planted",
         }
     }
@@ -55,6 +58,7 @@ impl Program {
         match self {
             Program::Engine => nekahuiro::raw::run(store, events, work, answers),
             Program::Player => nekahuiro_player::run(store, events, work, answers),
+            Program::Tuned => nekahuiro_tuned::run(store, events, work, answers),
             Program::Planted(bug) => nekahuiro_player::run_with_bug(bug, store, events, work, answers),
         }
     }

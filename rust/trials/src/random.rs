@@ -18,7 +18,7 @@ pub fn case(seed: u64, number: u64) -> Case {
         case.store = Program::Player.play(&case, 0).store;
     }
     case.events = match rng.below(20_000) {
-        0 => timing::mixed(),
+        0 => timing::mixed(number),
         1 => (0..EVENTS * EVENT_BYTES).map(|_| rng.byte()).collect(),
         _ => random_list(&mut rng, &case),
     };

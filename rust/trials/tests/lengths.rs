@@ -25,7 +25,7 @@ fn due(store: usize, work: usize, events: usize, answers: usize) -> u8 {
 
 #[test]
 fn wrong_lengths_are_refused_in_order_and_touch_nothing() {
-    let list: Vec<u8> = timing::mixed().into_iter().chain([0; 8]).collect();
+    let list: Vec<u8> = timing::mixed(3).into_iter().chain([0; 8]).collect();
     for store in STORES {
         for work in WORKS {
             for events in LISTS {

@@ -54,7 +54,7 @@ fn a_chain_of_portions_is_longer_than_any_list() {
         let (mut joined, mut answers) = (Vec::new(), Vec::new());
         for number in 0..600 {
             let list = random::case(settings::seed() + 3, number).events;
-            let list = if number == 300 { timing::mixed() } else { list };
+            let list = if number == 300 { timing::mixed(3) } else { list };
             answers.extend(board.play(&list).unwrap());
             joined.extend(list);
         }

@@ -1,5 +1,6 @@
--- Who retains is looked beneath; of another nothing is promised.
-use mathlib.Core.Path.{sym, _∙_}
+-- Who retains the lock beside a write-mode retainer that isn't above it is looked beneath; of another nothing is promised.
+use mathlib.Core.Path.{ap₂, _∙_}
+use mathlib.Core.Bool.{Bool, not, _&&_}
 use borrow.Author.Needs.{needs}
 use Rattle.laws.proofs.Booleans.{clash}
 use Rattle.soundness.proofs.beneath_of.Statement.{statement}
@@ -7,19 +8,23 @@ use Rattle.soundness.proofs.beneath_of.Tie as tie
 use Rattle.soundness.proofs.beneath_of.Reads as reads
 use Rattle.soundness.proofs.beneath_of.Lts as lts
 use Rattle.sets.proofs.contains.Reads as contains-reads
+use Rattle.sets.proofs.within.Reads as within-reads
 use Rattle.transactions.proofs.descendants.Reads as descendants-reads
 
 contains-requires : tie.Need-contains-requires
 contains-requires c κs = search needs
 
+within-requires : tie.Need-within-requires
+within-requires c κs = search needs
+
 descendants-requires : tie.Need-descendants-requires
 descendants-requires c κs = search needs
 
 returns : tie.Need-returns
-returns c = λ e. c .descendants .ensures
+returns c = λ e q. c .descendants .ensures
 
 returns-2 : tie.Need-returns-2
-returns-2 c = λ e. clash e (sym (c .before .contains .ensures) ∙ c .if1 .left)
+returns-2 c = λ e q. clash (ap₂ (λ (a b : Bool). a && not b) (c .before .before .contains .ensures ∙ e) (c .before .within .ensures ∙ q)) (c .if1 .left)
 
 pub beneath-of-spec : {M : Type 1} → statement M
-beneath-of-spec = tie.close (tie.spec contains-requires descendants-requires returns returns-2)
+beneath-of-spec = tie.close (tie.spec contains-requires within-requires descendants-requires returns returns-2)
