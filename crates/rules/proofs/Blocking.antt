@@ -47,6 +47,9 @@ all-any (suc n) p q p′ q′ =
     ∙ ap (λ (x : Bool). x && not ((not (q n) && p n) || (not (q′ n) && p′ n))) (all-any n p q p′ q′)
     ∙ not-or (any n (λ u. (not (q u) && p u) || (not (q′ u) && p′ u))) ((not (q n) && p n) || (not (q′ n) && p′ n))
 
+and-none : (a b : Bool) → a ≡ false → (a && b) ≡ false
+and-none a b e = rw e
+
 module _ {S : Type 0} (s : State S) (a : Access) (t r : ℕ) where
   pub not-blocked : grantable a (s .held) (s .retained) (lineOf (s .bearer) t) t r ≡ not (any transactions (blocks s a t r))
   unfolding grantable holdersAllow retainersAllow blocks
@@ -58,7 +61,7 @@ module _ {S : Type 0} (s : State S) (a : Access) (t r : ℕ) where
   -- a row that is grantable points to nobody
   pub grantable-points-nowhere : grantable a (s .held) (s .retained) (lineOf (s .bearer) t) t r ≡ true → (u : ℕ) → waitsFor s a t r u ≡ false
   unfolding waitsFor
-  grantable-points-nowhere g u = any-of transactions _ (λ b l. ap (λ (x : Bool). x && ((not (mem u (lineOf (s .bearer) t)) && mem u (lineOf (s .bearer) b)) || same u b)) (grantable-unblocked g b l))
+  grantable-points-nowhere g u = any-of transactions _ (λ b l. and-none (blocks s a t r b) _ (grantable-unblocked g b l))
 
 -- nor does one whose lock is held already, in the mode that is asked for or a stronger one
 pub held-points-nowhere : {f : Form} {s : StateOf f} → Sound f s → (t r : ℕ) (a : Access) → allows a (s .held r t) ≡ true → (u : ℕ) → waitsFor s a t r u ≡ false

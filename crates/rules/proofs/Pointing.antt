@@ -1,7 +1,7 @@
 -- What the definitions of waiting come to. Who waits points to each that blocks it and to that one's ancestors off its own line; on its own line only
 -- to who blocks it. Every transaction points to its live children, whatever waits, and rows add up. Two transactions are a cycle exactly if they
 -- differ and point to each other. Refusals come in their order.
-use mathlib.Core.Path.{_≡_, refl, sym, _∙_, ap, subst}
+use mathlib.Core.Path.{_≡_, refl, sym, ap, subst}
 use mathlib.Core.Bool.{Bool, true, false, not, cond, _&&_, _||_}
 use mathlib.Core.List.{List, [], _∷_, _++_}
 use mathlib.Core.Option.{some, Option·none-ne-some}
@@ -28,11 +28,6 @@ module _ {S : Type 0} (s : State S) (a : Access) (w r : ℕ) where
   abbrev beneath : ℕ → ℕ → Bool
   beneath b u = mem u (lineOf (s .bearer) b)
 
-  pub waits-for-blocker : (b : ℕ) → b < transactions → blocks s a w r b ≡ true → waitsFor s a w r b ≡ true
-  unfolding waitsFor
-  waits-for-blocker b l e = any-one transactions (λ c. blocks s a w r c && ((not (own b) && beneath c b) || same b c)) b l
-      (and-both (blocks s a w r b) _ e (or-right (not (own b) && beneath b b) (same b b) (same-refl b)))
-
   pub waits-for-ancestor : (b u : ℕ) → b < transactions → blocks s a w r b ≡ true → beneath b u ≡ true → own u ≡ false → waitsFor s a w r u ≡ true
   unfolding waitsFor
   waits-for-ancestor b u l e up off = any-one transactions (λ c. blocks s a w r c && ((not (own u) && beneath c u) || same u c)) b l
@@ -45,6 +40,11 @@ module _ {S : Type 0} (s : State S) (a : Access) (w r : ℕ) where
       or-cases (not (own u) && beneath (c .at) u) (same u (c .at)) (and-right (blocks s a w r (c .at)) _ (c .is-so))
       (λ q. clash (and-left (not (own u)) (beneath (c .at) u) q) (ap not on))
       (λ q. subst (λ (x : ℕ). blocks s a w r x ≡ true) (sym (same-eq u (c .at) q)) (and-left (blocks s a w r (c .at)) _ (c .is-so)))
+
+  pub waits-for-blocker : (b : ℕ) → b < transactions → blocks s a w r b ≡ true → waitsFor s a w r b ≡ true
+  unfolding waitsFor
+  waits-for-blocker b l e = any-one transactions (λ c. blocks s a w r c && ((not (own b) && beneath c b) || same b c)) b l
+      (and-both (blocks s a w r b) _ e (or-right (not (own b) && beneath b b) (same b b) (same-refl b)))
 
 module _ {S : Type 0} (s : State S) (t u : ℕ) where
   pub points-to-child : (ws : List WaitingRow) → isChild s t u ≡ true → pointsTo s ws t u ≡ true

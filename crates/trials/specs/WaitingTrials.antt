@@ -3,14 +3,14 @@ use Prim.Native.Nat.{ℕ, suc}
 use mathlib.Core.Bool.{Bool, true, false, not, _&&_, _||_}
 use mathlib.Core.List.{List, [], _∷_, _++_}
 use mathlib.Core.Option.{Option, none, some}
-use lib.ListN.{length, replicate}
+use lib.ListN.{replicate}
 use Rattle.laws.specs.Tests.{same}
 use Rattle.laws.specs.Counting.{those}
 use Rattle.laws.specs.Bytes.{sameList}
-use Rattle.rules.specs.Event.{Event, begin, commit, crash, recover}
+use Rattle.rules.specs.Event.{begin, commit, crash, recover}
 use Rattle.rules.specs.State.{State, down}
 use Rattle.rules.specs.Form.{Medium}
-use Rattle.rules.specs.Step.{StateOf, firstOf}
+use Rattle.rules.specs.Step.{firstOf}
 use Rattle.rules.specs.Run.{answerBytes, Played, play}
 use Rattle.rules.specs.Waiting.{WaitingRow, Pointings, pointsTo, isCycle, reportRefusals}
 use Rattle.rules.specs.Editions.{edition1}

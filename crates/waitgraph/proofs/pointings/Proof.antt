@@ -1,11 +1,8 @@
 -- Row by row.
 use mathlib.Core.Path.{_≡_, sym, ap}
-use mathlib.Core.Bool.{_&&_}
 use Prim.Native.Nat.{_-_, _≤_}
 use native.Mathlib.Omega.{arith}
-use Rattle.laws.specs.Tests.{under}
 use Rattle.sets.specs.Sets.{sets}
-use Rattle.arrays.specs.Kin.{childIn}
 use Rattle.arrays.specs.Changes.{Rows}
 use Rattle.waitgraph.specs.Pointing.{childPoints, rowsIn}
 use Rattle.waitgraph.proofs.Reaching.{rows-none, rows-more, rows-as}

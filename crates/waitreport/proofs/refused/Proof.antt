@@ -1,0 +1,12 @@
+-- A refused report leaves the ring that came in.
+use mathlib.Core.Path.{refl}
+use Rattle.waitreport.proofs.refused.Statement.{statement}
+use Rattle.waitreport.proofs.refused.Tie as tie
+use Rattle.waitreport.proofs.refused.Reads as reads
+use Rattle.waitreport.proofs.refused.Lts as lts
+
+returns : tie.Need-returns
+returns c = (refl, refl)
+
+pub refused-spec : {M : Type 1} → statement M
+refused-spec = tie.close (tie.spec returns)
