@@ -42,6 +42,7 @@ use Rattle.rules.proofs.Held.{isPlain}
 use Rattle.events.specs.declared.Answer.{Answer}
 use Rattle.events.proofs.Reserves.{busy-is, changes-are, top-is, reserves-kept}
 use Rattle.commits.specs.Settling.{settling, settlingAt}
+use Rattle.events.proofs.Tops.{top-versions}
 use Rattle.events.proofs.Parents.{parent-there, parent-deep, parent-other, line-up}
 use Rattle.crashes.proofs.Falls.{zeros, zeros-down, zeros-formed, Fallen, fallen}
 
@@ -140,33 +141,19 @@ module _ (x : Arrays) (I : Intact x) (t : ℕ) (R : Ready x t) (childless : hasC
           (top-is x t (R .live) ∙ ne-false (d t) 1 h))
 
       module _ (top : d t ≡ 1) where
-        version-at : (r : ℕ) → Is (under r 16) → cond (sets (x .writers) r t) (some (pagesOf (x .work) (slot r (d t)))) none ≡ versionsIn m (x .work) r
-        unfolding versionsIn topSlot slot records
-        version-at r (yes′ e) =
-            let s : r * depths + (d t - 1) ≡ r * depths = omega arith in
-            rw e (ap₂ (λ (c : Bool) (n : ℕ). cond c (some (pagesOf (x .work) n)) none)
-            (sym (ap (λ (m : ℕ). named geometry1 m r) mapped ∙ named-mapOf geometry1 (λ r. sets (x .writers) r t) r (under-lt r 16 e))) s)
-        version-at r (no′ e) =
-            rw e (ap (λ (c : Bool). cond c (some (pagesOf (x .work) (slot r (d t)))) none)
-            (sets-past (x .writers) r t (let h = not-under r 16 e in let k = I .form .writerss in omega arith)))
-
-        versions : view x .version t ≡ versionsIn m (x .work)
-        unfolding view versionsOf
-        versions = fun-ext (λ r. version-at r (is? (under r 16)))
-
         -- a commit, and a prepare, of a top transaction
         commit-ends : (k : ℕ) → step edition1 (view x) (some (commit t k)) ≡ commitsTop edition1 (view x) t (commitAt geometry1 (pagesOf (x .store)) (versionsIn m (x .work)) k)
         unfolding view lineOf chain commits
         commit-ends k =
             commit-done edition1 (view x) t (up-is x (R .up)) (live-is x t (R .live)) k childless (rw (both-are ∙ q, and-false))
             ∙ ap (λ (n : ℕ). commits edition1 (view x) t k (chain b n t)) (depth-is (x .parent) (x .depth) t ∙ top)
-            ∙ ap (λ (v : ℕ → Option Page). commitsTop edition1 (view x) t (commitAt geometry1 (pagesOf (x .store)) v k)) versions
+            ∙ ap (λ (v : ℕ → Option Page). commitsTop edition1 (view x) t (commitAt geometry1 (pagesOf (x .store)) v k)) (top-versions x (I .form) t m mapped top)
 
         prepare-ends : (k j : ℕ) → step edition1 (view x) (some (prepare t k j)) ≡ commitsTop edition1 (view x) t (prepareAt geometry1 (pagesOf (x .store)) (versionsIn m (x .work)) j k)
         unfolding view
         prepare-ends k j =
             prepare-done edition1 (view x) t (up-is x (R .up)) (live-is x t (R .live)) k j childless (both-are ∙ q) (top-is x t (R .live) ∙ rw top (same-refl 1))
-            ∙ ap (λ (v : ℕ → Option Page). commitsTop edition1 (view x) t (prepareAt geometry1 (pagesOf (x .store)) v j k)) versions
+            ∙ ap (λ (v : ℕ → Option Page). commitsTop edition1 (view x) t (prepareAt geometry1 (pagesOf (x .store)) v j k)) (top-versions x (I .form) t m mapped top)
 
     -- either of them, by the code's tests
     pub settling-13 : (b : Bool) (k j : ℕ) → (b ≡ false → d t ≡ 1) → (not (same m 0) && not (same n 0)) ≡ true → Stepped x (some (settling b t k j)) (answer 13 0) x

@@ -23,7 +23,7 @@ use Rattle.rules.specs.Form.{atomic}
 use Rattle.rules.specs.Step.{refused, numberOf, valueOf, StateOf, Outcome, ended, raised, concluded, finished, begun, locked, wrote, aborted, retaining, refusals, refusal, commitsTop, commitsChild, commits, recovers, decides, act, step}
 use Rattle.rules.proofs.Cuts.{not-lt-under, commitDue, recoverDue, commit-length, recover-length}
 use Rattle.rules.proofs.Prepares.{prepareDue, prepare-length}
-use Rattle.rules.proofs.Acceptance.{refused-number, Judged, acts, refuses, judge?}
+use Rattle.rules.proofs.Acceptance.{refused-number, act-answer, accepted-acts, Judged, acts, refuses, judge?}
 use Rattle.device.specs.Plan.{carried, lesser, countOf, withCount, linePlan, decisionPlan, acceptedPlan, planBy, planOf, dueOf, writeAt, Planned}
 
 pub carried-is : (k : ℕ) (ws : List PageWrite) (m : Pages) → carried k ws m ≡ applied (take k ws) m
@@ -146,6 +146,17 @@ module _ (g : Geometry) (s : StateOf (atomic g)) where
   plan-refused : (e : Event) (n : ℕ) → refusal (atomic g) s e ≡ some n → planOf g s e ≡ []
   unfolding planOf planBy
   plan-refused e n q = rw q
+
+  -- by the outcome: what is answered with a refusal writes nothing, what isn't writes what is planned
+  pub refused-plan : (e : Event) (n : ℕ) → step (atomic g) s (some e) .answer ≡ refused n → planOf g s e ≡ []
+  refused-plan e n h = go (judge? (atomic g) s e)
+    where
+      go : Judged (atomic g) s e → planOf g s e ≡ []
+      go (acts q z) = absurd (act-answer (atomic g) s e n (sym (ap (λ (o : Outcome Pages). o .answer) z) ∙ h))
+      go (refuses m q z) = plan-refused e m q
+
+  pub accepted-plan : (e : Event) → ((n : ℕ) → step (atomic g) s (some e) .answer ≢ refused n) → planOf g s e ≡ acceptedPlan g s e
+  accepted-plan e h = plan-acts e (accepted-acts (atomic g) s e h .0)
 
   -- THE PLAN'S LAW, of a commit and of a recovery, for every count
   pub commit-planned : (t k : ℕ) → Planned k (planOf g s (commit t k)) (s .store) (step (atomic g) s (some (commit t k)))

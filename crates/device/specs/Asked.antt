@@ -2,7 +2,7 @@
 -- makes on this state if nothing cuts it. Nothing is played.
 use Prim.Native.Nat.{ℕ, suc}
 use mathlib.Core.Bool.{Bool, not}
-use mathlib.Core.List.{List, [], _∷_}
+use mathlib.Core.List.{List, [], _∷_, _++_}
 use mathlib.Core.Option.{Option, none, some}
 use lib.ListN.{length}
 use Rattle.laws.specs.Tests.{same}
@@ -30,15 +30,18 @@ module _ (g : Geometry) where
   planFor s none = []
   planFor s (some e) = planOf g s e
 
-  -- The refusals in the order in which they are tried. `sound` says what is found of what is lent as a state.
-  unfoldable pub askRefusals : Bool → List ℕ → List ℕ → List ℕ → List ℕ → List (ℕ × Bool)
-  askRefusals sound store event work write =
+  -- The refusals in the order in which they are tried: by the lengths of the buffers, and then 25. `sound` says what is found of what is lent as a
+  -- state.
+  unfoldable pub askLengths : List ℕ → List ℕ → List ℕ → List ℕ → List (ℕ × Bool)
+  askLengths store event work write =
       (22, not (same (length store) (atomicPages g .size))) ∷
       (24, not (same (length work) (workSize g))) ∷
       (20, not (same (length event) (wordSize g))) ∷
       (21, not (same (length write) (suc pageSize))) ∷
-      (25, not sound) ∷
       []
+
+  unfoldable pub askRefusals : Bool → List ℕ → List ℕ → List ℕ → List ℕ → List (ℕ × Bool)
+  askRefusals sound store event work write = askLengths store event work write ++ ((25, not sound) ∷ [])
 
   unfoldable pub askedBy : StateOf (atomic g) → List ℕ → ℕ → List ℕ → Option ℕ → Asked
   askedBy s event index write none = told (writeAt index (planFor s (decode g (number event)))) write
@@ -49,5 +52,5 @@ module _ (g : Geometry) where
 
 -- opens the definitions of this module: for what is proved by computing
 unfoldable pub open-asked : Unit {0}
-unfolding told planFor askRefusals askedBy asked
+unfolding told planFor askLengths askRefusals askedBy asked
 open-asked = tt
