@@ -8,24 +8,21 @@ use mathlib.Core.Option.{Option, none, some}
 use Prim.Native.Nat.{ℕ, suc, _+_, _-_, _*_, _≤_}
 use native.Mathlib.Omega.{arith}
 use lib.ListN.{length, getD}
-use Rattle.laws.specs.Tests.{same, under}
+use Rattle.laws.specs.Tests.{same}
 use Rattle.laws.specs.Bits.{bits}
-use Rattle.laws.proofs.Tests.{same?, Same, is, isnt, same-refl, same-eq, ne-false, Is, is?, yes′, no′, under-lt, not-under}
+use Rattle.laws.proofs.Tests.{same?, Same, is, isnt, same-refl, same-eq, ne-false, Is, is?, yes′, no′}
 use Rattle.laws.proofs.Booleans.{clash, or-cases, both, not-true, not-false}
-use Rattle.rules.specs.Geometry.{records}
-use Rattle.rules.specs.Store.{Page, Pages, pagesOf, mapOf, named}
+use Rattle.rules.specs.Store.{Page, Pages, pagesOf, mapOf}
 use Rattle.rules.specs.Event.{Event, commit, prepare}
 use Rattle.rules.specs.State.{Bearers, chain, lineOf, mem, live, down}
 use Rattle.rules.specs.Versions.{also, handedUp, dropped}
 use Rattle.rules.specs.Commit.{Cut, commitAt, prepareAt}
-use Rattle.rules.specs.Step.{done, refused, cut, hasChild, ended, passed, retaining, concluded, numberOf, valueOf, changes, busy, commitsTop, commitsChild, commits, step}
+use Rattle.rules.specs.Step.{done, cut, hasChild, ended, passed, retaining, concluded, numberOf, valueOf, changes, busy, commitsTop, commitsChild, commits, step}
 use Rattle.rules.specs.Sound.{inLine}
 use Rattle.rules.specs.Editions.{geometry1, edition1, depths, workBytes}
 use Rattle.rules.proofs.Locks.{rooted-of, no-child, versions-in-line, line-apart}
-use Rattle.rules.proofs.Map.{named-mapOf}
 use Rattle.rules.proofs.Soundness.{alone-closed}
 use Rattle.sets.specs.Sets.{sets}
-use Rattle.sets.proofs.Sets.{sets-past}
 use Rattle.arrays.specs.View.{Owners, bearersOf, modesOf, Nested, slot, versionsOf}
 use Rattle.arrays.specs.Changes.{leaving, heirsOf, inheriting, handed, Rows, places, cleared, Cleared}
 use Rattle.arrays.proofs.View.{depth-is}
@@ -33,7 +30,7 @@ use Rattle.arrays.proofs.Nested.{inheriting-nested}
 use Rattle.arrays.proofs.Modes.{leaving-discarded, inheriting-inherited}
 use Rattle.slots.specs.Parts.{lifted}
 use Rattle.slots.proofs.Lifting.{hit, miss-depth, miss-row}
-use Rattle.commit.specs.Phase.{Leaves, topSlot, versionsIn}
+use Rattle.commit.specs.Phase.{Leaves, versionsIn}
 use Rattle.events.specs.Whole.{Arrays, arrays, view, lineIn, Intact, saying, Stepped, Ready, Reserves}
 use Rattle.events.proofs.Rules.{commit-done, commit-busy, commit-refused, prepare-children, prepare-busy, prepare-beneath, prepare-done}
 use Rattle.events.proofs.Steps.{answer, stepped, finishes, unmoved, state-eq, up-is, live-is, wrote-is, depth-of, shallow, writer-deep}
