@@ -8,7 +8,6 @@ pub mod exhaustive;
 pub mod lent;
 pub mod listed;
 pub mod minimise;
-pub mod page_writes;
 pub mod portions;
 pub mod random;
 pub mod report;
