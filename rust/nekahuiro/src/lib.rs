@@ -105,3 +105,8 @@ pub use work::Work;
 #[cfg(doctest)]
 #[doc = include_str!("../../../README.md")]
 struct Readme;
+
+/// And those of the page on devices.
+#[cfg(doctest)]
+#[doc = include_str!("../../../docs/DEVICE.md")]
+struct Devices;
