@@ -96,19 +96,21 @@ static void recover_everywhere(uint32_t records, int due)
     int whole = 0;
 
     memcpy(first, medium, sizeof first);
-    for (long one = 0; !whole; one++) {
+    for (long one = 0; !whole && one <= PAGES; one++) {
         int again = 0;
 
         memcpy(medium, first, sizeof first);
         whole = start(one).number == NEKAHUIRO_DONE;
         memcpy(second, medium, sizeof second);
-        for (long other = 0; !again; other++) {
+        for (long other = 0; !again && other <= PAGES; other++) {
             memcpy(medium, second, sizeof second);
             again = start(other).number == NEKAHUIRO_DONE;
             check("the last recovery", start(-1).number, NEKAHUIRO_DONE);
             check("the records are of one change", seen(records), due);
         }
+        check("the second recovery ends", again, 1);
     }
+    check("the first recovery ends", whole, 1);
     memcpy(medium, first, sizeof first);
 }
 
