@@ -8,7 +8,7 @@
  * The exit status is 0 if all went well, 1 if the records are a mixture, 2 for a wrong call, 3 if the file can't be
  * read or written, 4 if it is no store or its page 0 is damaged, 5 if an event is refused. */
 
-#define _POSIX_C_SOURCE 200809L
+#define _XOPEN_SOURCE 700
 
 #include "nekahuiro_device.h"
 
@@ -44,13 +44,16 @@ static int program(void *medium, uint8_t page, const uint8_t *bytes)
     return written != NEKAHUIRO_PAGE_BYTES || fdatasync(file);
 }
 
-/* Opens the file. A new one has a name that outlasts the power only once its folder is on the disk too. */
+/* Opens the file, for this device alone. A new one has a name that outlasts the power only once its folder is on the
+ * disk too. */
 static int open_medium(char *name)
 {
     int file = open(name, O_RDWR | O_CREAT, 0644), folder;
 
     if (file < 0 || (folder = open(dirname(name), O_RDONLY)) < 0 || fsync(folder))
         stop(3, "the file can't be opened");
+    if (lockf(file, F_TLOCK, 0))
+        stop(3, "another device is at work on the file");
     close(folder);
     return file;
 }

@@ -2,7 +2,7 @@
  * differ, in page order. Killed at the wrong moment, it leaves a new time beside an old list: the test that kills
  * devices must find that. */
 
-#define _POSIX_C_SOURCE 200809L
+#define _XOPEN_SOURCE 700
 
 #include "nekahuiro_device.h"
 
