@@ -92,6 +92,12 @@ impl Flash {
         start.elapsed()
     }
 
+    /// A time in which it starts and makes a few refreshes, on this disk.
+    fn pace(&self) -> Duration {
+        let start = self.time(0);
+        2 * (start + self.time(10).saturating_sub(start) / 10)
+    }
+
     /// The refresh that all records are of, and what page 0 says; none where there is no store yet. Errors are mixtures.
     fn held(&self) -> Result<Option<(u32, CommitPage)>, String> {
         let mut bytes = fs::read(&self.medium).unwrap_or_default();
@@ -141,10 +147,10 @@ fn kills_lose_nothing_that_was_told_and_leave_no_mixture() {
     let folder = Folder::new("flash");
     let flash = Flash::new(&folder, "examples/c/flash.c");
     flash.time(1);
-    let refresh = flash.time(5) / 5;
-    let (mut rng, mut last, mut cut, mut begun) = (Rng::new(20), 6, 0, 0);
+    let pace = flash.pace();
+    let (mut rng, mut last, mut cut, mut begun) = (Rng::new(20), 11, 0, 0);
     for round in 0..KILLS {
-        let told = flash.killed(u32::MAX, part(&mut rng, refresh * 3));
+        let told = flash.killed(u32::MAX, part(&mut rng, pace));
         assert_eq!(told.status, None, "round {round}: it ended by itself");
         last = told.refresh.unwrap_or(last);
         let (found, page) = flash.held().unwrap_or_else(|text| panic!("round {round}: {text}")).expect("a store");
@@ -185,10 +191,9 @@ fn pages_in_another_order_are_found_to_mix() {
     let folder = Folder::new("flash-page-order");
     let flash = Flash::new(&folder, "tests/c/page_order.c");
     flash.time(1);
-    let refresh = flash.time(5) / 5;
-    let mut rng = Rng::new(22);
+    let (pace, mut rng) = (flash.pace(), Rng::new(22));
     let found = (1..=KILLS).find_map(|round| {
-        flash.killed(u32::MAX, part(&mut rng, refresh * 3));
+        flash.killed(u32::MAX, part(&mut rng, pace));
         flash.held().err().map(|text| (round, text))
     });
     let (round, text) = found.expect("a mixture");

@@ -20,7 +20,7 @@ fn word(bytes: &[u8]) -> [u8; EVENT_BYTES] {
 
 #[test]
 fn random_lists_event_by_event() {
-    let lists = settings::lists() / 200;
+    let lists = settings::lists() / 400;
     let (events, writes) = (AtomicU64::new(0), AtomicU64::new(0));
     let failure = share(lists, |number| {
         let mut rng = rng(41, number);
@@ -125,7 +125,7 @@ fn every_map() {
             };
             // Every cut of each would take long.
             let event_word = word(&listed::words(event));
-            let found = if number % 16 == 0 { check(&board, event_word) } else { told(&board, event_word) };
+            let found = if number % 64 == 0 { check(&board, event_word) } else { told(&board, event_word) };
             match found.map(|writes| writes.len()) {
                 Ok(found) if found == due => {}
                 other => return Err(format!("map {map:04X}, {event}: {other:?}, and {due} are due")),
