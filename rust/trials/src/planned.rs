@@ -2,7 +2,7 @@
 //! run with that count.
 
 use crate::portions::Board;
-use nekahuiro::limits::{ANSWER_BYTES, EVENT_BYTES, PAGES, PAGE_BYTES, PAGE_WRITE_BYTES, RECORDS};
+use nekahuiro::limits::{ANSWER_BYTES, COUNT_LIMIT, EVENT_BYTES, PAGES, PAGE_BYTES, PAGE_WRITE_BYTES, RECORDS};
 use nekahuiro::{raw, Fields, PageWrite, State, Work, CUT};
 use nekahuiro_lists::stores::Bytes;
 use nekahuiro_player::event::uncut;
@@ -65,10 +65,11 @@ pub fn check(board: &Board, word: [u8; EVENT_BYTES]) -> Result<Vec<PageWrite>, S
     if writes.len() > 2 * RECORDS + 2 || writes.iter().any(|write| usize::from(write.page) >= PAGES) {
         return Err(format!("no such page writes can be: {writes:02X?}"));
     }
-    let has_count = uncut(word) != word || Fields::of(word).count != 0;
-    for count in 0..=writes.len() + 1 {
-        let cut = Fields { count: count as u8, ..Fields::of(word) }.word();
-        check_cut(board, if has_count { cut } else { word }, &writes, count)?;
+    // Only what has a count can be cut, and beyond the last page write every count is the same.
+    let has_count = matches!(Fields::of(word).kind, 5 | 8 | 9 | 10);
+    let counts = if writes.is_empty() { 0..=1 } else { 0..=COUNT_LIMIT };
+    for count in counts.filter(|_| has_count) {
+        check_cut(board, Fields { count, ..Fields::of(word) }.word(), &writes, count.into())?;
     }
     check_cut(board, uncut(word), &writes, writes.len())?;
     Ok(writes)

@@ -2,12 +2,13 @@
 //! against the library's own run with that count, for every count.
 
 use nekahuiro::limits::{EVENT_BYTES, PAGE_WRITE_BYTES, RECORDS, STORE_BYTES, WORK_BYTES};
-use nekahuiro::{raw, Event, Fields, State, Store, Work};
+use nekahuiro::{raw, Fields, Refusal, State, Store, Work};
 use nekahuiro_lists::stores::{self, Bytes};
 use nekahuiro_lists::Rng;
 use nekahuiro_player::planted::Bug;
 use nekahuiro_player::store::Store as PlayersStore;
 use nekahuiro_player::Player;
+use nekahuiro_trials::exhaustive::{CRASHING, NESTED, PREPARING};
 use nekahuiro_trials::planned::{check, plan, told};
 use nekahuiro_trials::portions::{rng, share, Board};
 use nekahuiro_trials::states::{any_state, mutate};
@@ -89,6 +90,27 @@ fn lent_states_that_no_list_leads_to() {
     });
     assert_eq!(failure, None, "seed {}", settings::seed());
     println!("lent states with page writes told: {sound:?} sound, {refused:?} refused");
+}
+
+#[test]
+fn short_lists_event_by_event() {
+    let prefix = listed::words("recover 63, begin none, lock 0 0, write 0 0 0 11");
+    let length = settings::length(3) as u32;
+    for family in [NESTED, CRASHING, PREPARING].map(listed::words) {
+        let letters = (family.len() / EVENT_BYTES) as u64;
+        let failure = share(letters.pow(length), |number| {
+            let mut board = Board::new(stores::fresh(), &mut Rng::new(24));
+            board.play(&prefix)?;
+            for place in 0..length {
+                let letter = (number / letters.pow(place) % letters) as usize;
+                let event = &family[letter * EVENT_BYTES..][..EVENT_BYTES];
+                check(&board, word(event)).map_err(|text| format!("{event:02X?}: {text}"))?;
+                board.play(event)?;
+            }
+            Ok(())
+        });
+        assert_eq!(failure, None);
+    }
 }
 
 /// A state with one top transaction that has a version of each record in the map.
@@ -201,18 +223,22 @@ fn wrong_plans_are_found() {
     }
 }
 
+/// Intention pages, the commit page, home pages, the commit page as empty; told by the wrapper.
 #[test]
-fn the_wrapper_tells_the_same() {
+fn the_page_writes_of_a_refresh() {
     let (mut store, mut state, mut work) = (Store::fresh(), State::new(), Work::new());
-    let events: Vec<Event> =
-        ["recover 63", "begin none", "lock 0 3", "write 0 3 2 A5"].map(|e| e.parse().unwrap()).into();
-    store.portion(&mut state, &mut work, &events).unwrap();
-    let commit: Event = "commit 0 0".parse().unwrap();
-    let told = store.page_writes(&state, &work, commit.word()).unwrap();
-    assert_eq!(told, plan(&state, store.bytes(), &work, commit.word()).unwrap());
-    assert_eq!(told.iter().map(|write| write.page).collect::<Vec<_>>(), [4, 0, 20, 0]);
-    assert_eq!(told[1].bytes[..4], [0x15, 0x10, 0, 0x08]);
-    assert_eq!(store.page_writes(&state, &work, [0; 4]), Ok(vec![]));
+    let list = "recover 63, begin none, lock 0 3, write 0 3 0 07, lock 0 9, write 0 9 0 08";
+    store.portion_words(&mut state, &mut work, &listed::words(list)).unwrap();
+    let told = |state: &State, event: &str| store.page_writes(state, &work, word(&listed::words(event)));
+    let pages = |event: &str| told(&state, event).unwrap().iter().map(|write| write.page).collect::<Vec<_>>();
+    assert_eq!(pages("commit 0 63"), [4, 10, 0, 20, 26, 0]);
+    assert_eq!(pages("commit 0 0"), [4, 10, 0, 20, 26, 0]);
+    assert_eq!(pages("prepare 0 63 5"), [4, 10, 0]);
+    assert_eq!(pages("recover 63"), []);
+    assert_eq!(pages("00000000"), []);
+    let commit = told(&state, "commit 0 63").unwrap();
+    assert_eq!(commit[2].bytes[..4], [0x15, 0x10, 0x40, 0x10]);
+    assert_eq!((commit[0].bytes[0], commit[4].bytes[0], commit[5].bytes[0]), (7, 8, 0x10));
     state.spare[0] = 1;
-    assert_eq!(store.page_writes(&state, &work, commit.word()), Err(nekahuiro::Refusal::State));
+    assert_eq!(told(&state, "commit 0 63"), Err(Refusal::State));
 }
