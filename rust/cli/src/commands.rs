@@ -2,13 +2,14 @@
 
 use crate::command::Command;
 use crate::failure::{visible, Failure, Outcome};
-use crate::{age, bench, demo, depot, encode, fresh, help, play, show};
+use crate::{age, bench, demo, depot, encode, fresh, help, plan, play, show};
 
 /// All commands.
 pub const ALL: &[Command] = &[
     demo::COMMAND,
     fresh::COMMAND,
     play::COMMAND,
+    plan::COMMAND,
     show::COMMAND,
     age::COMMAND,
     depot::COMMAND,

@@ -17,6 +17,7 @@ mod list;
 mod output;
 mod pair;
 mod picture;
+mod plan;
 mod play;
 mod show;
 mod staged;
