@@ -159,13 +159,14 @@ extern "C" {
 #define NEKAHUIRO_NOT_HELD 9       /* read without holding the lock, or write without holding it to write */
 #define NEKAHUIRO_LIVE_CHILD 10    /* commit or prepare with a live child */
 #define NEKAHUIRO_CUT 11           /* no refusal: cut by a crash in commit, recover, prepare or decide */
+#define NEKAHUIRO_NO_SUCH_WRITE 12 /* of nekahuiro_page_write alone: the event makes no such page write */
 #define NEKAHUIRO_ONE_PREPARED 13  /* prepare or top commit with a changed record, and one is prepared */
 #define NEKAHUIRO_CHILD_AT_WORK 14 /* lock, read or write by a transaction with a live child */
 #define NEKAHUIRO_NOT_TAKEN 27     /* prepare by a child; in nekahuiro_depot: no such turn */
 
 /* Refusals of a whole call: no buffer is touched. */
-#define NEKAHUIRO_BAD_LIST 20      /* events_size isn't a multiple of 4, or above 16384 */
-#define NEKAHUIRO_SHORT_ANSWERS 21 /* answers_size is below two bytes an event */
+#define NEKAHUIRO_BAD_LIST 20      /* events_size isn't a multiple of 4, or above 16384; event_size isn't 4 */
+#define NEKAHUIRO_SHORT_ANSWERS 21 /* answers_size is below two bytes an event; write_size isn't 33 */
 #define NEKAHUIRO_BAD_STORE 22     /* store_size isn't NEKAHUIRO_STORE_BYTES */
 #define NEKAHUIRO_BAD_RECORD 23    /* the record, or that of a waiting row, is above 15 */
 #define NEKAHUIRO_BAD_WORK 24      /* work_size isn't NEKAHUIRO_WORK_BYTES */
@@ -273,6 +274,30 @@ typedef struct nekahuiro_ring {
  * transaction isn't live, 23, 1, the mode is above 1. State and rows are only read. */
 uint8_t nekahuiro_waiting(const nekahuiro_state *state, const nekahuiro_row *rows, size_t count,
                           nekahuiro_ring *ring);
+
+/* The page writes of an event, one by one, before it is played
+ *
+ * A portion changes a copy of the store in memory. A medium is brought along by the page writes of each
+ * commit, recover, prepare and decide in their order: number 0, then 1, until there is none; then the
+ * event is played with count 63. Wherever the power goes among them, the medium holds what the same
+ * event with that count leaves: read back, it recovers with no mixture and nothing lost that was
+ * committed. The same pages in another order are no such thing.
+ *
+ *   state, store, work  read only: as they stand before the event is played
+ *   event               read only: one event word; its count is left aside
+ *   index               the number of the page write, from 0
+ *   write               NEKAHUIRO_PAGE_WRITE_BYTES: the page's number, then its 32 bytes
+ *
+ * Answers 0 and writes the page write; or 12 with nothing written where the event makes no such page
+ * write: it makes fewer, is refused, or is of a kind that makes none. Else, tried in this order and with
+ * nothing written: 22, 24, 20, 21, 25. Nothing is played, and nothing but `write` is ever written.
+ */
+#define NEKAHUIRO_PAGE_WRITE_BYTES 33
+uint8_t nekahuiro_page_write(const nekahuiro_state *state,
+                             const uint8_t *store, size_t store_size,
+                             const uint8_t *event, size_t event_size,
+                             const uint8_t *work, size_t work_size,
+                             uint8_t index, uint8_t *write, size_t write_size);
 
 /* Lays down a fresh store: an empty commit page and zeros elsewhere.
  * Answers 0, or 22 with nothing written. */

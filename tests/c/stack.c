@@ -79,6 +79,32 @@ static uint8_t play_nested(void)
                              sizeof answers);
 }
 
+/* A transaction that has written all records, ready to commit. */
+static size_t make_writer(void)
+{
+    size_t at = 0;
+
+    put(at++, 0x80003F00);
+    put(at++, 0x1F800000);
+    for (uint32_t r = 0; r < NEKAHUIRO_RECORDS; r++) {
+        put(at++, 0x20000000 | r << 19);
+        put(at++, 0x30000055 | r << 19);
+    }
+    return at;
+}
+
+/* How many page writes its commit makes. */
+static unsigned page_writes(void)
+{
+    static const uint8_t commit[NEKAHUIRO_EVENT_BYTES] = {0x50, 0, 0x3F, 0};
+    uint8_t write[NEKAHUIRO_PAGE_WRITE_BYTES], index = 0;
+
+    while (nekahuiro_page_write(&state, store, sizeof store, commit, sizeof commit, work, sizeof work, index, write,
+                                sizeof write) == 0)
+        index++;
+    return index;
+}
+
 static void *nothing(void *unused)
 {
     return unused;
@@ -105,6 +131,11 @@ static void *calls(void *unused)
              && nekahuiro_vote(NEKAHUIRO_QUERY, 0, 1) == NEKAHUIRO_YES && play_nested() == 0
              && nekahuiro_waiting(&state, rows, NEKAHUIRO_ROWS, &ring) == 0 && ring.length == NEKAHUIRO_DEPTH_LIMIT
              && nekahuiro_sheet(sheet, sizeof sheet - 1, list, sizeof list, &told) == 0;
+    length = make_writer();
+    played = played
+             && nekahuiro_portion(&state, store, sizeof store, events, length * NEKAHUIRO_EVENT_BYTES, work, sizeof work,
+                                  answers, sizeof answers) == 0
+             && page_writes() == 2 * NEKAHUIRO_RECORDS + 2;
     return unused;
 }
 

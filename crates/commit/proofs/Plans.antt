@@ -15,7 +15,7 @@ use Rattle.laws.proofs.Those.{those-same, those-none}
 use Rattle.rules.specs.Geometry.{Geometry, records}
 use Rattle.rules.specs.Store.{Page, Pages, intention, home, mapOf, named, commitPage, readCommit, mapIn, isNamed}
 use Rattle.rules.specs.Versions.{isSome, else}
-use Rattle.rules.specs.Commit.{PageWrite, sets, applied, cutAt, pageIn, intentions, homes, marks, commitWrites, recoverWrites, commitAt, recoverAt}
+use Rattle.rules.specs.Commit.{PageWrite, sets, applied, cutAt, pageIn, intentions, homes, marks, commitWrites, recoverWrites, commitPlan, recoverPlan, commitAt, recoverAt}
 use Rattle.rules.proofs.Cuts.{not-lt-under}
 use Rattle.rules.proofs.Map.{mapOf-named, mapOf-same, named-zero, names-none}
 use Rattle.rules.proofs.Members.{those-all}
@@ -92,21 +92,24 @@ module _ (map : ℕ) (work : List ℕ) where
   unfolding homes sweep home copies records
   homes-are = sweep-same 16 (named geometry1 map) _ _ (λ r lt e. ap₂ sets (omega arith) (page-is map work r lt e))
 
-  plan-is : map < 2 ^ 16 → map ≢ 0
-      → commitWrites geometry1 (pageIn (versionsIn map work)) (mapOf geometry1 (λ r. isSome (versionsIn map work r))) (those (records geometry1) (λ r. isSome (versionsIn map work r)))
+  pub commit-is : map < 2 ^ 16 → map ≢ 0
+      → commitPlan geometry1 (versionsIn map work)
       ≡ (sweep (named geometry1 map) (copies 1 (topSlot work)) 16 ++ ((marks geometry1 map ∷ []) ++ sweep (named geometry1 map) (copies 17 (topSlot work)) 16)) ++ (marks geometry1 0 ∷ [])
-  plan-is small h =
+  commit-is small h =
       ap₂ (commitWrites geometry1 (pageIn (versionsIn map work))) (map-is small) those-is
       ∙ commit-some geometry1 (pageIn (versionsIn map work)) map (those 16 (named geometry1 map)) (some-named map small h)
       ∙ ap₂ (λ (a b : List PageWrite). (a ++ ((marks geometry1 map ∷ []) ++ b)) ++ (marks geometry1 0 ∷ [])) intentions-are homes-are
 
   -- a commit of no record
+  pub commit-nothing : map ≡ 0 → commitPlan geometry1 (versionsIn map work) ≡ []
+  unfolding commitWrites
+  commit-nothing e =
+      ap (commitWrites geometry1 (pageIn (versionsIn map work)) (mapOf geometry1 (λ r. isSome (versionsIn map work r))))
+      (those-is ∙ ap (λ (m : ℕ). those 16 (named geometry1 m)) e ∙ those-none 16 (named-zero geometry1))
+
   pub commit-none : (s : Pages) (k : ℕ) → map ≡ 0 → Leaves (commitAt geometry1 s (versionsIn map work) k) s 0 false
-  unfolding commitAt commitWrites
-  commit-none s k e =
-      none-left k s
-      (ap (commitWrites geometry1 (pageIn (versionsIn map work)) (mapOf geometry1 (λ r. isSome (versionsIn map work r))))
-      (those-is ∙ ap (λ (m : ℕ). those 16 (named geometry1 m)) e ∙ those-none 16 (named-zero geometry1)))
+  unfolding commitAt
+  commit-none s k e = none-left k s (commit-nothing e)
 
   -- the four phases of a commit
   pub commit-leaves : {s s₁ s₂ s₃ s₄ : Pages} {k a b c d : ℕ} → map < 2 ^ 16 → map ≢ 0
@@ -115,7 +118,7 @@ module _ (map : ℕ) (work : List ℕ) where
       → Leaves (commitAt geometry1 s (versionsIn map work) k) s₄ (k - d) (same c 0)
   unfolding commitAt marks
   commit-leaves {s = s} {s₄ = s₄} {k = k} {c = c} {d = d} small h p q r t =
-      subst⁻¹ (λ (ws : List PageWrite). Leaves (cutAt k ws s) s₄ (k - d) (same c 0)) (plan-is small h) (phase-last (phase-then p (phase-then q r)) t)
+      subst⁻¹ (λ (ws : List PageWrite). Leaves (cutAt k ws s) s₄ (k - d) (same c 0)) (commit-is small h) (phase-last (phase-then p (phase-then q r)) t)
 
 -- a recovery over a commit page whose map in force is this
 module _ (map k : ℕ) (s : Pages) (says : mapIn (readCommit geometry1 (s 0)) ≡ map) where
@@ -127,16 +130,19 @@ module _ (map k : ℕ) (s : Pages) (says : mapIn (readCommit geometry1 (s 0)) �
   unfolding records
   names-are = those-same 16 named-is
 
+  pub recover-nothing : map ≡ 0 → recoverPlan geometry1 s ≡ []
+  unfolding recoverWrites
+  recover-nothing e = ap (recoverWrites geometry1 (λ r. s (intention r))) (names-are ∙ ap (λ (m : ℕ). those 16 (named geometry1 m)) e ∙ those-none 16 (named-zero geometry1))
+
   pub recover-none : map ≡ 0 → Leaves (recoverAt geometry1 s k) s 0 false
-  unfolding recoverAt recoverWrites
-  recover-none e =
-      none-left k s (ap (recoverWrites geometry1 (λ r. s (intention r))) (names-are ∙ ap (λ (m : ℕ). those 16 (named geometry1 m)) e ∙ those-none 16 (named-zero geometry1)))
+  unfolding recoverAt
+  recover-none e = none-left k s (recover-nothing e)
 
   returns-are : homes geometry1 (λ r. s (intention r)) (those 16 (named geometry1 map)) ≡ sweep (named geometry1 map) (copies 17 (λ r. s (1 + r))) 16
   unfolding homes sweep home copies records intention
   returns-are = sweep-same 16 (named geometry1 map) _ _ (λ r lt e. ap (λ (n : ℕ). sets n (s (1 + r))) (omega arith))
 
-  recovery-is : map < 2 ^ 16 → map ≢ 0 → recoverWrites geometry1 (λ r. s (intention r)) (those (records geometry1) (isNamed geometry1 s))
+  pub recovery-is : map < 2 ^ 16 → map ≢ 0 → recoverPlan geometry1 s
       ≡ sweep (named geometry1 map) (copies 17 (λ r. s (1 + r))) 16 ++ (marks geometry1 0 ∷ [])
   recovery-is small h =
       ap (recoverWrites geometry1 (λ r. s (intention r))) names-are

@@ -17,7 +17,7 @@ use Rattle.laws.proofs.Updated.{updated-other}
 use Rattle.rules.specs.Geometry.{Geometry, records}
 use Rattle.rules.specs.Store.{Page, Pages, intention, home, mapOf, named, commitPage, Prepared, preparedPage, readPrepared, preparedMap, isReserved}
 use Rattle.rules.specs.Versions.{isSome}
-use Rattle.rules.specs.Commit.{PageWrite, sets, written, applied, cutAt, pageIn, intentions, homes, marks, recoverWrites, prepareWrites, decideWrites, prepareAt, decideAt}
+use Rattle.rules.specs.Commit.{PageWrite, sets, written, applied, cutAt, pageIn, intentions, homes, marks, recoverWrites, prepareWrites, decideWrites, prepareAt, decideAt, preparePlan, decidePlan}
 use Rattle.rules.specs.Editions.{geometry1}
 use Rattle.rules.proofs.Map.{named-zero}
 use Rattle.rules.proofs.PreparedPage.{prepared-is}
@@ -33,21 +33,24 @@ prepare-some g new p [] h = absurd (h refl)
 prepare-some g new p (r ∷ rs) h = refl
 
 module _ (map : ℕ) (work : List ℕ) (i : ℕ) where
-  plan-is : map < 2 ^ 16 → map ≢ 0
-      → prepareWrites geometry1 (pageIn (versionsIn map work)) (record { map = mapOf geometry1 (λ r. isSome (versionsIn map work r)); identity = i }) (those (records geometry1) (λ r. isSome (versionsIn map work r)))
+  pub prepare-is : map < 2 ^ 16 → map ≢ 0
+      → preparePlan geometry1 (versionsIn map work) i
       ≡ sweep (named geometry1 map) (copies 1 (topSlot work)) 16 ++ (sets 0 (preparedPage geometry1 (prepared map i)) ∷ [])
-  plan-is small h =
+  prepare-is small h =
       ap₂ (λ (m : ℕ) (rs : List ℕ). prepareWrites geometry1 (pageIn (versionsIn map work)) (prepared m i) rs) (map-is map work small) (those-is map work)
       ∙ prepare-some geometry1 (pageIn (versionsIn map work)) (prepared map i) (those 16 (named geometry1 map)) (some-named map small h)
       ∙ ap (λ (a : List PageWrite). a ++ (sets 0 (preparedPage geometry1 (prepared map i)) ∷ [])) (intentions-are map work)
 
   -- a prepare of no record
+  pub prepare-nothing : map ≡ 0 → preparePlan geometry1 (versionsIn map work) i ≡ []
+  unfolding prepareWrites
+  prepare-nothing e =
+      ap (prepareWrites geometry1 (pageIn (versionsIn map work)) (record { map = mapOf geometry1 (λ r. isSome (versionsIn map work r)); identity = i }))
+      (those-is map work ∙ ap (λ (m : ℕ). those 16 (named geometry1 m)) e ∙ those-none 16 (named-zero geometry1))
+
   pub prepare-none : (s : Pages) (k : ℕ) → map ≡ 0 → Leaves (prepareAt geometry1 s (versionsIn map work) i k) s 0 false
-  unfolding prepareAt prepareWrites
-  prepare-none s k e =
-      none-left k s
-      (ap (prepareWrites geometry1 (pageIn (versionsIn map work)) (record { map = mapOf geometry1 (λ r. isSome (versionsIn map work r)); identity = i }))
-      (those-is map work ∙ ap (λ (m : ℕ). those 16 (named geometry1 m)) e ∙ those-none 16 (named-zero geometry1)))
+  unfolding prepareAt
+  prepare-none s k e = none-left k s (prepare-nothing e)
 
   -- the two phases of a prepare
   pub prepare-leaves : {s s₁ s₂ : Pages} {k a b : ℕ} → map < 2 ^ 16 → map ≢ 0
@@ -55,7 +58,7 @@ module _ (map : ℕ) (work : List ℕ) (i : ℕ) where
       → Leaves (prepareAt geometry1 s (versionsIn map work) i k) s₂ (k - b) (same a 0)
   unfolding prepareAt
   prepare-leaves {s = s} {s₂ = s₂} {k = k} {a = a} {b = b} small h p q =
-      subst⁻¹ (λ (ws : List PageWrite). Leaves (cutAt k ws s) s₂ (k - b) (same a 0)) (plan-is small h) (phase-last p q)
+      subst⁻¹ (λ (ws : List PageWrite). Leaves (cutAt k ws s) s₂ (k - b) (same a 0)) (prepare-is small h) (phase-last p q)
 
 -- a page write of the commit page leaves the intention pages
 mark-plan : (k : ℕ) (p : Page) (s : Pages) (j : ℕ) → applied (take k (sets 0 p ∷ [])) s (1 + j) ≡ s (1 + j)
@@ -84,8 +87,8 @@ module _ (map i k : ℕ) (s : Pages) (says : readPrepared geometry1 (s 0) ≡ so
   unfolding homes sweep home copies records intention
   returns-are planned e = sweep-same 16 (named geometry1 map) _ _ (λ r lt q. ap₂ sets (omega arith) (sym (e r)))
 
-  decision-is : (planned : ℕ → Page) → ((j : ℕ) → planned j ≡ s (1 + j))
-      → decideWrites geometry1 true (λ r. s (intention r)) (preparedMap (readPrepared geometry1 (s 0))) (those (records geometry1) (isReserved geometry1 s))
+  pub decision-is : (planned : ℕ → Page) → ((j : ℕ) → planned j ≡ s (1 + j))
+      → decidePlan geometry1 s true
       ≡ ((marks geometry1 map ∷ []) ++ sweep (named geometry1 map) (copies 17 planned) 16) ++ (marks geometry1 0 ∷ [])
   unfolding decideWrites preparedMap
   decision-is planned e =

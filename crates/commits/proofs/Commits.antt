@@ -8,24 +8,21 @@ use mathlib.Core.Option.{Option, none, some}
 use Prim.Native.Nat.{ℕ, suc, _+_, _-_, _*_, _≤_}
 use native.Mathlib.Omega.{arith}
 use lib.ListN.{length, getD}
-use Rattle.laws.specs.Tests.{same, under}
+use Rattle.laws.specs.Tests.{same}
 use Rattle.laws.specs.Bits.{bits}
-use Rattle.laws.proofs.Tests.{same?, Same, is, isnt, same-refl, same-eq, ne-false, Is, is?, yes′, no′, under-lt, not-under}
+use Rattle.laws.proofs.Tests.{same?, Same, is, isnt, same-refl, same-eq, ne-false, Is, is?, yes′, no′}
 use Rattle.laws.proofs.Booleans.{clash, or-cases, both, not-true, not-false}
-use Rattle.rules.specs.Geometry.{records}
-use Rattle.rules.specs.Store.{Page, Pages, pagesOf, mapOf, named}
+use Rattle.rules.specs.Store.{Page, Pages, pagesOf, mapOf}
 use Rattle.rules.specs.Event.{Event, commit, prepare}
 use Rattle.rules.specs.State.{Bearers, chain, lineOf, mem, live, down}
 use Rattle.rules.specs.Versions.{also, handedUp, dropped}
 use Rattle.rules.specs.Commit.{Cut, commitAt, prepareAt}
-use Rattle.rules.specs.Step.{done, refused, cut, hasChild, ended, passed, retaining, concluded, numberOf, valueOf, changes, busy, commitsTop, commitsChild, commits, step}
+use Rattle.rules.specs.Step.{done, cut, hasChild, ended, passed, retaining, concluded, numberOf, valueOf, changes, busy, commitsTop, commitsChild, commits, step}
 use Rattle.rules.specs.Sound.{inLine}
 use Rattle.rules.specs.Editions.{geometry1, edition1, depths, workBytes}
 use Rattle.rules.proofs.Locks.{rooted-of, no-child, versions-in-line, line-apart}
-use Rattle.rules.proofs.Map.{named-mapOf}
 use Rattle.rules.proofs.Soundness.{alone-closed}
 use Rattle.sets.specs.Sets.{sets}
-use Rattle.sets.proofs.Sets.{sets-past}
 use Rattle.arrays.specs.View.{Owners, bearersOf, modesOf, Nested, slot, versionsOf}
 use Rattle.arrays.specs.Changes.{leaving, heirsOf, inheriting, handed, Rows, places, cleared, Cleared}
 use Rattle.arrays.proofs.View.{depth-is}
@@ -33,7 +30,7 @@ use Rattle.arrays.proofs.Nested.{inheriting-nested}
 use Rattle.arrays.proofs.Modes.{leaving-discarded, inheriting-inherited}
 use Rattle.slots.specs.Parts.{lifted}
 use Rattle.slots.proofs.Lifting.{hit, miss-depth, miss-row}
-use Rattle.commit.specs.Phase.{Leaves, topSlot, versionsIn}
+use Rattle.commit.specs.Phase.{Leaves, versionsIn}
 use Rattle.events.specs.Whole.{Arrays, arrays, view, lineIn, Intact, saying, Stepped, Ready, Reserves}
 use Rattle.events.proofs.Rules.{commit-done, commit-busy, commit-refused, prepare-children, prepare-busy, prepare-beneath, prepare-done}
 use Rattle.events.proofs.Steps.{answer, stepped, finishes, unmoved, state-eq, up-is, live-is, wrote-is, depth-of, shallow, writer-deep}
@@ -42,6 +39,7 @@ use Rattle.rules.proofs.Held.{isPlain}
 use Rattle.events.specs.declared.Answer.{Answer}
 use Rattle.events.proofs.Reserves.{busy-is, changes-are, top-is, reserves-kept}
 use Rattle.commits.specs.Settling.{settling, settlingAt}
+use Rattle.events.proofs.Tops.{top-versions}
 use Rattle.events.proofs.Parents.{parent-there, parent-deep, parent-other, line-up}
 use Rattle.crashes.proofs.Falls.{zeros, zeros-down, zeros-formed, Fallen, fallen}
 
@@ -140,33 +138,19 @@ module _ (x : Arrays) (I : Intact x) (t : ℕ) (R : Ready x t) (childless : hasC
           (top-is x t (R .live) ∙ ne-false (d t) 1 h))
 
       module _ (top : d t ≡ 1) where
-        version-at : (r : ℕ) → Is (under r 16) → cond (sets (x .writers) r t) (some (pagesOf (x .work) (slot r (d t)))) none ≡ versionsIn m (x .work) r
-        unfolding versionsIn topSlot slot records
-        version-at r (yes′ e) =
-            let s : r * depths + (d t - 1) ≡ r * depths = omega arith in
-            rw e (ap₂ (λ (c : Bool) (n : ℕ). cond c (some (pagesOf (x .work) n)) none)
-            (sym (ap (λ (m : ℕ). named geometry1 m r) mapped ∙ named-mapOf geometry1 (λ r. sets (x .writers) r t) r (under-lt r 16 e))) s)
-        version-at r (no′ e) =
-            rw e (ap (λ (c : Bool). cond c (some (pagesOf (x .work) (slot r (d t)))) none)
-            (sets-past (x .writers) r t (let h = not-under r 16 e in let k = I .form .writerss in omega arith)))
-
-        versions : view x .version t ≡ versionsIn m (x .work)
-        unfolding view versionsOf
-        versions = fun-ext (λ r. version-at r (is? (under r 16)))
-
         -- a commit, and a prepare, of a top transaction
         commit-ends : (k : ℕ) → step edition1 (view x) (some (commit t k)) ≡ commitsTop edition1 (view x) t (commitAt geometry1 (pagesOf (x .store)) (versionsIn m (x .work)) k)
         unfolding view lineOf chain commits
         commit-ends k =
             commit-done edition1 (view x) t (up-is x (R .up)) (live-is x t (R .live)) k childless (rw (both-are ∙ q, and-false))
             ∙ ap (λ (n : ℕ). commits edition1 (view x) t k (chain b n t)) (depth-is (x .parent) (x .depth) t ∙ top)
-            ∙ ap (λ (v : ℕ → Option Page). commitsTop edition1 (view x) t (commitAt geometry1 (pagesOf (x .store)) v k)) versions
+            ∙ ap (λ (v : ℕ → Option Page). commitsTop edition1 (view x) t (commitAt geometry1 (pagesOf (x .store)) v k)) (top-versions x (I .form) t m mapped top)
 
         prepare-ends : (k j : ℕ) → step edition1 (view x) (some (prepare t k j)) ≡ commitsTop edition1 (view x) t (prepareAt geometry1 (pagesOf (x .store)) (versionsIn m (x .work)) j k)
         unfolding view
         prepare-ends k j =
             prepare-done edition1 (view x) t (up-is x (R .up)) (live-is x t (R .live)) k j childless (both-are ∙ q) (top-is x t (R .live) ∙ rw top (same-refl 1))
-            ∙ ap (λ (v : ℕ → Option Page). commitsTop edition1 (view x) t (prepareAt geometry1 (pagesOf (x .store)) v j k)) versions
+            ∙ ap (λ (v : ℕ → Option Page). commitsTop edition1 (view x) t (prepareAt geometry1 (pagesOf (x .store)) v j k)) (top-versions x (I .form) t m mapped top)
 
     -- either of them, by the code's tests
     pub settling-13 : (b : Bool) (k j : ℕ) → (b ≡ false → d t ≡ 1) → (not (same m 0) && not (same n 0)) ≡ true → Stepped x (some (settling b t k j)) (answer 13 0) x

@@ -136,7 +136,7 @@ module _ (store : List ℕ) (c : CommitMap) (h : c ≡ understood (pagesOf store
   unfolding damaged understood
   damaged-is e = not-false _ (sym (ap (λ (c : CommitMap). c .good) h) ∙ e)
 
-  whole-is : c .good ≡ true → damaged geometry1 (pagesOf store) ≡ false
+  pub whole-is : c .good ≡ true → damaged geometry1 (pagesOf store) ≡ false
   unfolding damaged understood
   whole-is e = not-true _ (sym (ap (λ (c : CommitMap). c .good) h) ∙ e)
 

@@ -36,7 +36,7 @@ for-prepared store m n i b H e q = one-prepared store m n H (λ z. go (same? m 0
     go (isnt z k _) h y = z y
 
 module _ (x : Arrays) (I : Intact x) (up : x .up ≡ 1) (m n i : ℕ) (H : Reserves (x .store) m n) (b : Bool) (test : b ≡ (not (same m 0) && same n i)) where
-  for-is : isFor i (edition1 .medium .prepared (view x .store)) ≡ b
+  pub for-is : isFor i (edition1 .medium .prepared (view x .store)) ≡ b
   unfolding view
   for-is = isFor-is (x .store) m n H i ∙ sym test
 

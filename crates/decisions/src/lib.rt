@@ -17,7 +17,7 @@ ghost use Rattle.events.specs.Whole.{Arrays, arrays, Intact, Stepped, Reserves}
 use events::Answer;
 
 // A transaction is prepared with identity i, where `reserved` is the map of what is prepared.
-fn is_for(reserved: u16, identity: u8, i: u8) -> bool
+pub fn is_for(reserved: u16, identity: u8, i: u8) -> bool
     ensures { λ b. ⌜ b ≡ (not (same reserved 0) && same identity i) ⌝ }
 {
     (reserved != 0) & (identity == i)

@@ -15,7 +15,7 @@ use Rattle.rules.specs.Step.{firstOf}
 use Rattle.rules.specs.Run.{runRefusals, eventsIn}
 use Rattle.rules.specs.Editions.{edition1, workBytes}
 use Rattle.rules.proofs.Cuts.{not-lt-under}
-use Rattle.lengths.specs.Lengths.{lengthsRefused, refusalNumber}
+use Rattle.lengths.specs.Lengths.{lengthsRefused, questionRefused, refusalNumber}
 
 pub refused-store : (s e w a : ℕ) → s ≢ 1056 → 22 ≡ refusalNumber (lengthsRefused s e w a)
 unfolding lengthsRefused refusalNumber firstOf
@@ -81,4 +81,45 @@ lengths-of s e w a z = go (pass-all (not (same s 1056)) (not (same w workBytes))
       whole = same-eq (e % 4) 0 (not-false _ (or-false-left _ _ r));
       short = not-under 16384 e (or-false-right (not (same (e % 4) 0)) _ r);
       room = let w : e % 4 ≡ 0 = same-eq (e % 4) 0 (not-false _ (or-false-left _ _ r)) in let m : 2 * (e / 4) ≤ a = not-under a (2 * (e / 4)) t in omega arith;
+    }
+
+-- of a question for a page write
+pub asks-store : (s e w b : ℕ) → s ≢ 1056 → 22 ≡ refusalNumber (questionRefused s e w b)
+unfolding questionRefused refusalNumber firstOf
+asks-store s e w b h = rw (ne-false s 1056 h)
+
+pub asks-work : (e w b : ℕ) → w ≢ workBytes → 24 ≡ refusalNumber (questionRefused 1056 e w b)
+unfolding questionRefused refusalNumber firstOf
+asks-work e w b h = rw (same-refl 1056, ne-false w workBytes h)
+
+pub asks-event : (e b : ℕ) → e ≢ 4 → 20 ≡ refusalNumber (questionRefused 1056 e workBytes b)
+unfolding questionRefused refusalNumber firstOf
+asks-event e b h = rw (same-refl 1056, same-refl workBytes, ne-false e 4 h)
+
+pub asks-write : (b : ℕ) → b ≢ 33 → 21 ≡ refusalNumber (questionRefused 1056 4 workBytes b)
+unfolding questionRefused refusalNumber firstOf
+asks-write b h = rw (same-refl 1056, same-refl workBytes, same-refl 4, ne-false b 33 h)
+
+pub asks-well : 0 ≡ refusalNumber (questionRefused 1056 4 workBytes 33)
+unfolding questionRefused refusalNumber firstOf
+asks-well = rw (same-refl 1056, same-refl workBytes, same-refl 4, same-refl 33)
+
+pub record Question (s e w b : ℕ) : Type 0 where
+  pub none-is : questionRefused s e w b ≡ none
+  pub store : s ≡ 1056
+  pub work : w ≡ workBytes
+  pub event : e ≡ 4
+  pub write : b ≡ 33
+
+pub question-of : (s e w b : ℕ) → refusalNumber (questionRefused s e w b) ≡ 0 → Question s e w b
+unfolding questionRefused firstOf tests
+question-of s e w b z = go (pass-all (not (same s 1056)) (not (same w workBytes)) (not (same e 4)) (not (same b 33)) z)
+  where
+    go : Passed (not (same s 1056)) (not (same w workBytes)) (not (same e 4)) (not (same b 33)) → Question s e w b
+    go (passed p q r t) = record {
+      none-is = rw (p, q, r, t);
+      store = same-eq s 1056 (not-false _ p);
+      work = same-eq w workBytes (not-false _ q);
+      event = same-eq e 4 (not-false _ r);
+      write = same-eq b 33 (not-false _ t);
     }

@@ -17,6 +17,10 @@ lengthsRefused store events work answers =
     (21, under answers (2 * (events / 4))) ∷
     [])
 
+-- and of a question for a page write, by those of store, event, working buffer and the buffer for the page write
+unfoldable pub questionRefused : ℕ → ℕ → ℕ → ℕ → Option ℕ
+questionRefused store event work write = firstOf ((22, not (same store 1056)) ∷ (24, not (same work workBytes)) ∷ (20, not (same event 4)) ∷ (21, not (same write 33)) ∷ [])
+
 -- 0 where nothing is refused
 unfoldable pub refusalNumber : Option ℕ → ℕ
 refusalNumber none = 0

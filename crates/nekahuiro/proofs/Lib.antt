@@ -1,4 +1,5 @@
 -- The arguments of this crate.
 pub mod Running
 pub mod Portions
+pub mod PageWrites
 pub mod Chained

@@ -1,5 +1,5 @@
-// The open operations: a run, a portion, a fresh store, the age of a record, the two ends of a two-phase commit, the report on transactions that wait
-// for each other, and the list of a job sheet. Any bytes may come in; each refuses or does what the rules say.
+// The open operations: a run, a portion, the page writes of an event, a fresh store, the age of a record, the two ends of a two-phase commit, the report
+// on transactions that wait for each other, and the list of a job sheet. Any bytes may come in; each refuses or does what the rules say.
 ghost use mathlib.Core.Path.{_≡_};
 ghost use Prim.Native.Nat.{ℕ};
 ghost use mathlib.Core.List.{List};
@@ -12,6 +12,7 @@ ghost use Rattle.serial.specs.OneAtATime.{One-run-at-a-time};
 ghost use Rattle.records.specs.Ages.{ageNumber, ageLeft};
 ghost use Rattle.nekahuiro.specs.Running.{Ran};
 ghost use Rattle.nekahuiro.specs.Portions.{Kept, kept, Portioned-as};
+ghost use Rattle.nekahuiro.specs.PageWrites.{Told-as};
 ghost use Rattle.events.specs.Whole.{Intact};
 ghost use Rattle.portions.specs.Portion.{whole};
 ghost use Rattle.clauses.specs.Decides.{Decides};
@@ -19,6 +20,7 @@ ghost use Rattle.messages.specs.Codes.{left};
 ghost use Rattle.messages.specs.Votes.{voteOn};
 ghost use Rattle.waitreport.specs.Reported.{Sound-aside, Reported, Reported-copied};
 ghost use Rattle.sheets.specs.Made.{Made};
+use event::Event;
 use portions::Engine;
 use waitreport::Report;
 use waitreport::Ring;
@@ -179,6 +181,60 @@ pub extern "C" fn nekahuiro_portion(
     let after = done.engine;
     *state = after;
     done.number
+}
+
+// A page write of an event, by value.
+fn page_write_of(
+    e: Engine,
+    store: &[u8],
+    event: &[u8],
+    work: &[u8],
+    index: u8,
+    write: &mut [u8],
+) -> u8
+    ensures { λ r. ⌜ Told-as (kept e (now (work .entry)) (now (store .entry))) (now (event .entry)) (now (write .entry)) index r (now (write .exit)) ⌝ }
+{
+    let wrong = lengths::question(store.len(), event.len(), work.len(), write.len());
+    if wrong != 0 {
+        return wrong;
+    }
+    if !is_state(e, store) {
+        return 25;
+    }
+    let parent = e.parent;
+    let depth = e.depth;
+    let writers = e.writers;
+    let table = Event::table();
+    let word = Event::word_at(event, 0);
+    pagewrites::page_write(
+        e.up,
+        &parent,
+        &depth,
+        &writers,
+        work,
+        store,
+        Event::of_word(&table, word),
+        index,
+        write,
+    )
+}
+
+// Says the page write number `index`, from 0, that an event makes on this state, store and working buffer if nothing cuts it: 0, with the page's number
+// and the page in `write`; or 12, no such write; or refused with 22, 24, 20, 21 or 25, in this order. Nothing is played, and but for the page write
+// nothing is written.
+#[no_mangle]
+pub extern "C" fn nekahuiro_page_write(
+    state: &Engine,
+    store: &[u8],
+    event: &[u8],
+    work: &[u8],
+    index: u8,
+    write: &mut [u8],
+) -> u8
+    ensures { λ r. ⌜ Told-as (kept (now (state .entry)) (now (work .entry)) (now (store .entry))) (now (event .entry)) (now (write .entry)) index r (now (write .exit)) ⌝ }
+{
+    let held = *state;
+    page_write_of(held, store, event, work, index, write)
 }
 
 // The depot's turn for an identity, by its state (0 idle, 1 asked, 2 committed, 3 aborted) and a message (0 start, 1 yes, 2 no, 3 give-up): 0, with the

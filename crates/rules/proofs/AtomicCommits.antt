@@ -131,7 +131,7 @@ module _ (g : Geometry) where
   unfolding inForce namedIn
   inForce-length s = those-length (records g) (isNamed g s)
 
-  planned : Pages → ℕ → Page
+  unfoldable pub planned : Pages → ℕ → Page
   planned s r = s (intention r)
 
   -- the names depend on the commit page alone
@@ -139,7 +139,7 @@ module _ (g : Geometry) where
   unfolding inForce isNamed names
   inForce-same s c e = ap (λ p. those (records g) (names g p)) e
 
-  sound-planned : (s : Pages) → Sized (pageCount g) s → (Writable g) (planned s) (inForce s)
+  pub sound-planned : (s : Pages) → Sized (pageCount g) s → (Writable g) (planned s) (inForce s)
   unfolding Writable inForce planned intention pageCount
   sound-planned s S q e = let k = those-below (records g) (isNamed g s) q e in (k, S .full (1 + q) (omega arith))
 

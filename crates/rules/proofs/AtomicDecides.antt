@@ -25,7 +25,7 @@ use Rattle.rules.proofs.Writable.{fit-take, applied-sized, Writable, fi
 use Rattle.rules.proofs.AtomicCommits.{home-unread, recover-whole, recover-keeps, Agree, agree-recover, recover-unmoved}
 
 module _ (g : Geometry) where
-  reserved-planned : (s : Pages) → Sized (pageCount g) s → (Writable g) (λ r. s (intention r)) (those (records g) (isReserved g s))
+  pub reserved-planned : (s : Pages) → Sized (pageCount g) s → (Writable g) (λ r. s (intention r)) (those (records g) (isReserved g s))
   unfolding Writable intention pageCount
   reserved-planned s S q e = let k = those-below (records g) (isReserved g s) q e in (k, S .full (1 + q) (omega arith))
 

@@ -15,7 +15,7 @@ use Rattle.laws.proofs.Tests.{same-refl, under-lt}
 use Rattle.laws.proofs.Booleans.{refute}
 use Rattle.rules.specs.Geometry.{Geometry, Proper, pageCount, workSize, wordSize, longest, open-geometry}
 use Rattle.rules.specs.State.{down}
-use Rattle.rules.specs.Form.{Form, atomicPages}
+use Rattle.rules.specs.Form.{Form, atomic}
 use Rattle.rules.specs.Step.{StateOf, firstOf}
 use Rattle.rules.specs.Run.{Result, Played, words, answerBytes, play, eventsIn, runRefusals, run}
 use Rattle.rules.specs.Portion.{Lent, allEvents, allZero, Fits, AllFit, wordsIn, Portion, portionAll, portion, added, chain, chainFrom, next, Takes, As-whole}
@@ -173,7 +173,7 @@ module _ (f : Form) (M : MediumLaws (f .geometry) (f .medium)) (spelled : Spelle
         }
 
 -- atomic pages have their size
-pub atomic-spelled : (g : Geometry) (proper : Proper g) → Spelled (record { geometry = g; medium = atomicPages g }) (atomic-laws g proper)
+pub atomic-spelled : (g : Geometry) (proper : Proper g) → Spelled (atomic g) (atomic-laws g proper)
 atomic-spelled g proper d S = flat-length (pageCount g) d (shaped-sized g proper d S .full) ∙ mul-comm 32 (pageCount g)
 
 -- of edition 1

@@ -10,7 +10,7 @@ use Rattle.rules.specs.Store.{Pages, Prepared, readPrepared}
 use Rattle.rules.specs.Event.{Event, begin, lock, write, read, commit, abort, crash, recover, prepare, decide, query}
 use Rattle.rules.specs.State.{lineOf, down}
 use Rattle.rules.specs.Commit.{Cut, commitAt, recoverAt}
-use Rattle.rules.specs.Form.{Form, atomicPages}
+use Rattle.rules.specs.Form.{atomic}
 use Rattle.rules.specs.Step.{StateOf, isTop, begun, locked, wrote, ended, passed, retaining, aborted, raised, concluded, finished, changes, busy, refusal, commitsTop, commitsChild, commits, recovers, act, step}
 use Rattle.rules.specs.Sound.{Sound}
 use Rattle.rules.proofs.Acceptance.{commit-ok, commit-clear, Judged, judge?, acts, refuses}
@@ -30,9 +30,6 @@ isPlain (recover k) = true
 isPlain (prepare t k i) = false
 isPlain (decide d k i) = false
 isPlain (query i) = true
-
-abbrev pub atomic : Geometry → Form
-atomic g = record { geometry = g; medium = atomicPages g }
 
 module _ (g : Geometry) (proper : Proper g) {s : StateOf (atomic g)} (S : Sound (atomic g) s) where
   abbrev held : Pages → Option Prepared

@@ -72,25 +72,36 @@ module _ (g : Geometry) where
   decideWrites true planned map rs = marks map ∷ recoverWrites planned rs
   decideWrites false planned map rs = marks 0 ∷ []
 
-  -- a top transaction with these versions commits, cut at k
+  -- THE PLANS: the page writes of a top transaction's commit with these versions, of its prepare with an identity, of a recovery over this store,
+  -- and of a decision on what is prepared there
+  abbrev pub commitPlan : (ℕ → Option Page) → List PageWrite
+  commitPlan versions =
+      let changed : ℕ → Bool = λ r. isSome (versions r) in
+      commitWrites (pageIn versions) (mapOf g changed) (those (records g) changed)
+
+  abbrev pub preparePlan : (ℕ → Option Page) → ℕ → List PageWrite
+  preparePlan versions i =
+      let changed : ℕ → Bool = λ r. isSome (versions r) in
+      prepareWrites (pageIn versions) (record { map = mapOf g changed; identity = i }) (those (records g) changed)
+
+  abbrev pub recoverPlan : Pages → List PageWrite
+  recoverPlan s = recoverWrites (λ r. s (intention r)) (those (records g) (isNamed g s))
+
+  abbrev pub decidePlan : Pages → Bool → List PageWrite
+  decidePlan s d = decideWrites d (λ r. s (intention r)) (preparedMap (readPrepared g (s 0))) (those (records g) (isReserved g s))
+
+  -- they are made, cut at k
   unfoldable pub commitAt : Pages → (ℕ → Option Page) → ℕ → Cut Pages
-  commitAt s versions k =
-      let changed : ℕ → Bool = λ r. isSome (versions r) in
-      cutAt k (commitWrites (pageIn versions) (mapOf g changed) (those (records g) changed)) s
+  commitAt s versions k = cutAt k (commitPlan versions) s
 
-  -- a recovery, cut at k
   unfoldable pub recoverAt : Pages → ℕ → Cut Pages
-  recoverAt s k = cutAt k (recoverWrites (λ r. s (intention r)) (those (records g) (isNamed g s))) s
+  recoverAt s k = cutAt k (recoverPlan s) s
 
-  -- a top transaction with these versions is prepared with an identity, cut at k
   unfoldable pub prepareAt : Pages → (ℕ → Option Page) → ℕ → ℕ → Cut Pages
-  prepareAt s versions i k =
-      let changed : ℕ → Bool = λ r. isSome (versions r) in
-      cutAt k (prepareWrites (pageIn versions) (record { map = mapOf g changed; identity = i }) (those (records g) changed)) s
+  prepareAt s versions i k = cutAt k (preparePlan versions i) s
 
-  -- a decision on what is prepared, cut at k
   unfoldable pub decideAt : Pages → Bool → ℕ → Cut Pages
-  decideAt s d k = cutAt k (decideWrites d (λ r. s (intention r)) (preparedMap (readPrepared g (s 0))) (those (records g) (isReserved g s))) s
+  decideAt s d k = cutAt k (decidePlan s d) s
 
 -- opens the definitions of this module: for what is proved by computing
 unfoldable pub open-commit : Unit {0}

@@ -53,3 +53,7 @@ atomicPages g = record {
   prepare = prepareAt g;
   decide = decideAt g;
 }
+
+-- a geometry's form with atomic pages
+abbrev pub atomic : Geometry → Form
+atomic g = record { geometry = g; medium = atomicPages g }

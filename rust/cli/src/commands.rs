@@ -2,7 +2,9 @@
 
 use crate::command::Command;
 use crate::failure::{visible, Failure, Outcome};
-use crate::{age, bench, check, demo, depot, encode, fresh, get, help, play, put, serial, sheet, shell, show, waiting};
+use crate::{
+    age, bench, check, demo, depot, encode, fresh, get, help, plan, play, put, serial, sheet, shell, show, waiting,
+};
 
 /// All commands.
 pub const ALL: &[Command] = &[
@@ -10,6 +12,7 @@ pub const ALL: &[Command] = &[
     fresh::COMMAND,
     play::COMMAND,
     shell::COMMAND,
+    plan::COMMAND,
     show::COMMAND,
     serial::COMMAND,
     check::COMMAND,

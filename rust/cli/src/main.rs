@@ -21,6 +21,7 @@ mod output;
 mod page;
 mod pair;
 mod picture;
+mod plan;
 mod play;
 mod put;
 mod sentence;

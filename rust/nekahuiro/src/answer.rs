@@ -1,8 +1,7 @@
 //! Answers to events, and refusals of whole operations.
 
-use crate::limits::{
-    ANSWER_BYTES, DEPTH_LIMIT, EVENTS, LIST_BYTES, RECORDS, ROWS, STORE_BYTES, TRANSACTIONS, WORK_BYTES,
-};
+use crate::limits::{ANSWER_BYTES, EVENTS, LIST_BYTES, RECORDS, ROWS, STORE_BYTES, WORK_BYTES};
+use crate::Reason;
 use std::fmt;
 
 /// The answer to one event: a number, then a value.
@@ -49,36 +48,15 @@ impl Answer {
     }
 
     /// Why the event was refused, if it was.
-    pub fn refusal(self) -> Option<String> {
-        Some(match self.number {
-            DONE | CUT => return None,
-            1 => {
-                "bad event: no such kind, mode, report or decision, or a field that it doesn't use isn't 0".to_string()
-            }
-            2 => "the store is down: recover first".to_string(),
-            3 => "the store is up already".to_string(),
-            4 => "page 0 is damaged".to_string(),
-            5 => "the named transaction isn't live".to_string(),
-            6 => format!("the parent has depth {DEPTH_LIMIT} already"),
-            7 => format!("{TRANSACTIONS} transactions are live already"),
-            8 => "the lock can't be granted now".to_string(),
-            9 => "the transaction doesn't hold the lock, or only to read and would write".to_string(),
-            10 => "a child is still live".to_string(),
-            13 => {
-                "another transaction is prepared: until its decision none that changed a record can commit or prepare"
-                    .to_string()
-            }
-            14 => "a child is still live: its parent can't lock, read or write until it ends".to_string(),
-            27 => "a child can't prepare: only a top transaction can".to_string(),
-            number => format!("unknown number {number}"),
-        })
+    pub fn refusal(self) -> Option<Reason> {
+        (!self.is_accepted()).then(|| Reason::of(self.number))
     }
 }
 
 impl fmt::Display for Answer {
     fn fmt(&self, f: &mut fmt::Formatter) -> fmt::Result {
         match self.refusal() {
-            Some(reason) => write!(f, "refused {}: {reason}", self.number),
+            Some(reason) => reason.fmt(f),
             None if self.is_cut() => write!(f, "cut by a crash after {}", page_writes(self.value)),
             None => write!(f, "done, {}", self.value),
         }

@@ -1,6 +1,6 @@
 //! Events and their words: six fields in 32 bits, most significant first.
 
-use crate::limits::EVENT_BYTES;
+use crate::limits::{COUNT_LIMIT, EVENT_BYTES};
 use crate::{Identity, Record, Transaction};
 
 /// A field of the event word: how far from the right it stands, and how wide it is.
@@ -211,6 +211,25 @@ impl Event {
     /// The event's word. An offset or count too large for its field keeps its low bits only.
     pub const fn word(&self) -> [u8; EVENT_BYTES] {
         self.fields().word()
+    }
+
+    /// The same event with the count 63, where it has one: the power goes when it goes.
+    ///
+    /// ```
+    /// use nekahuiro::Event;
+    /// let event: Event = "commit 3 0".parse()?;
+    /// assert_eq!(event.uncut(), "commit 3 63".parse()?);
+    /// # Ok::<(), nekahuiro::BadWords>(())
+    /// ```
+    pub fn uncut(mut self) -> Event {
+        if let Event::Commit { count, .. }
+        | Event::Recover { count }
+        | Event::Prepare { count, .. }
+        | Event::Decide { count, .. } = &mut self
+        {
+            *count = COUNT_LIMIT;
+        }
+        self
     }
 
     /// The event of a word, or none if the word is bad.

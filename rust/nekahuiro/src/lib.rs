@@ -64,7 +64,11 @@
 //! A fitter's sheet is text that becomes a list: [`sheet_words`].
 //!
 //! Events that come one by one are played in portions of any length: [`Store::portion`] takes a
-//! [`State`] and a [`Work`] that the caller keeps from one portion to the next.
+//! [`State`] and a [`Work`] that the caller keeps from one portion to the next. A [`Session`] keeps all three,
+//! and has a method for each thing to do.
+//!
+//! All this changes a copy of the store in memory. A [`Device`] brings it to a [`Medium`], page write by page
+//! write, so that the power may go at any moment; `docs/DEVICE.md` says what a medium owes.
 //!
 //! Transactions whose locks were refused may wait on each other, and then no retry helps: [`State::waiting`]
 //! shows a [`Ring`] of them, of which one has to be aborted.
@@ -89,11 +93,15 @@ mod age;
 mod answer;
 mod commit_page;
 mod depot;
+mod device;
 mod event;
 pub mod limits;
 mod numbers;
+mod page_write;
 #[allow(unsafe_code)] // the only module that calls the linked library
 pub mod raw;
+mod reason;
+mod session;
 mod sheet;
 mod state;
 mod store;
@@ -105,8 +113,12 @@ pub use age::{Age, Clock, Limit, Verdict};
 pub use answer::{page_writes, Answer, Refusal, CUT, DONE};
 pub use commit_page::{CommitPage, Map, Page};
 pub use depot::{vote, Depot, Message, Order, Stage};
+pub use device::{Device, Fault, Medium};
 pub use event::{encode, Event, Fields};
 pub use numbers::{Identity, Record, Transaction};
+pub use page_write::PageWrite;
+pub use reason::Reason;
+pub use session::{Session, Transact};
 pub use sheet::{sheet_words, BadSheet};
 pub use state::State;
 pub use store::{Place, Store};
@@ -118,3 +130,8 @@ pub use work::Work;
 #[cfg(doctest)]
 #[doc = include_str!("../../../README.md")]
 struct Readme;
+
+/// And those of the page on devices.
+#[cfg(doctest)]
+#[doc = include_str!("../../../docs/DEVICE.md")]
+struct Devices;

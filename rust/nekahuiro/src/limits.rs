@@ -30,3 +30,5 @@ pub const COUNT_LIMIT: u8 = 63;
 pub const ROWS: usize = 24;
 /// Bytes of a lent state.
 pub const STATE_BYTES: usize = 468;
+/// Bytes of a page write: the number of the page, then its bytes.
+pub const PAGE_WRITE_BYTES: usize = 1 + PAGE_BYTES;

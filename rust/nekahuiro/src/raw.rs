@@ -34,6 +34,18 @@ mod linked {
             answers: *mut u8,
             answers_bytes: usize,
         ) -> u8;
+        pub fn nekahuiro_page_write(
+            state: *const State,
+            store: *const u8,
+            store_bytes: usize,
+            event: *const u8,
+            event_bytes: usize,
+            work: *const u8,
+            work_bytes: usize,
+            index: u8,
+            write: *mut u8,
+            write_bytes: usize,
+        ) -> u8;
         pub fn nekahuiro_fresh(store: *mut u8, store_bytes: usize) -> u8;
         pub fn nekahuiro_age(
             store: *const u8,
@@ -88,6 +100,27 @@ pub fn portion(state: &mut State, store: &mut [u8], events: &[u8], work: &mut [u
             work.len(),
             answers.as_mut_ptr(),
             answers.len(),
+        )
+    }
+}
+
+/// The page write of this number that an event word makes if nothing cuts it: 0 with `write` set, 12 if there
+/// is none, or a refusal's number; then nothing is written.
+pub fn page_write(state: &State, store: &[u8], event: &[u8], work: &[u8], index: u8, write: &mut [u8]) -> u8 {
+    // SAFETY: a live struct of integers, laid out as in C, and four live slices with their own lengths; the one
+    // that is written is borrowed alone.
+    unsafe {
+        linked::nekahuiro_page_write(
+            state,
+            store.as_ptr(),
+            store.len(),
+            event.as_ptr(),
+            event.len(),
+            work.as_ptr(),
+            work.len(),
+            index,
+            write.as_mut_ptr(),
+            write.len(),
         )
     }
 }

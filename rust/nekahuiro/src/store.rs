@@ -4,8 +4,11 @@ use crate::age::{Clock, Limit, Verdict};
 use crate::answer::{Answer, Refusal};
 use crate::commit_page::{CommitPage, Page};
 use crate::event::{encode, Event};
-use crate::limits::{ANSWER_BYTES, EVENT_BYTES, PAGE_BYTES, RECORDS, STORE_BYTES, WORK_BYTES};
-use crate::{raw, Record, State, Work};
+use crate::limits::{ANSWER_BYTES, EVENT_BYTES, PAGE_BYTES, PAGE_WRITE_BYTES, RECORDS, STORE_BYTES, WORK_BYTES};
+use crate::{raw, PageWrite, Record, State, Work};
+
+/// What the library answers where an event makes no page write of a number.
+const NO_SUCH_WRITE: u8 = 12;
 
 /// The stable store, owned.
 ///
@@ -122,6 +125,41 @@ impl Store {
     ) -> Result<(), Refusal> {
         match raw::portion(state, &mut self.bytes, words, work, answers) {
             0 => Ok(()),
+            number => Err(Refusal::of(number)),
+        }
+    }
+
+    /// The page writes that an event word makes on this store, state and working buffer if nothing cuts it,
+    /// in their order. None if the event is refused or writes no page. Nothing is played.
+    ///
+    /// ```
+    /// use nekahuiro::{Event, State, Store, Work};
+    /// let (mut store, mut state, mut work) = (Store::fresh(), State::new(), Work::new());
+    /// for line in ["recover 63", "begin none", "lock 0 3", "write 0 3 2 A5"] {
+    ///     store.portion(&mut state, &mut work, &[line.parse()?])?;
+    /// }
+    /// let commit: Event = "commit 0 63".parse()?;
+    /// let writes = store.page_writes(&state, &work, commit.word())?;
+    /// let pages: Vec<u8> = writes.iter().map(|write| write.page).collect();
+    /// assert_eq!(pages, [4, 0, 20, 0]); // intention page, commit page, home page, empty page
+    /// # Ok::<(), Box<dyn std::error::Error>>(())
+    /// ```
+    pub fn page_writes(&self, state: &State, work: &Work, word: [u8; EVENT_BYTES]) -> Result<Vec<PageWrite>, Refusal> {
+        (0..=u8::MAX).map_while(|index| self.page_write(state, work, word, index).transpose()).collect()
+    }
+
+    /// The one of [`Store::page_writes`] with this number, from 0, if there is one. No memory is asked for.
+    pub fn page_write(
+        &self,
+        state: &State,
+        work: &Work,
+        word: [u8; EVENT_BYTES],
+        index: u8,
+    ) -> Result<Option<PageWrite>, Refusal> {
+        let mut write = [0; PAGE_WRITE_BYTES];
+        match raw::page_write(state, &self.bytes, &word, work.bytes(), index, &mut write) {
+            0 => Ok(Some(PageWrite::of(write))),
+            NO_SUCH_WRITE => Ok(None),
             number => Err(Refusal::of(number)),
         }
     }

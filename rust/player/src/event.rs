@@ -59,6 +59,14 @@ pub enum Event {
     Query(Identity),
 }
 
+/// The word with as many page writes as it can name before the power goes, where its kind has a count.
+pub fn uncut(mut word: [u8; EVENT_BYTES]) -> [u8; EVENT_BYTES] {
+    if matches!(word[0] >> 4, 5 | 8 | 9 | 10) {
+        word[2] |= 0x3F;
+    }
+    word
+}
+
 /// The event that a word tells, or none if the word is bad: an unknown kind, a stray bit or a value or
 /// decision that the kind doesn't take.
 pub fn decode(word: [u8; EVENT_BYTES]) -> Option<Event> {

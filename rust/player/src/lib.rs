@@ -33,7 +33,7 @@ pub mod waiting;
 use event::Record;
 use limits::{ANSWER_BYTES, EVENTS, EVENT_BYTES, PAGE_BYTES, RECORDS, STORE_BYTES, WORK_BYTES};
 pub use player::{Answer, Player};
-use store::Store;
+use store::{Page, Store};
 pub use volatile::Volatile;
 
 /// Refused: page 0 is damaged.
@@ -80,6 +80,15 @@ pub fn portion(volatile: &mut Volatile, store: &mut [u8], events: &[u8], work: &
         Ok(player) => play(player, events, answers),
         Err(number) => number,
     }
+}
+
+/// The page writes that an event word makes if nothing cuts it, in their order: the number of each page, and its
+/// bytes. None at all where the store has the wrong length or the volatile can't be with it.
+pub fn page_writes(volatile: &Volatile, store: &[u8], word: [u8; EVENT_BYTES]) -> Option<Vec<(u8, Page)>> {
+    let (mut volatile, mut store) = (volatile.clone(), store.to_vec());
+    let player = Player::new(Store::over(&mut store)?, &mut volatile);
+    let script = player.is_sound().then(|| player.page_writes(event::uncut(word)))?;
+    Some(script.into_iter().map(|(place, page)| (place.number(), page)).collect())
 }
 
 /// As [`run`], with a bug.

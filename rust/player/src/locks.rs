@@ -15,7 +15,7 @@ pub struct Share {
 }
 
 /// The lock of each record: shares with something in them, one at most for a transaction.
-#[derive(Default)]
+#[derive(Clone, Default)]
 pub struct Locks {
     table: [Vec<Share>; RECORDS],
 }

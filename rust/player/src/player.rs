@@ -1,5 +1,7 @@
 //! One event at a time: the refusals in the order of the table, then the effect.
 
+mod pages;
+
 use crate::event::{decode, Decision, Event, Identity, Mode, Record, Transaction};
 use crate::limits::EVENT_BYTES;
 use crate::planted::Bug;
@@ -33,12 +35,17 @@ enum Refusal {
 
 type Outcome = Result<Answer, Refusal>;
 
+/// Page writes, in their order.
+type Script = Vec<(Place, Page)>;
+
 /// A run under way: a store, and a volatile that outlasts the run.
 pub struct Player<'s> {
     store: Store<'s>,
     volatile: &'s mut Volatile,
     /// What page 0 says.
     page: CommitPage,
+    /// The page writes made, where somebody wants to know them.
+    log: Option<Script>,
     #[cfg(feature = "planted")]
     bug: Option<Bug>,
 }
@@ -50,6 +57,7 @@ impl<'s> Player<'s> {
             page: store.commit_page(),
             store,
             volatile,
+            log: None,
             #[cfg(feature = "planted")]
             bug: None,
         }
@@ -228,7 +236,7 @@ impl<'s> Player<'s> {
         }
         let Some(ended) = self.volatile.tree.remove(transaction) else { return Err(Refusal::NotLive) };
         self.volatile.locks.discard(&[transaction]);
-        let mut script: Vec<(Place, Page)> =
+        let mut script: Script =
             ended.versions.iter().map(|(record, page)| (Place::Intention(*record), *page)).collect();
         if !ended.versions.is_empty() {
             let changed: Vec<Record> = ended.versions.keys().copied().collect();
@@ -263,50 +271,6 @@ impl<'s> Player<'s> {
 
     fn waits(&self, identity: Identity) -> bool {
         matches!(self.page, CommitPage::Prepared(_, prepared) if prepared == identity)
-    }
-
-    /// The intention pages of these records, to be written home.
-    fn copies_home(&self, named: &[Record]) -> Vec<(Place, Page)> {
-        named.iter().map(|record| (Place::Home(*record), self.store.page(Place::Intention(*record)))).collect()
-    }
-
-    /// The page writes of a top commit: intentions, commit page, home pages, empty page.
-    fn commit_script(&self, versions: impl IntoIterator<Item = (Record, Page)>) -> Vec<(Place, Page)> {
-        let versions: Vec<(Record, Page)> = versions.into_iter().collect();
-        if versions.is_empty() {
-            return Vec::new();
-        }
-        let named: Vec<Record> = versions.iter().map(|(record, _)| *record).collect();
-        let mut script = Vec::with_capacity(2 * versions.len() + 2);
-        script.extend(versions.iter().map(|(record, page)| (Place::Intention(*record), *page)));
-        script.push((Place::Commit, committed_page(&named)));
-        script.extend(versions.iter().map(|(record, page)| (Place::Home(*record), *page)));
-        script.push((Place::Commit, empty_page()));
-        if self.planted(Bug::HomeBeforeCommitPage) {
-            script.swap(named.len(), named.len() + 1);
-        }
-        if self.planted(Bug::EmptiedTooEarly) {
-            script.swap(2 * named.len(), 2 * named.len() + 1);
-        }
-        script
-    }
-
-    /// Makes the writes, or only the first `count` of them and then the crash.
-    fn write_pages(&mut self, script: &[(Place, Page)], count: u8) -> Answer {
-        let due = script.len();
-        let cut = (count as usize) < due;
-        let slip = usize::from(cut && self.planted(Bug::CutOffByOne));
-        let made = due.min(count as usize + slip);
-        for (place, page) in &script[..made] {
-            self.store.write(*place, page);
-        }
-        if script[..made].iter().any(|(place, _)| *place == Place::Commit) {
-            self.page = self.store.commit_page();
-        }
-        if cut {
-            self.crash();
-        }
-        Answer(if cut { CUT } else { DONE }, due.min(count as usize) as u8)
     }
 
     fn abort(&mut self, transaction: Transaction, report: bool) -> Outcome {

@@ -34,6 +34,17 @@ pub enum Place {
     Home(Record),
 }
 
+impl Place {
+    /// The number of the page.
+    pub fn number(self) -> u8 {
+        match self {
+            Place::Commit => 0,
+            Place::Intention(record) => 1 + record.0,
+            Place::Home(record) => 1 + RECORDS as u8 + record.0,
+        }
+    }
+}
+
 /// A lent store of the right length.
 pub struct Store<'s>(&'s mut [u8; STORE_BYTES]);
 
@@ -66,12 +77,7 @@ impl<'s> Store<'s> {
 }
 
 fn start(place: Place) -> usize {
-    PAGE_BYTES
-        * match place {
-            Place::Commit => 0,
-            Place::Intention(record) => 1 + record.0 as usize,
-            Place::Home(record) => 1 + RECORDS + record.0 as usize,
-        }
+    PAGE_BYTES * usize::from(place.number())
 }
 
 fn page_of(store: &[u8; STORE_BYTES], place: Place) -> Page {

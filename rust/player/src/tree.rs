@@ -6,6 +6,7 @@ use crate::store::Page;
 use std::collections::BTreeMap;
 
 /// A live transaction.
+#[derive(Clone)]
 pub struct Node {
     /// None for a top transaction.
     pub parent: Option<Transaction>,
@@ -18,7 +19,7 @@ pub struct Node {
 }
 
 /// All live transactions, each in the slot of its number.
-#[derive(Default)]
+#[derive(Clone, Default)]
 pub struct Tree {
     slots: [Option<Node>; TRANSACTIONS],
 }

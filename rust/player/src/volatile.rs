@@ -8,7 +8,7 @@ use crate::store::CommitPage;
 use crate::tree::{Node, Tree};
 
 /// What the player remembers; at the start it is down and nothing is live.
-#[derive(Default)]
+#[derive(Clone, Default)]
 pub struct Volatile {
     pub(crate) up: bool,
     pub(crate) tree: Tree,

@@ -19,7 +19,8 @@ pub struct Board {
     pub store: Bytes,
     /// The working buffer.
     pub work: Work,
-    volatile: Volatile,
+    /// What the player keeps.
+    pub volatile: Volatile,
     players_store: Bytes,
 }
 

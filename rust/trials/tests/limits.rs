@@ -1,7 +1,8 @@
 //! The numbers of the rules stand in three places: the C header, the wrapper and the player.
 
-use nekahuiro::{limits, Answer, Event, Message, Order, Refusal, Stage, State};
+use nekahuiro::{limits, Answer, Event, Message, Order, Reason, Refusal, Stage, State};
 use nekahuiro_player::limits as player;
+use nekahuiro_trials::planned::NO_SUCH_WRITE;
 
 fn header() -> String {
     let path = concat!(env!("CARGO_MANIFEST_DIR"), "/../../include/nekahuiro.h");
@@ -36,6 +37,9 @@ fn header_wrapper_and_player_have_the_same_numbers() {
     for (name, wrapper, player) in rows {
         assert_eq!((defined(name), player), (wrapper, wrapper), "{name}");
     }
+    assert_eq!(defined("NEKAHUIRO_PAGE_WRITE_BYTES"), limits::PAGE_WRITE_BYTES);
+    assert_eq!(defined("NEKAHUIRO_NO_SUCH_WRITE"), usize::from(NO_SUCH_WRITE));
+    assert_eq!(defined("NEKAHUIRO_NO_CUT"), usize::from(limits::COUNT_LIMIT));
 }
 
 #[test]
@@ -60,9 +64,25 @@ fn header_and_wrapper_have_the_same_kinds_and_numbers() {
     let decide = |words: &str| usize::from(words.parse::<Event>().expect(words).fields().offset);
     assert_eq!(defined("NEKAHUIRO_DECIDE_COMMIT"), decide("decide commit 0 0"));
     assert_eq!(defined("NEKAHUIRO_DECIDE_ABORT"), decide("decide abort 0 0"));
-    for number in ["ONE_PREPARED", "CHILD_AT_WORK", "NOT_TAKEN", "LIVE_CHILD"] {
-        let number = defined(&format!("NEKAHUIRO_{number}")) as u8;
-        let text = Answer { number, value: 0 }.to_string();
+    let reasons = [
+        ("BAD_EVENT", Reason::BadEvent),
+        ("DOWN", Reason::Down),
+        ("UP", Reason::Up),
+        ("DAMAGED", Reason::Damaged),
+        ("NOT_LIVE", Reason::NotLive),
+        ("TOO_DEEP", Reason::TooDeep),
+        ("TOO_MANY", Reason::TooMany),
+        ("NOT_GRANTABLE", Reason::NotGrantable),
+        ("NOT_HELD", Reason::NotHeld),
+        ("LIVE_CHILD", Reason::LiveChild),
+        ("ONE_PREPARED", Reason::OnePrepared),
+        ("CHILD_AT_WORK", Reason::ChildAtWork),
+        ("NOT_TAKEN", Reason::ChildPrepares),
+    ];
+    for (name, reason) in reasons {
+        let number = defined(&format!("NEKAHUIRO_{name}")) as u8;
+        assert_eq!(Answer { number, value: 0 }.refusal(), Some(reason), "{name}");
+        let text = reason.to_string();
         assert!(text.starts_with(&format!("refused {number}: ")) && !text.contains("unknown"), "{text}");
     }
     assert_eq!(defined("NEKAHUIRO_MANY_ROWS"), usize::from(Refusal::Rows.number()));

@@ -11,7 +11,7 @@ use crate::follow::Follower;
 use crate::{number_of, trace};
 use layout::Scale;
 use nekahuiro::limits::EVENT_BYTES;
-use nekahuiro::{describe, Answer, Event};
+use nekahuiro::{describe, Answer, Event, Reason};
 use nekahuiro_history::History;
 use std::collections::BTreeMap;
 use std::path::Path;
@@ -62,7 +62,7 @@ impl<'t> Told<'t> {
     }
 
     /// The refusals of this run, each number once.
-    pub fn refusals(&self) -> BTreeMap<u8, String> {
+    pub fn refusals(&self) -> BTreeMap<u8, Reason> {
         self.answers.iter().filter_map(|answer| Some((answer.number, answer.refusal()?))).collect()
     }
 
@@ -202,7 +202,7 @@ fn legend(svg: &mut Svg, told: &Told, scale: &Scale, top: f64) {
     let signs = if scale.has_room_for_text() { &letters[..] } else { &marks[..] };
     svg.text(16.0, top + 30.0, "legend", &signs.join(" \u{b7} "));
     svg.text(16.0, top + 46.0, "legend", &lines.join(" \u{b7} "));
-    for (row, (number, reason)) in told.refusals().iter().enumerate() {
-        svg.text(16.0, top + 62.0 + row as f64 * LEGEND_ROW, "refused-legend", &format!("refused {number}: {reason}"));
+    for (row, reason) in told.refusals().values().enumerate() {
+        svg.text(16.0, top + 62.0 + row as f64 * LEGEND_ROW, "refused-legend", &reason.to_string());
     }
 }

@@ -1,0 +1,44 @@
+-- While up, and of the prepared identity.
+use Rattle.laws.proofs.Booleans.{not-true, not-false}
+use Rattle.pagewrites.proofs.Planned.{decision-down, decision-other, decision-plans}
+use borrow.Author.Needs.{needs}
+use Rattle.pagewrites.proofs.decision_plan.Statement.{statement}
+use Rattle.pagewrites.proofs.decision_plan.Tie as tie
+use Rattle.pagewrites.proofs.decision_plan.Reads as reads
+use Rattle.pagewrites.proofs.decision_plan.Lts as lts
+use Rattle.decisions.proofs.is_for.Reads as is-for-reads
+use Rattle.pagewrites.proofs.none.Reads as none-reads
+use Rattle.pagewrites.proofs.of_decision.Reads as of-decision-reads
+
+none-requires : tie.Need-none-requires
+none-requires c κs = search needs
+
+returns : tie.Need-returns
+returns c = λ parent depth line held retained writers work store k I H. decision-down _ I (c .before .before .args .commits) k (c .before .before .args .i) _ (c .none .ensures) (c .before .if1 .taken)
+
+is-for-requires : tie.Need-is-for-requires
+is-for-requires c κs = search needs
+
+none-requires-2 : tie.Need-none-requires-2
+none-requires-2 c κs = search needs
+
+returns-2 : tie.Need-returns-2
+returns-2 c = λ parent depth line held retained writers work store k I H. decision-other _ I (c .before .before .before .before .args .commits) k (c .before .before .before .before .args .i) (c .before .before .before .if1 .left) _ _ H _ (c .before .before .is-for .ensures) _ (c .none2 .ensures) (not-true _ (c .before .if2 .taken))
+
+of-decision-requires : tie.Need-of-decision-requires
+of-decision-requires c κs = search needs
+
+returns-3 : tie.Need-returns-3
+returns-3 c = λ parent depth line held retained writers work store k I H. decision-plans _ I (c .before .before .before .before .args .commits) k (c .before .before .before .before .args .i) (c .before .before .before .if1 .left) _ _ H _ (c .before .before .is-for .ensures) _ (c .of-decision .ensures) (not-false _ (c .before .if2 .left))
+
+pub decision-plan-spec : {M : Type 1} → statement M
+decision-plan-spec =
+    tie.close
+    (tie.spec
+    none-requires
+    returns
+    is-for-requires
+    none-requires-2
+    returns-2
+    of-decision-requires
+    returns-3)

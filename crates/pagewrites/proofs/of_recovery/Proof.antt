@@ -1,0 +1,20 @@
+-- By whether the map names a record.
+use Rattle.pagewrites.proofs.Planned.{zero-recovery, some-recovery}
+use borrow.Author.Needs.{needs}
+use Rattle.pagewrites.proofs.of_recovery.Statement.{statement}
+use Rattle.pagewrites.proofs.of_recovery.Tie as tie
+use Rattle.pagewrites.proofs.of_recovery.Reads as reads
+use Rattle.pagewrites.proofs.of_recovery.Lts as lts
+use Rattle.pagewrites.proofs.none.Reads as none-reads
+
+none-requires : tie.Need-none-requires
+none-requires c κs = search needs
+
+returns : tie.Need-returns
+returns c = (zero-recovery (c .before .before .args .map) _ (c .none .ensures) (c .before .if1 .taken), search needs)
+
+returns-2 : tie.Need-returns-2
+returns-2 c = (some-recovery (c .before .args .map) (c .if1 .left), search needs)
+
+pub of-recovery-spec : {M : Type 1} → statement M
+of-recovery-spec = tie.close (tie.spec none-requires returns returns-2)

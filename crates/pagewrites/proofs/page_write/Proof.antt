@@ -1,0 +1,24 @@
+-- The plan, and the write in it.
+use Rattle.pagewrites.proofs.Planned.{told-as}
+use borrow.Author.Needs.{needs}
+use Rattle.pagewrites.proofs.page_write.Statement.{statement}
+use Rattle.pagewrites.proofs.page_write.Tie as tie
+use Rattle.pagewrites.proofs.page_write.Reads as reads
+use Rattle.pagewrites.proofs.page_write.Lts as lts
+use Rattle.pagewrites.proofs.plan_of.Reads as plan-of-reads
+use Rattle.pagewrites.proofs.put_numbered.Reads as put-numbered-reads
+
+plan-of-requires : tie.Need-plan-of-requires
+plan-of-requires c κs = search needs
+
+put-numbered-requires : tie.Need-put-numbered-requires
+put-numbered-requires c κs = search needs
+
+same-length : tie.Need-same-length
+same-length c = search needs
+
+returns : tie.Need-returns
+returns c = λ line held retained I. told-as (c .before .before .before .before .before .before .before .before .args .index) (c .before .before .before .before .before .before .before .before .args .write .now) (c .before .before .before .before .plan-of .ensures line held retained (c .before .before .before .before .before .before .before .before .args .work .now) I .writes) (c .before .before .put-numbered .ensures)
+
+pub page-write-spec : {M : Type 1} → statement M
+page-write-spec = tie.close (tie.spec plan-of-requires put-numbered-requires same-length returns)

@@ -1,0 +1,85 @@
+-- By the kind of the event.
+use mathlib.Core.Path.{sym, ap, _∙_}
+use mathlib.Core.Bool.{Bool}
+use mathlib.Core.Option.{some}
+use Rattle.laws.specs.Tests.{same}
+use Rattle.rules.specs.Event.{decide}
+use Rattle.event.proofs.Meaning.{means-recover, means-decide}
+use Rattle.engine.proofs.Numbers.{transaction-is, no-transaction}
+use Rattle.pagewrites.proofs.Planned.{plans-as, by-number, decision-of, settles, still-plans, unnamed-plans}
+use borrow.Author.Needs.{needs}
+use Rattle.pagewrites.proofs.plan_of.Statement.{statement}
+use Rattle.pagewrites.proofs.plan_of.Tie as tie
+use Rattle.pagewrites.proofs.plan_of.Reads as reads
+use Rattle.pagewrites.proofs.plan_of.Lts as lts
+use Rattle.commit.proofs.read_held.Reads as read-held-reads
+use Rattle.numbers.proofs.TransactionNumber.checked.Reads as checked-reads
+use Rattle.pagewrites.proofs.decision_plan.Reads as decision-plan-reads
+use Rattle.pagewrites.proofs.none.Reads as none-reads
+use Rattle.pagewrites.proofs.recovery_plan.Reads as recovery-plan-reads
+use Rattle.pagewrites.proofs.top_plan.Reads as top-plan-reads
+
+read-held-requires : tie.Need-read-held-requires
+read-held-requires c κs = search needs
+
+recovery-plan-requires : tie.Need-recovery-plan-requires
+recovery-plan-requires c κs = search needs
+
+returns : tie.Need-returns
+returns c = λ line held retained work I. let e = c .before .before .before .before .args .e in plans-as _ _ _ _ (means-recover e (c .before .if1 .taken)) (c .recovery-plan .ensures _ _ line held retained _ work (e .count) I)
+
+decision-plan-requires : tie.Need-decision-plan-requires
+decision-plan-requires c κs = search needs
+
+returns-2 : tie.Need-returns-2
+unfolding same
+returns-2 c = λ line held retained work I. let e = c .before .before .before .before .before .before .args .e in plans-as _ _ _ _ (means-decide e (c .before .before .if2 .taken) ∙ ap (λ (d : Bool). some (decide d (e .count) (e .value))) (decision-of (e .offset))) (c .decision-plan .ensures _ _ line held retained _ work _ (e .count) I (sym (c .before .before .before .before .read-held .ensures)))
+
+checked-requires : tie.Need-checked-requires
+checked-requires c κs = search needs
+
+enum-known-t : tie.Need-enum-known-t
+enum-known-t c = search needs
+
+top-plan-requires : tie.Need-top-plan-requires
+top-plan-requires c κs = search needs
+
+enum-told : tie.Need-enum-told
+enum-told c = search needs
+
+none-requires : tie.Need-none-requires
+none-requires c κs = search needs
+
+returns-3 : tie.Need-returns-3
+unfolding same
+returns-3 c = λ line held retained work I. let e = c .before .before .before .before .before .before .before .before .before .before .args .e in plans-as _ _ _ _ (settles e (c .before .before .before .before .before .if3 .taken)) (by-number _ _ (e .count) _ _ _ _ (transaction-is (e .transaction) _ (sym (c .before .before .t .given .1) ∙ c .before .before .before .before .checked .ensures)) (c .top-plan .ensures line held retained work _ (e .count) _ I (sym (c .before .before .before .before .before .before .before .before .read-held .ensures))))
+
+returns-4 : tie.Need-returns-4
+unfolding same
+returns-4 c = λ line held retained work I. let e = c .before .before .before .before .before .before .before .before .before .args .e in unnamed-plans _ I e _ (c .none .ensures) (c .before .before .before .before .if3 .taken) (no-transaction (e .transaction) (sym (c .before .enum-told .given .1) ∙ c .before .before .before .checked .ensures))
+
+none-requires-2 : tie.Need-none-requires-2
+none-requires-2 c κs = search needs
+
+returns-5 : tie.Need-returns-5
+unfolding same
+returns-5 c = λ line held retained work I. let e = c .before .before .before .before .before .before .args .e in still-plans _ e _ (c .none2 .ensures) (c .before .before .before .if1 .left) (c .before .before .if2 .left) (c .before .if3 .left)
+
+pub plan-of-spec : {M : Type 1} → statement M
+plan-of-spec =
+    tie.close
+    (tie.spec
+    read-held-requires
+    recovery-plan-requires
+    returns
+    decision-plan-requires
+    returns-2
+    checked-requires
+    enum-known-t
+    top-plan-requires
+    enum-told
+    none-requires
+    returns-3
+    returns-4
+    none-requires-2
+    returns-5)

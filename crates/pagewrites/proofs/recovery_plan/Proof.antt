@@ -1,0 +1,44 @@
+-- The tests of a recovery.
+use Rattle.laws.proofs.Booleans.{not-true, not-false}
+use Rattle.pagewrites.proofs.Planned.{recovery-up, recovery-damaged, recovery-plans}
+use borrow.Author.Needs.{needs}
+use Rattle.pagewrites.proofs.recovery_plan.Statement.{statement}
+use Rattle.pagewrites.proofs.recovery_plan.Tie as tie
+use Rattle.pagewrites.proofs.recovery_plan.Reads as reads
+use Rattle.pagewrites.proofs.recovery_plan.Lts as lts
+use Rattle.commit.proofs.read_map.Reads as read-map-reads
+use Rattle.pagewrites.proofs.none.Reads as none-reads
+use Rattle.pagewrites.proofs.of_recovery.Reads as of-recovery-reads
+
+none-requires : tie.Need-none-requires
+none-requires c κs = search needs
+
+returns : tie.Need-returns
+returns c = λ parent depth line held retained writers work k I. recovery-up _ I k _ (c .none .ensures) (c .before .if1 .taken)
+
+read-map-requires : tie.Need-read-map-requires
+read-map-requires c κs = search needs
+
+none-requires-2 : tie.Need-none-requires-2
+none-requires-2 c κs = search needs
+
+returns-2 : tie.Need-returns-2
+returns-2 c = λ parent depth line held retained writers work k I. recovery-damaged _ I k (c .before .before .before .before .if1 .left) _ (c .before .before .before .read-map .ensures) _ (c .none2 .ensures) (not-true _ (c .before .if2 .taken))
+
+of-recovery-requires : tie.Need-of-recovery-requires
+of-recovery-requires c κs = search needs
+
+returns-3 : tie.Need-returns-3
+returns-3 c = λ parent depth line held retained writers work k I. recovery-plans _ I k (c .before .before .before .before .if1 .left) _ (c .before .before .before .read-map .ensures) _ (c .of-recovery .ensures) (not-false _ (c .before .if2 .left))
+
+pub recovery-plan-spec : {M : Type 1} → statement M
+recovery-plan-spec =
+    tie.close
+    (tie.spec
+    none-requires
+    returns
+    read-map-requires
+    none-requires-2
+    returns-2
+    of-recovery-requires
+    returns-3)

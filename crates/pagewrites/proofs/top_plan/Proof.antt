@@ -1,0 +1,95 @@
+-- The tests of a commit and of a prepare.
+use mathlib.Core.Path.{sym, _∙_}
+use native.Mathlib.Omega.{arith}
+use Rattle.laws.specs.Tests.{same}
+use Rattle.pagewrites.proofs.Planned.{top-down, top-unknown, top-parent, top-beneath, top-busy, top-plans, by-number, above-zero, child-found}
+use borrow.Author.Needs.{needs}
+use Rattle.pagewrites.proofs.top_plan.Statement.{statement}
+use Rattle.pagewrites.proofs.top_plan.Tie as tie
+use Rattle.pagewrites.proofs.top_plan.Reads as reads
+use Rattle.pagewrites.proofs.top_plan.Lts as lts
+use Rattle.commitpage.proofs.map_of.Reads as map-of-reads
+use Rattle.numbers.proofs.TransactionNumber.number.Reads as number-reads
+use Rattle.pagewrites.proofs.none.Reads as none-reads
+use Rattle.pagewrites.proofs.of_top.Reads as of-top-reads
+use Rattle.transactions.proofs.children_of.Reads as children-of-reads
+use Rattle.transactions.proofs.has_child.Reads as has-child-reads
+
+number-requires : tie.Need-number-requires
+number-requires c κs = search needs
+
+none-requires : tie.Need-none-requires
+none-requires c κs = search needs
+
+returns : tie.Need-returns
+returns c = λ line held retained work store k i I H. top-down _ I _ _ k _ _ (c .none .ensures) (c .before .if1 .taken)
+
+cast-d : tie.Need-cast-d
+cast-d c = search needs
+
+element-copy-out-d : tie.Need-element-copy-out-d
+element-copy-out-d c = search needs
+
+none-requires-2 : tie.Need-none-requires-2
+none-requires-2 c κs = search needs
+
+returns-2 : tie.Need-returns-2
+returns-2 c = λ line held retained work store k i I H. by-number _ _ k _ _ _ _ (c .before .before .before .before .number .ensures .0) (top-unknown _ I _ _ k _ _ (c .none2 .ensures) (c .before .before .before .if1 .left) (c .before .if2 .taken))
+
+children-of-requires : tie.Need-children-of-requires
+children-of-requires c κs = search needs
+
+has-child-requires : tie.Need-has-child-requires
+has-child-requires c κs = search needs
+
+none-requires-3 : tie.Need-none-requires-3
+none-requires-3 c κs = search needs
+
+returns-3 : tie.Need-returns-3
+returns-3 c = λ line held retained work store k i I H. by-number _ _ k _ _ _ _ (c .before .before .before .before .before .before .before .before .number .ensures .0) (top-parent _ I _ _ k _ (record { up = c .before .before .before .before .before .before .before .if1 .left; live = above-zero _ (c .before .before .before .before .before .if2 .left) }) _ (c .none3 .ensures) (sym (child-found _ _ _ _ (c .before .before .before .before .before .before .before .before .number .ensures .1) (c .before .before .before .before .children-of .ensures .1) (c .before .before .has-child .ensures)) ∙ c .before .if3 .taken))
+
+none-requires-4 : tie.Need-none-requires-4
+none-requires-4 c κs = search needs
+
+returns-4 : tie.Need-returns-4
+returns-4 c = λ line held retained work store k i I H. by-number _ _ k _ _ _ _ (c .before .before .before .before .before .before .before .before .before .number .ensures .0) (top-beneath _ I _ _ k _ (record { up = c .before .before .before .before .before .before .before .before .if1 .left; live = above-zero _ (c .before .before .before .before .before .before .if2 .left) }) (sym (child-found _ _ _ _ (c .before .before .before .before .before .before .before .before .before .number .ensures .1) (c .before .before .before .before .before .children-of .ensures .1) (c .before .before .before .has-child .ensures)) ∙ c .before .before .if3 .left) _ i H _ (c .none4 .ensures) (c .before .if4 .taken))
+
+map-of-requires : tie.Need-map-of-requires
+map-of-requires c κs = (let h = c .before .before .before .before .before .before .before .before .number .ensures .1 in omega arith, search needs)
+
+none-requires-5 : tie.Need-none-requires-5
+none-requires-5 c κs = search needs
+
+returns-5 : tie.Need-returns-5
+unfolding same
+returns-5 c = λ line held retained work store k i I H. by-number _ _ k _ _ _ _ (c .before .before .before .before .before .before .before .before .before .before .before .number .ensures .0) (top-busy _ I _ _ k _ (record { up = c .before .before .before .before .before .before .before .before .before .before .if1 .left; live = above-zero _ (c .before .before .before .before .before .before .before .before .if2 .left) }) (sym (child-found _ _ _ _ (c .before .before .before .before .before .before .before .before .before .before .before .number .ensures .1) (c .before .before .before .before .before .before .before .children-of .ensures .1) (c .before .before .before .before .before .has-child .ensures)) ∙ c .before .before .before .before .if3 .left) _ i H _ (c .before .before .map-of .ensures) (c .before .before .before .if4 .left) _ (c .none5 .ensures) (c .before .if5 .taken))
+
+of-top-requires : tie.Need-of-top-requires
+of-top-requires c κs = search needs
+
+returns-6 : tie.Need-returns-6
+unfolding same
+returns-6 c = λ line held retained work store k i I H. by-number _ _ k _ _ _ _ (c .before .before .before .before .before .before .before .before .before .before .before .number .ensures .0) (top-plans _ I _ _ k _ (record { up = c .before .before .before .before .before .before .before .before .before .before .if1 .left; live = above-zero _ (c .before .before .before .before .before .before .before .before .if2 .left) }) (sym (child-found _ _ _ _ (c .before .before .before .before .before .before .before .before .before .before .before .number .ensures .1) (c .before .before .before .before .before .before .before .children-of .ensures .1) (c .before .before .before .before .before .has-child .ensures)) ∙ c .before .before .before .before .if3 .left) _ i H _ (c .before .before .map-of .ensures) (c .before .before .before .if4 .left) _ (c .of-top .ensures) (c .before .if5 .left))
+
+pub top-plan-spec : {M : Type 1} → statement M
+top-plan-spec =
+    tie.close
+    (tie.spec
+    number-requires
+    none-requires
+    returns
+    cast-d
+    element-copy-out-d
+    none-requires-2
+    returns-2
+    children-of-requires
+    has-child-requires
+    none-requires-3
+    returns-3
+    none-requires-4
+    returns-4
+    map-of-requires
+    none-requires-5
+    returns-5
+    of-top-requires
+    returns-6)

@@ -1,0 +1,58 @@
+-- The page writes that a plan of phases stands for, and the plans of each kind of event.
+use mathlib.Core.Path.{_≡_}
+use mathlib.Core.Bool.{Bool, true, false, not, cond}
+use mathlib.Core.List.{List, [], _∷_, _++_}
+use mathlib.Core.Option.{Option}
+use Prim.Native.Nat.{ℕ, _+_}
+use Rattle.laws.specs.Tests.{same}
+use Rattle.rules.specs.Store.{Page, pagesOf, named, commitPage, preparedPage}
+use Rattle.rules.specs.Event.{Event}
+use Rattle.rules.specs.Commit.{PageWrite, sets}
+use Rattle.rules.specs.Editions.{geometry1}
+use Rattle.device.specs.Asked.{planFor}
+use Rattle.commitpage.specs.Heard.{prepared}
+use Rattle.commit.specs.Phase.{sweep, copies, topSlot}
+use Rattle.events.specs.Whole.{Arrays, view}
+use Rattle.pagewrites.specs.declared.Plan.{Plan}
+
+abbrev pub plan : ℕ → ℕ → Bool → Bool → Bool → Bool → Bool → Bool → Plan
+plan map identity intentions committed prepared homes emptied stored =
+    record { map = map; identity = identity; intentions = intentions; committed = committed; prepared = prepared; homes = homes; emptied = emptied; stored = stored }
+
+abbrev pub nothing : Plan
+nothing = plan 0 0 false false false false false false
+
+unfoldable pub ofTop : ℕ → Bool → ℕ → Plan
+ofTop map prepares identity = cond (same map 0) nothing (plan map identity true (not prepares) prepares (not prepares) (not prepares) false)
+
+unfoldable pub ofRecovery : ℕ → Plan
+ofRecovery map = cond (same map 0) nothing (plan map 0 false false false true true true)
+
+abbrev pub ofDecision : ℕ → Bool → Plan
+ofDecision map commits = plan map 0 false commits false commits true true
+
+-- the page that is written for a record
+unfoldable pub sourceOf : Plan → List ℕ → List ℕ → ℕ → Page
+sourceOf p work store r = cond (p .stored) (pagesOf store (1 + r)) (topSlot work r)
+
+-- a phase that there is
+unfoldable pub when : Bool → List PageWrite → List PageWrite
+when there ws = cond there ws []
+
+-- the page writes, phase by phase
+unfoldable pub writesOf : Plan → List ℕ → List ℕ → List PageWrite
+writesOf p work store =
+    when (p .intentions) (sweep (named geometry1 (p .map)) (copies 1 (sourceOf p work store)) 16)
+    ++ (when (p .committed) (sets 0 (commitPage geometry1 (p .map)) ∷ [])
+    ++ (when (p .prepared) (sets 0 (preparedPage geometry1 (prepared (p .map) (p .identity))) ∷ [])
+    ++ (when (p .homes) (sweep (named geometry1 (p .map)) (copies 17 (sourceOf p work store)) 16)
+    ++ when (p .emptied) (sets 0 (commitPage geometry1 0) ∷ []))))
+
+-- a plan's page writes are those that the rules plan for an event, or for a bad one
+pub record Plans (x : Arrays) (e : Option Event) (p : Plan) : Type 0 where
+  pub writes : writesOf p (x .work) (x .store) ≡ planFor geometry1 (view x) e
+
+-- opens the definitions of this module: for what is proved by computing
+unfoldable pub open-phases : Unit {0}
+unfolding ofTop ofRecovery sourceOf when writesOf
+open-phases = tt
