@@ -92,7 +92,7 @@ module _ (map : ℕ) (v : ℕ → Option Page) (new : ℕ → Page) (are : (r : 
   unfolding homes sweep home copies records
   homes-are = sweep-same 16 (named geometry1 map) _ _ (λ r lt e. ap₂ sets (omega arith) (page-is r lt e))
 
-  plan-is : map < 2 ^ 16 → map ≢ 0
+  pub plan-is : map < 2 ^ 16 → map ≢ 0
       → commitWrites geometry1 (pageIn v) (mapOf geometry1 (λ r. isSome (v r))) (those (records geometry1) (λ r. isSome (v r)))
       ≡ (sweep (named geometry1 map) (copies 1 new) 16 ++ ((marks geometry1 map ∷ []) ++ sweep (named geometry1 map) (copies 17 new) 16)) ++ (marks geometry1 0 ∷ [])
   plan-is small h =
