@@ -16,7 +16,7 @@ ghost use Rattle.scans.specs.Scans.{eventAt, modeTest, locksAt, writesAt
 use event::Event;
 
 // Event k.
-fn event_at(table: &[u32; 16], events: &[u8], k: usize) -> Event
+pub fn event_at(table: &[u32; 16], events: &[u8], k: usize) -> Event
     requires { ⌜ (now table ≡ flags) × (k < 4096) × (4 * k + 4 ≤ length (now events)) ⌝ }
     ensures { λ e. ⌜ (eventAt (now (events .entry)) k ≡ meaning e) × InRange e ⌝ }
 {
