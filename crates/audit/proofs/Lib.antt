@@ -9,4 +9,3 @@ pub mod Learns
 pub mod Blocks
 pub mod Agrees
 pub mod Audits
-pub mod Trials

@@ -14,6 +14,8 @@ ghost use Rattle.nekahuiro.specs.Portions.{Kept, kept, Portioned-as};
 ghost use Rattle.events.specs.Whole.{Intact};
 ghost use Rattle.portions.specs.Portion.{whole};
 ghost use Rattle.clauses.specs.Decides.{Decides};
+ghost use Rattle.audit.specs.Audit.{audit1};
+ghost use Rattle.verdict.specs.Codes.{numberIn, placeIn};
 ghost use Rattle.messages.specs.Codes.{left};
 ghost use Rattle.messages.specs.Votes.{voteOn};
 use portions::Engine;
@@ -187,4 +189,21 @@ pub extern "C" fn nekahuiro_vote(kind: u8, number: u8, value: u8) -> u8
     ensures { λ r. ⌜ r ≡ voteOn kind number value ⌝ }
 {
     messages::vote(kind, number, value)
+}
+
+// Whether a start store, a list of events, its answers and an end store belong together: 0 if so; 1 if not, and the first wrong event at `place`;
+// 2, where every event is right, and the first wrong page at `place`; or refused with 22, 20, 21 or 30, and `place` stays.
+#[no_mangle]
+pub extern "C" fn nekahuiro_audit(
+    start: &[u8],
+    events: &[u8],
+    answers: &[u8],
+    end: &[u8],
+    place: &mut u16,
+) -> u8
+    ensures { λ r.
+        let verdict = audit1 (now (start .entry)) (now (events .entry)) (now (answers .entry)) (now (end .entry)) in
+        ⌜ (r ≡ numberIn verdict) × (now (place .exit) ≡ placeIn verdict (now (place .entry))) ⌝ }
+{
+    verdict::audit(start, events, answers, end, place)
 }

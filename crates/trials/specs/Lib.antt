@@ -3,3 +3,4 @@ pub mod Rows
 pub mod PreparedTrials
 pub mod Trials
 pub mod PortionTrials
+pub mod AuditTrials

@@ -2,7 +2,7 @@
 
 use crate::command::Command;
 use crate::failure::{visible, Failure, Outcome};
-use crate::{age, bench, demo, depot, encode, fresh, help, play, show};
+use crate::{age, audit, bench, demo, depot, encode, fresh, help, play, show};
 
 /// All commands.
 pub const ALL: &[Command] = &[
@@ -11,6 +11,7 @@ pub const ALL: &[Command] = &[
     play::COMMAND,
     show::COMMAND,
     age::COMMAND,
+    audit::COMMAND,
     depot::COMMAND,
     encode::COMMAND,
     bench::COMMAND,

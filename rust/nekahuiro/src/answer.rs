@@ -110,6 +110,8 @@ pub enum Refusal {
     State,
     /// 27: the depot doesn't take this message in its state.
     Message,
+    /// 30: the auditor doesn't take a prepare, decide or query, nor a start store with a prepared transaction.
+    Unaudited,
     /// A number that this edition doesn't know.
     Other(u8),
 }
@@ -126,6 +128,7 @@ impl Refusal {
             24 => Refusal::Work,
             25 => Refusal::State,
             27 => Refusal::Message,
+            30 => Refusal::Unaudited,
             other => Refusal::Other(other),
         }
     }
@@ -141,6 +144,7 @@ impl Refusal {
             Refusal::Work => 24,
             Refusal::State => 25,
             Refusal::Message => 27,
+            Refusal::Unaudited => 30,
             Refusal::Other(number) => number,
         }
     }
@@ -158,6 +162,9 @@ impl fmt::Display for Refusal {
             Refusal::Work => write!(f, "the working buffer has exactly {WORK_BYTES} bytes"),
             Refusal::State => write!(f, "the state isn't one that the last portion left with this store"),
             Refusal::Message => write!(f, "the depot doesn't take this message in its state"),
+            Refusal::Unaudited => {
+                write!(f, "a list with a prepare, decide or query, or a start store with a prepared transaction, can't be audited")
+            }
             Refusal::Other(_) => write!(f, "an unknown refusal"),
         }
     }

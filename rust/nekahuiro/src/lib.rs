@@ -61,11 +61,14 @@
 //! # Ok::<(), Box<dyn std::error::Error>>(())
 //! ```
 //!
+//! Whether a store, a list, its answers and the store after it belong together is for the [`audit`] to say.
+//!
 //! Events that come one by one are played in portions of any length: [`Store::portion`] takes a
 //! [`State`] and a [`Work`] that the caller keeps from one portion to the next.
 
 mod age;
 mod answer;
+pub mod audit;
 mod commit_page;
 mod depot;
 mod event;
