@@ -145,7 +145,7 @@ fn read_event(
 {
     if scans::holds(table, events, owner, n, me, r, true) {
         let page = scans::page_of(
-            pagewrites::settled_page(start, r),
+            auditpages::settled_page(start, r),
             table,
             events,
             owner,
@@ -213,7 +213,7 @@ pub struct Outcome {
 }
 
 // The fate of a top transaction after these page writes: it survives if none was cut, or the commit record was written.
-fn fate_after(w: pagewrites::Written) -> u8
+fn fate_after(w: auditpages::Written) -> u8
     ensures { λ f. ⌜ f ≡ cond (not (w .crashed) || under (w .ones) (w .made)) 3 1 ⌝ }
 {
     let made = w.made;
@@ -250,7 +250,7 @@ fn commit_event(
             up: true,
         };
     }
-    let w = pagewrites::commit_writes(start, store, table, events, owner, parent, fate, n, me, k);
+    let w = auditpages::commit_writes(start, store, table, events, owner, parent, fate, n, me, k);
     bearers::end(bearer, fate, t, fate_after(w));
     if w.crashed {
         bearers::end_within(bearer, parent, fate, 0);
@@ -278,7 +278,7 @@ fn recover_event(
     requires { ⌜ (length (now store) ≡ 1056) × ((u : ℕ) → getD (now bearer) u 0 < 4097) × (length (now bearer) ≡ 24) × (length (now fate) ≡ 4097) × Earlier (now parent) ⌝ }
     ensures { λ a. ⌜ ((start : ℕ → Page) (owner events : List ℕ) (begun n : ℕ) → begun < 4097 → Before events n (some (recover k)) (tables owner (now (parent .entry)) (now (fate .entry)) (now (bearer .entry)) begun false) → Audited start events n (tables owner (now (parent .entry)) (now (fate .entry)) (now (bearer .entry)) begun false) (now (store .entry)) (some (recover k)) (a .number) (a .value) (tables owner (now (parent .entry)) (now (fate .exit)) (now (bearer .exit)) begun (a .up)) (now (store .exit))) ⌝ }
 {
-    let c = pagewrites::read_map(store);
+    let c = auditpages::read_map(store);
     if !c.good {
         return Outcome {
             number: 4,
@@ -286,7 +286,7 @@ fn recover_event(
             up: false,
         };
     }
-    let m = pagewrites::recover_writes(store, c.map, k);
+    let m = auditpages::recover_writes(store, c.map, k);
     if m.crashed {
         bearers::end_within(bearer, parent, fate, 0);
         return Outcome {

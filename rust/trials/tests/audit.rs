@@ -8,6 +8,7 @@ use nekahuiro_lists::stores::{self, Bytes};
 use nekahuiro_lists::{timing, worked, Rng};
 use nekahuiro_trials::case::{Case, Played, TAIL_BYTES};
 use nekahuiro_trials::{settings, Program};
+use std::time::Instant;
 
 /// What `place` holds before a call.
 const BEFORE: u16 = 0xBEEF;
@@ -205,8 +206,13 @@ fn refusals_in_their_order() {
 #[test]
 fn the_longest_lists() {
     let mut rng = Rng::new(1);
-    for (_, events) in timing::all() {
-        every_byte(&Case { store: stores::fresh(), events }, &mut rng, 1_021);
+    for (name, events) in timing::all() {
+        let case = Case { store: stores::fresh(), events };
+        every_byte(&case, &mut rng, 1_021);
+        let Played { store, answers, .. } = played(&case);
+        let begun = Instant::now();
+        assert_eq!(audit(&case, &answers, &store), (0, BEFORE));
+        println!("audit: {} events, {name}, in {:?}", case.length(), begun.elapsed());
     }
     every_byte(&Case { store: stores::fresh(), events: worked::events() }, &mut rng, 1);
 }

@@ -1,4 +1,4 @@
-use Rattle.pagewrites.proofs.Ledgers.{linked}
+use Rattle.auditpages.proofs.Ledgers.{linked}
 use Rattle.rules.specs.Event.{accessOf}
 use Rattle.auditor.proofs.Owns.{lock-8, lock-0, lock-told}
 use mathlib.Core.Path.{_≡_, _∙_}

@@ -1,4 +1,4 @@
-use Rattle.pagewrites.proofs.Ledgers.{linked}
+use Rattle.auditpages.proofs.Ledgers.{linked}
 use Rattle.auditor.proofs.Owns.{read-9, read-0, read-told, read-byte}
 use Rattle.rules.specs.Editions.{edition1}
 use Rattle.history.specs.Demand3.{settledIn}

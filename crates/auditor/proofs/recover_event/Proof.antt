@@ -1,5 +1,5 @@
 use Rattle.laws.proofs.Booleans.{not-true, not-false}
-use Rattle.pagewrites.proofs.Settled.{map-said}
+use Rattle.auditpages.proofs.Settled.{map-said}
 use mathlib.Core.Path.{sym}
 use Prim.Native.Nat.{_-_}
 use Rattle.bearers.specs.Tables.{tables}

@@ -13,9 +13,9 @@ use Rattle.commit.specs.Phase.{Phase, sweep, copies}
 use Rattle.commit.proofs.Phases.{phase-none}
 use Rattle.commit.proofs.Sweeps.{Kept, kept-none, kept-then, kept-row, home-more}
 use Rattle.commit.proofs.Plans.{recover-none, recover-leaves}
-use Rattle.pagewrites.proofs.Marks.{marked}
-use Rattle.pagewrites.proofs.recover_writes.Statement.{statement}
-use Rattle.pagewrites.proofs.recover_writes.Tie as tie
+use Rattle.auditpages.proofs.Marks.{marked}
+use Rattle.auditpages.proofs.recover_writes.Statement.{statement}
+use Rattle.auditpages.proofs.recover_writes.Tie as tie
 
 abbrev Inv-loop : tie.InvT-loop
 Inv-loop store₀ map k rest₀ r₀ store rest r =

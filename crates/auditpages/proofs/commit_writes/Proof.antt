@@ -12,13 +12,13 @@ use Rattle.audit.specs.Plain.{changesBy}
 use Rattle.bearers.specs.Tables.{tables, ledgerOf}
 use Rattle.commit.proofs.Phases.{within}
 use Rattle.commit.proofs.Plans.{commit-none}
-use Rattle.pagewrites.specs.Changed.{changedPage}
-use Rattle.pagewrites.proofs.Ledgers.{linked}
-use Rattle.pagewrites.proofs.Halves.{halves-leave}
-use Rattle.pagewrites.proofs.Marks.{marked}
-use Rattle.pagewrites.proofs.Versions.{ones-are, versions-are}
-use Rattle.pagewrites.proofs.commit_writes.Statement.{statement}
-use Rattle.pagewrites.proofs.commit_writes.Tie as tie
+use Rattle.auditpages.specs.Changed.{changedPage}
+use Rattle.auditpages.proofs.Ledgers.{linked}
+use Rattle.auditpages.proofs.Halves.{halves-leave}
+use Rattle.auditpages.proofs.Marks.{marked}
+use Rattle.auditpages.proofs.Versions.{ones-are, versions-are}
+use Rattle.auditpages.proofs.commit_writes.Statement.{statement}
+use Rattle.auditpages.proofs.commit_writes.Tie as tie
 
 changed-map-requires : tie.Need-changed-map-requires
 changed-map-requires c κs = search needs

@@ -12,9 +12,9 @@ use Rattle.links.specs.Links.{Linked}
 use Rattle.commit.specs.Phase.{Phase, sweep, copies}
 use Rattle.commit.proofs.Phases.{phase-none}
 use Rattle.commit.proofs.Sweeps.{phase-more}
-use Rattle.pagewrites.specs.Changed.{changedPage}
-use Rattle.pagewrites.proofs.write_records.Statement.{statement}
-use Rattle.pagewrites.proofs.write_records.Tie as tie
+use Rattle.auditpages.specs.Changed.{changedPage}
+use Rattle.auditpages.proofs.write_records.Statement.{statement}
+use Rattle.auditpages.proofs.write_records.Tie as tie
 
 abbrev Inv-loop : tie.InvT-loop
 Inv-loop store₀ start table events owner parent fate n me map first left rest₀ r₀ store rest r =

@@ -8,10 +8,10 @@ use Rattle.rules.specs.Editions.{geometry1}
 use Rattle.commit.proofs.Sweeps.{row-made, row-not, some-left}
 use Rattle.history.specs.History.{overlaid}
 use Rattle.scans.specs.Scans.{writesUpTo, showsTo}
-use Rattle.pagewrites.specs.Changed.{changedPage}
+use Rattle.auditpages.specs.Changed.{changedPage}
 use borrow.Author.Needs.{needs}
-use Rattle.pagewrites.proofs.write_record.Statement.{statement}
-use Rattle.pagewrites.proofs.write_record.Tie as tie
+use Rattle.auditpages.proofs.write_record.Statement.{statement}
+use Rattle.auditpages.proofs.write_record.Tie as tie
 
 names-requires : tie.Need-names-requires
 names-requires c κs = search needs

@@ -13,9 +13,9 @@ use Rattle.rules.specs.Store.{bitsFrom, mapOf}
 use Rattle.audit.specs.Plain.{Ledger}
 use Rattle.scans.specs.Scans.{writesUpTo}
 use Rattle.commitpage.proofs.Maps.{map-room, map-next}
-use Rattle.pagewrites.proofs.Ledgers.{linked}
-use Rattle.pagewrites.proofs.changed_map.Statement.{statement}
-use Rattle.pagewrites.proofs.changed_map.Tie as tie
+use Rattle.auditpages.proofs.Ledgers.{linked}
+use Rattle.auditpages.proofs.changed_map.Statement.{statement}
+use Rattle.auditpages.proofs.changed_map.Tie as tie
 
 abbrev Inv-loop : tie.InvT-loop
 Inv-loop table events owner parent fate n me map₀ r₀ map r =

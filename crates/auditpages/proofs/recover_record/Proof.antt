@@ -7,8 +7,8 @@ use Rattle.rules.specs.Store.{Page, pagesOf, named}
 use Rattle.rules.specs.Editions.{geometry1}
 use Rattle.commit.proofs.Sweeps.{row-made, row-not, some-left}
 use borrow.Author.Needs.{needs}
-use Rattle.pagewrites.proofs.recover_record.Statement.{statement}
-use Rattle.pagewrites.proofs.recover_record.Tie as tie
+use Rattle.auditpages.proofs.recover_record.Statement.{statement}
+use Rattle.auditpages.proofs.recover_record.Tie as tie
 
 names-requires : tie.Need-names-requires
 names-requires c κs = search needs

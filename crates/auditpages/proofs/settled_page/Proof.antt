@@ -3,9 +3,9 @@ use borrow.Author.Needs.{needs}
 use mathlib.Core.Path.{sym, _∙_}
 use mathlib.Core.Bool.{true, false}
 use Rattle.rules.specs.Store.{pagesOf}
-use Rattle.pagewrites.proofs.Settled.{map-said, settled-is}
-use Rattle.pagewrites.proofs.settled_page.Statement.{statement}
-use Rattle.pagewrites.proofs.settled_page.Tie as tie
+use Rattle.auditpages.proofs.Settled.{map-said, settled-is}
+use Rattle.auditpages.proofs.settled_page.Statement.{statement}
+use Rattle.auditpages.proofs.settled_page.Tie as tie
 
 read-map-requires : tie.Need-read-map-requires
 read-map-requires c κs = search needs

@@ -1,7 +1,7 @@
 use Prim.Native.Nat.{_-_}
 use borrow.Author.Needs.{needs}
-use Rattle.pagewrites.proofs.grown.Statement.{statement}
-use Rattle.pagewrites.proofs.grown.Tie as tie
+use Rattle.auditpages.proofs.grown.Statement.{statement}
+use Rattle.auditpages.proofs.grown.Tie as tie
 
 mul-result : tie.Need-mul-result
 mul-result c = search needs

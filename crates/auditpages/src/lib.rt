@@ -18,7 +18,7 @@ ghost use Rattle.commit.specs.Phase.{Phase, Leaves, due, sweep, copies};
 ghost use Rattle.links.specs.Links.{Earlier, Linked};
 ghost use Rattle.scans.specs.Scans.{writesUpTo};
 ghost use Rattle.bearers.specs.Tables.{tables, ledgerOf};
-ghost use Rattle.pagewrites.specs.Changed.{changedPage};
+ghost use Rattle.auditpages.specs.Changed.{changedPage};
 
 // How many page writes were made, and whether a crash came before all were.
 pub struct Made {

@@ -2,8 +2,8 @@
 use mathlib.Core.Path.{ap, _∙_}
 use Rattle.commitpage.specs.Heard.{understood}
 use borrow.Author.Needs.{needs}
-use Rattle.pagewrites.proofs.read_map.Statement.{statement}
-use Rattle.pagewrites.proofs.read_map.Tie as tie
+use Rattle.auditpages.proofs.read_map.Statement.{statement}
+use Rattle.auditpages.proofs.read_map.Tie as tie
 
 get-page-requires : tie.Need-get-page-requires
 get-page-requires c κs = search needs

@@ -16,7 +16,7 @@ use Rattle.history.specs.History.{standsWith, writesTo, overlaid, changedBy}
 use Rattle.history.specs.Claims.{seenBy}
 use Rattle.audit.specs.Plain.{Ledger, hasChanged, readBy, changesBy}
 use Rattle.history.specs.Demand3.{settledIn}
-use Rattle.pagewrites.specs.Changed.{changedPage}
+use Rattle.auditpages.specs.Changed.{changedPage}
 use Rattle.links.specs.Links.{entryAt}
 use Rattle.scans.specs.Scans.{writesUpTo, showsTo}
 use Rattle.bearers.specs.Tables.{tables, ledgerOf}

@@ -2,8 +2,8 @@
 use native.Mathlib.Omega.{arith}
 use Rattle.commit.proofs.Phases.{phase-one, phase-spent}
 use borrow.Author.Needs.{needs}
-use Rattle.pagewrites.proofs.write_one.Statement.{statement}
-use Rattle.pagewrites.proofs.write_one.Tie as tie
+use Rattle.auditpages.proofs.write_one.Statement.{statement}
+use Rattle.auditpages.proofs.write_one.Tie as tie
 
 put-page-requires : tie.Need-put-page-requires
 put-page-requires c κs = search needs

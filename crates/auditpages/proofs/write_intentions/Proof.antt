@@ -1,9 +1,9 @@
 -- `write_intentions` is a sweep over the records, and one page write with what it left of the count.
 use borrow.Author.Needs.{needs}
 use Rattle.commit.proofs.Phases.{phase-then}
-use Rattle.pagewrites.proofs.Marks.{marked}
-use Rattle.pagewrites.proofs.write_intentions.Statement.{statement}
-use Rattle.pagewrites.proofs.write_intentions.Tie as tie
+use Rattle.auditpages.proofs.Marks.{marked}
+use Rattle.auditpages.proofs.write_intentions.Statement.{statement}
+use Rattle.auditpages.proofs.write_intentions.Tie as tie
 
 write-records-requires : tie.Need-write-records-requires
 write-records-requires c κs = search needs
