@@ -46,7 +46,7 @@ wordBytes (w ∷ ws) = bytes 4 w ++ wordBytes ws
 -- answers as numbers of two bytes
 abbrev pub two : List ℕ → List ℕ
 two [] = []
-two (a ∷ as) = a / 256 ∷ a % 256 ∷ two as
+two (a ∷ rest) = a / 256 ∷ a % 256 ∷ two rest
 
 abbrev pub passes : Row → Bool
 passes x = sameVerdict (audit1 (x .start) (wordBytes (x .words)) (x .answers) (x .end)) (x .due)
