@@ -3,18 +3,19 @@
  * Link target/staticlib/libnekahuiro.a, which `rt staticlib nekahuiro` makes. The library is for
  * x86-64. It allocates nothing, keeps nothing between calls, and calls at most memcpy, memmove, memset
  * and memcmp of the C library. `nekahuiro_run` plays a whole list; `nekahuiro_portion` plays events as
- * they come, on a state that the caller keeps. `nekahuiro_waiting` shows transactions of such a state that
- * wait on each other. `nekahuiro_depot` and `nekahuiro_vote` are for two ends that commit together. `nekahuiro_sheet` makes a list of a job sheet, which is text.
+ * they come, on a state that the caller keeps, and `nekahuiro_page_write` says before an event which pages
+ * it writes; nekahuiro_device.h brings them to a medium. `nekahuiro_waiting` shows transactions of such a
+ * state that wait on each other. `nekahuiro_depot` and `nekahuiro_vote` are for two ends that commit
+ * together. `nekahuiro_sheet` makes a list of a job sheet, which is text; `nekahuiro_audit` says whether a
+ * list, its answers and two stores belong together.
  *
  * What a caller owes to every function here:
  *   - Each pointer points to as many bytes as the size after it says, or rows as the count after it
  *     says. No pointer is null, not even where the size or count is 0.
  *   - No two buffers of one call overlap, and nobody else touches them while the call runs. Calls on
  *     different buffers may run at the same time.
- *   - Byte buffers, rows and rings need no alignment; `age` is aligned as an int64_t is, `told` as a size_t, `place` as a uint16_t
- *     is, `state` as
- *     its
- *     struct is.
+ *   - Byte buffers, rows and rings need no alignment; `age` is aligned as an int64_t is, `told` as a
+ *     size_t, `place` as a uint16_t, `state` as its struct is.
  *   - At least NEKAHUIRO_STACK_BYTES of stack are free, or NEKAHUIRO_AUDIT_STACK_BYTES for an audit.
  * Buffers stay the caller's, and their contents may be anything. What each call answers and leaves in
  * every buffer is proved for all contents and all sizes: see docs/PROMISES.md.
