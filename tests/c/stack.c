@@ -155,6 +155,7 @@ static void *calls(void *unused)
              && nekahuiro_vote(NEKAHUIRO_QUERY, 0, 1) == NEKAHUIRO_YES && play_nested() == 0
              && nekahuiro_waiting(&state, rows, NEKAHUIRO_ROWS, &ring) == 0 && ring.length == NEKAHUIRO_DEPTH_LIMIT
              && nekahuiro_sheet(sheet, sizeof sheet - 1, list, sizeof list, &told) == 0;
+    memset(&state, 0, sizeof state);
     length = make_writer();
     played = played
              && nekahuiro_portion(&state, store, sizeof store, events, length * NEKAHUIRO_EVENT_BYTES, work, sizeof work,

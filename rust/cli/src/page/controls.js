@@ -75,7 +75,7 @@ window.addEventListener('hashchange', () => show(+location.hash.slice(1)));
 
 element('fates').textContent = data.title;
 element('refusals').innerHTML =
-  data.refusals.map(([number, reason]) => `<li>refused ${number}: ${escaped(reason)}</li>`).join('');
+  data.refusals.map((reason) => `<li>${escaped(reason)}</li>`).join('');
 const room = (box.clientWidth - LEFT - 12) / Math.max(1, count);
 step = Math.min(34, Math.max(room, 22)); // letters have room; a longer list is scrolled
 // At most so high, so that what is below stays in its place.

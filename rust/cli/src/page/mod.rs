@@ -83,10 +83,7 @@ pub fn draw(run: &Run) -> Outcome<String> {
         ("transactions", timeline::transactions(&told, run.names)),
         ("timeline", timeline::rows(&told)),
         ("lost", lost_writes(&told)),
-        (
-            "refusals",
-            list(told.refusals().into_iter().map(|(number, why)| list([number.to_string(), text(&why.to_string())]))),
-        ),
+        ("refusals", list(told.refusals().into_values().map(|reason| text(&reason.to_string())))),
         ("carried", run.start.live.len().to_string()),
         ("texts", texts.json()),
     ]);
