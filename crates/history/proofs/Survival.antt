@@ -15,14 +15,13 @@ use Rattle.rules.specs.State.{lineOf, live, down}
 use Rattle.rules.specs.Versions.{else, nearest}
 use Rattle.rules.specs.Commit.{Cut, commitAt}
 use Rattle.rules.specs.Sound.{Sound}
-use Rattle.rules.specs.Form.{Form}
+use Rattle.rules.specs.Form.{Form, atomic}
 use Rattle.rules.specs.Step.{StateOf, OutcomeOf, isTop, visible, ended, concluded, refusal, commitsTop, commits, act, judged, step}
 use Rattle.rules.specs.Run.{play}
 use Rattle.rules.specs.Editions.{geometry1, edition1}
 use Rattle.rules.proofs.Medium.{changedIn, isClear, MediumLaws}
 use Rattle.rules.proofs.Acceptance.{commit-ok, commit-clear}
 use Rattle.rules.proofs.Reserved.{clear-of}
-use Rattle.rules.proofs.Held.{atomic}
 use Rattle.rules.proofs.AtomicCommits.{commit-stored}
 use Rattle.rules.proofs.AtomicPages.{atomic-laws}
 use Rattle.rules.proofs.Soundness.{reached-start, reached-play}
