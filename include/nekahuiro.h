@@ -11,10 +11,11 @@
  *     says. No pointer is null, not even where the size or count is 0.
  *   - No two buffers of one call overlap, and nobody else touches them while the call runs. Calls on
  *     different buffers may run at the same time.
- *   - Byte buffers, rows and rings need no alignment; `age` is aligned as an int64_t is, `told` as a size_t, `state` as
+ *   - Byte buffers, rows and rings need no alignment; `age` is aligned as an int64_t is, `told` as a size_t, `place` as a uint16_t
+ *     is, `state` as
  *     its
  *     struct is.
- *   - At least NEKAHUIRO_STACK_BYTES of stack are free.
+ *   - At least NEKAHUIRO_STACK_BYTES of stack are free, or NEKAHUIRO_AUDIT_STACK_BYTES for an audit.
  * Buffers stay the caller's, and their contents may be anything. What each call answers and leaves in
  * every buffer is proved for all contents and all sizes: see docs/PROMISES.md.
  */
@@ -54,8 +55,9 @@ extern "C" {
 #define NEKAHUIRO_STATE_BYTES 468
 /* Waiting rows that a report takes, see nekahuiro_waiting. */
 #define NEKAHUIRO_ROWS 24
-/* More stack than any call uses. */
+/* More stack than any call uses, and than nekahuiro_audit does, which keeps its tables there. */
 #define NEKAHUIRO_STACK_BYTES 16384
+#define NEKAHUIRO_AUDIT_STACK_BYTES 32768
 
 /* The store, page by page
  *
@@ -313,6 +315,29 @@ uint8_t nekahuiro_fresh(uint8_t *store, size_t store_size);
  * Else, tried in this order and with nothing written: 22, 23, 4. */
 uint8_t nekahuiro_age(const uint8_t *store, size_t store_size, uint8_t record,
                       uint32_t clock, uint32_t limit, int64_t *age);
+
+/* Whether a start store, a list of events, its answers and an end store belong together, as one run over
+ * that store and that list says. The auditor has an engine of its own: it finds the answer that is due to
+ * each event in the events and answers before it and keeps no version and no lock. It agrees with
+ * nekahuiro_run on every list that it takes.
+ *
+ *   start, events, answers, end  read only; answer bytes past the last event aren't looked at
+ *   place                        written at 1 and 2 only
+ *
+ * Answers 0 if they belong together; 1 if not, with the first event that has a wrong answer at `place`,
+ * from 0; 2 if every answer is right, with the first wrong page of the end store at `place`. Else, tried
+ * in this order and with nothing written: 22 (either store), 20, 21, 30. A list with a kind from 9 to 11
+ * anywhere, whatever its other fields, or a start store in which a transaction is prepared, is 30.
+ *
+ * It needs NEKAHUIRO_AUDIT_STACK_BYTES of stack, and time that grows with the square of the list's
+ * length: tens of milliseconds for the longest. */
+#define NEKAHUIRO_BELONGS 0
+#define NEKAHUIRO_WRONG_EVENT 1
+#define NEKAHUIRO_WRONG_PAGE 2
+uint8_t nekahuiro_audit(const uint8_t *start, size_t start_size,
+                        const uint8_t *events, size_t events_size,
+                        const uint8_t *answers, size_t answers_size,
+                        const uint8_t *end, size_t end_size, uint16_t *place);
 
 /* Two ends that commit together
  *

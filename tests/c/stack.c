@@ -17,7 +17,7 @@ static uint8_t store[NEKAHUIRO_STORE_BYTES], work[NEKAHUIRO_WORK_BYTES];
 static uint8_t events[NEKAHUIRO_EVENTS * NEKAHUIRO_EVENT_BYTES], answers[NEKAHUIRO_EVENTS * NEKAHUIRO_ANSWER_BYTES];
 static nekahuiro_state state;
 static nekahuiro_row rows[NEKAHUIRO_ROWS];
-static int played = 0;
+static int played = 0, audited = 0;
 
 static void put(size_t at, uint32_t bits)
 {
@@ -105,6 +105,30 @@ static unsigned page_writes(void)
     return index;
 }
 
+/* The same list up to the first prepare, audited against the answers and the store that it left. */
+static size_t audited_length(void)
+{
+    size_t at = 0;
+
+    make_list();
+    while (events[at * NEKAHUIRO_EVENT_BYTES] >> 4 != NEKAHUIRO_PREPARE)
+        at++;
+    return at;
+}
+
+static void *audits(void *unused)
+{
+    static uint8_t start[NEKAHUIRO_STORE_BYTES];
+    uint16_t place = 0;
+    size_t bytes = audited_length() * NEKAHUIRO_EVENT_BYTES;
+
+    audited = nekahuiro_fresh(start, sizeof start) == 0 && nekahuiro_fresh(store, sizeof store) == 0
+              && nekahuiro_run(store, sizeof store, events, bytes, work, sizeof work, answers, sizeof answers) == 0
+              && nekahuiro_audit(start, sizeof start, events, bytes, answers, sizeof answers, store, sizeof store, &place)
+                     == NEKAHUIRO_BELONGS;
+    return unused;
+}
+
 static void *nothing(void *unused)
 {
     return unused;
@@ -160,11 +184,20 @@ static size_t stack_used(void *(*body)(void *))
     return STACK_BYTES - clean;
 }
 
-int main(void)
+/* What a body uses beyond an empty one; the exit status counts a body that uses more than the header allows. */
+static int within(const char *what, void *(*body)(void *), int allowed)
 {
-    size_t base = stack_used(nothing), used = stack_used(calls);
+    size_t base = stack_used(nothing), used = stack_used(body);
 
     used = used > base ? used - base : 0;
-    printf("stack: the calls use %zu bytes, the header allows %d\n", used, NEKAHUIRO_STACK_BYTES);
-    return !played || used > NEKAHUIRO_STACK_BYTES;
+    printf("stack: %s %zu bytes, the header allows %d\n", what, used, allowed);
+    return used <= (size_t)allowed;
+}
+
+int main(void)
+{
+    int calls_fit = within("the calls use", calls, NEKAHUIRO_STACK_BYTES);
+    int audits_fit = within("an audit uses", audits, NEKAHUIRO_AUDIT_STACK_BYTES);
+
+    return !played || !audited || !calls_fit || !audits_fit;
 }

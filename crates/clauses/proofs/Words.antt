@@ -72,7 +72,7 @@ less-one (suc u) zero s h a b = odd-less s u (same-eq (s % 2) 1 (sym (last s) �
 less-one (suc u) (suc t) s h a b =
     dite (decLt 0 (s % 2)) (λ lt. odd-less s u (omega arith) b)
     (λ ge. let e : (s - 1) / 2 ≡ s / 2 - 1 = omega arith in
-        bits-suc (s - 1) u ∙ ap (λ (x : ℕ). bits x u) e ∙ less-one u t (s / 2) (omega arith) (sym (bits-suc s t) ∙ a) (sym (bits-suc s u) ∙ b))
+    bits-suc (s - 1) u ∙ ap (λ (x : ℕ). bits x u) e ∙ less-one u t (s / 2) (omega arith) (sym (bits-suc s t) ∙ a) (sym (bits-suc s u) ∙ b))
 
 -- a number that has no bit in common with the one below it has one bit at most
 pub one-bit : (s t u : ℕ) → bitAnd s (s - 1) ≡ 0 → bits s t ≡ true → bits s u ≡ true → t ≡ u

@@ -57,65 +57,65 @@ some-named map small h e = h (names-none geometry1 map small (λ r lt. go r lt (
     go r lt (no′ q) = q
     go r lt (yes′ q) = absurd (true≢false (sym (those-all 16 (named geometry1 map) r lt q) ∙ ap (mem r) e))
 
--- the versions as the sweeps see them
-module _ (map : ℕ) (work : List ℕ) (r : ℕ) (lt : r < 16) where
-  version-is : (b : Bool) → named geometry1 map r ≡ b → versionsIn map work r ≡ cond b (some (topSlot work r)) none
-  unfolding versionsIn
-  version-is b e = ap₂ (λ (x y : Bool). cond (x && y) (some (topSlot work r)) none) (lt-under r 16 lt) e
+-- the working buffer's versions of the records that a map names
+pub slots-are : (map : ℕ) (work : List ℕ) (r : ℕ) → r < 16 → versionsIn map work r ≡ cond (named geometry1 map r) (some (topSlot work r)) none
+unfolding versionsIn
+slots-are map work r lt = ap (λ (x : Bool). cond (x && named geometry1 map r) (some (topSlot work r)) none) (lt-under r 16 lt)
 
-  is-some : (b : Bool) → named geometry1 map r ≡ b → isSome (versionsIn map work r) ≡ named geometry1 map r
+-- versions of the records that a map names, as the sweeps see them
+module _ (map : ℕ) (v : ℕ → Option Page) (new : ℕ → Page) (are : (r : ℕ) → r < 16 → v r ≡ cond (named geometry1 map r) (some (new r)) none) where
+  changed-is : (r : ℕ) → r < 16 → isSome (v r) ≡ named geometry1 map r
   unfolding isSome
-  is-some true e = ap isSome (version-is true e) ∙ sym e
-  is-some false e = ap isSome (version-is false e) ∙ sym e
+  changed-is r lt = ap isSome (are r lt) ∙ go (named geometry1 map r)
+    where
+      go : (b : Bool) → isSome (cond b (some (new r)) none) ≡ b
+      go true = refl
+      go false = refl
 
-  page-is : named geometry1 map r ≡ true → pageIn (versionsIn map work) r ≡ topSlot work r
+  page-is : (r : ℕ) → r < 16 → named geometry1 map r ≡ true → pageIn v r ≡ new r
   unfolding pageIn else
-  page-is e = ap (λ o. else o []) (version-is true e)
+  page-is r lt e = ap (λ o. else o []) (are r lt ∙ ap (λ (b : Bool). cond b (some (new r)) none) e)
 
-module _ (map : ℕ) (work : List ℕ) where
-  changed-is : (r : ℕ) → r < 16 → isSome (versionsIn map work r) ≡ named geometry1 map r
-  changed-is r lt = is-some map work r lt (named geometry1 map r) refl
-
-  pub those-is : those (records geometry1) (λ r. isSome (versionsIn map work r)) ≡ those 16 (named geometry1 map)
+  pub those-is : those (records geometry1) (λ r. isSome (v r)) ≡ those 16 (named geometry1 map)
   unfolding records
   those-is = those-same 16 changed-is
 
-  pub map-is : map < 2 ^ 16 → mapOf geometry1 (λ r. isSome (versionsIn map work r)) ≡ map
+  pub map-is : map < 2 ^ 16 → mapOf geometry1 (λ r. isSome (v r)) ≡ map
   unfolding records
-  map-is small = mapOf-same geometry1 (λ r. isSome (versionsIn map work r)) (named geometry1 map) changed-is ∙ mapOf-named geometry1 map small
+  map-is small = mapOf-same geometry1 (λ r. isSome (v r)) (named geometry1 map) changed-is ∙ mapOf-named geometry1 map small
 
-  pub intentions-are : intentions geometry1 (pageIn (versionsIn map work)) (those 16 (named geometry1 map)) ≡ sweep (named geometry1 map) (copies 1 (topSlot work)) 16
+  pub intentions-are : intentions geometry1 (pageIn v) (those 16 (named geometry1 map)) ≡ sweep (named geometry1 map) (copies 1 new) 16
   unfolding intentions sweep intention copies
-  intentions-are = sweep-same 16 (named geometry1 map) _ _ (λ r lt e. ap (sets (1 + r)) (page-is map work r lt e))
+  intentions-are = sweep-same 16 (named geometry1 map) _ _ (λ r lt e. ap (sets (1 + r)) (page-is r lt e))
 
-  homes-are : homes geometry1 (pageIn (versionsIn map work)) (those 16 (named geometry1 map)) ≡ sweep (named geometry1 map) (copies 17 (topSlot work)) 16
+  homes-are : homes geometry1 (pageIn v) (those 16 (named geometry1 map)) ≡ sweep (named geometry1 map) (copies 17 new) 16
   unfolding homes sweep home copies records
-  homes-are = sweep-same 16 (named geometry1 map) _ _ (λ r lt e. ap₂ sets (omega arith) (page-is map work r lt e))
+  homes-are = sweep-same 16 (named geometry1 map) _ _ (λ r lt e. ap₂ sets (omega arith) (page-is r lt e))
 
   pub commit-is : map < 2 ^ 16 → map ≢ 0
-      → commitPlan geometry1 (versionsIn map work)
-      ≡ (sweep (named geometry1 map) (copies 1 (topSlot work)) 16 ++ ((marks geometry1 map ∷ []) ++ sweep (named geometry1 map) (copies 17 (topSlot work)) 16)) ++ (marks geometry1 0 ∷ [])
+      → commitPlan geometry1 v
+      ≡ (sweep (named geometry1 map) (copies 1 new) 16 ++ ((marks geometry1 map ∷ []) ++ sweep (named geometry1 map) (copies 17 new) 16)) ++ (marks geometry1 0 ∷ [])
   commit-is small h =
-      ap₂ (commitWrites geometry1 (pageIn (versionsIn map work))) (map-is small) those-is
-      ∙ commit-some geometry1 (pageIn (versionsIn map work)) map (those 16 (named geometry1 map)) (some-named map small h)
+      ap₂ (commitWrites geometry1 (pageIn v)) (map-is small) those-is
+      ∙ commit-some geometry1 (pageIn v) map (those 16 (named geometry1 map)) (some-named map small h)
       ∙ ap₂ (λ (a b : List PageWrite). (a ++ ((marks geometry1 map ∷ []) ++ b)) ++ (marks geometry1 0 ∷ [])) intentions-are homes-are
 
   -- a commit of no record
-  pub commit-nothing : map ≡ 0 → commitPlan geometry1 (versionsIn map work) ≡ []
+  pub commit-nothing : map ≡ 0 → commitPlan geometry1 v ≡ []
   unfolding commitWrites
   commit-nothing e =
-      ap (commitWrites geometry1 (pageIn (versionsIn map work)) (mapOf geometry1 (λ r. isSome (versionsIn map work r))))
+      ap (commitWrites geometry1 (pageIn v) (mapOf geometry1 (λ r. isSome (v r))))
       (those-is ∙ ap (λ (m : ℕ). those 16 (named geometry1 m)) e ∙ those-none 16 (named-zero geometry1))
 
-  pub commit-none : (s : Pages) (k : ℕ) → map ≡ 0 → Leaves (commitAt geometry1 s (versionsIn map work) k) s 0 false
+  pub commit-none : (s : Pages) (k : ℕ) → map ≡ 0 → Leaves (commitAt geometry1 s v k) s 0 false
   unfolding commitAt
   commit-none s k e = none-left k s (commit-nothing e)
 
   -- the four phases of a commit
   pub commit-leaves : {s s₁ s₂ s₃ s₄ : Pages} {k a b c d : ℕ} → map < 2 ^ 16 → map ≢ 0
-      → Phase k (sweep (named geometry1 map) (copies 1 (topSlot work)) 16) s s₁ a → Phase a (sets 0 (commitPage geometry1 map) ∷ []) s₁ s₂ b
-      → Phase b (sweep (named geometry1 map) (copies 17 (topSlot work)) 16) s₂ s₃ c → Phase c (sets 0 (commitPage geometry1 0) ∷ []) s₃ s₄ d
-      → Leaves (commitAt geometry1 s (versionsIn map work) k) s₄ (k - d) (same c 0)
+      → Phase k (sweep (named geometry1 map) (copies 1 new) 16) s s₁ a → Phase a (sets 0 (commitPage geometry1 map) ∷ []) s₁ s₂ b
+      → Phase b (sweep (named geometry1 map) (copies 17 new) 16) s₂ s₃ c → Phase c (sets 0 (commitPage geometry1 0) ∷ []) s₃ s₄ d
+      → Leaves (commitAt geometry1 s v k) s₄ (k - d) (same c 0)
   unfolding commitAt marks
   commit-leaves {s = s} {s₄ = s₄} {k = k} {c = c} {d = d} small h p q r t =
       subst⁻¹ (λ (ws : List PageWrite). Leaves (cutAt k ws s) s₄ (k - d) (same c 0)) (commit-is small h) (phase-last (phase-then p (phase-then q r)) t)

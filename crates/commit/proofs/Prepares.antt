@@ -24,7 +24,7 @@ use Rattle.rules.proofs.PreparedPage.{prepared-is}
 use Rattle.commitpage.specs.Heard.{prepared}
 use Rattle.commit.specs.Phase.{Phase, Leaves, sweep, copies, topSlot, versionsIn}
 use Rattle.commit.proofs.Phases.{phase-then, phase-last, phase-none}
-use Rattle.commit.proofs.Plans.{none-left, recover-some, some-named, those-is, map-is, intentions-are}
+use Rattle.commit.proofs.Plans.{slots-are, none-left, recover-some, some-named, those-is, map-is, intentions-are}
 use Rattle.commit.proofs.Sweeps.{sweep-same}
 
 prepare-some : (g : Geometry) (new : ℕ → Page) (p : Prepared) (rs : List ℕ) → rs ≢ [] → prepareWrites g new p rs ≡ intentions g new rs ++ (sets 0 (preparedPage g p) ∷ [])
@@ -37,16 +37,16 @@ module _ (map : ℕ) (work : List ℕ) (i : ℕ) where
       → preparePlan geometry1 (versionsIn map work) i
       ≡ sweep (named geometry1 map) (copies 1 (topSlot work)) 16 ++ (sets 0 (preparedPage geometry1 (prepared map i)) ∷ [])
   prepare-is small h =
-      ap₂ (λ (m : ℕ) (rs : List ℕ). prepareWrites geometry1 (pageIn (versionsIn map work)) (prepared m i) rs) (map-is map work small) (those-is map work)
+      ap₂ (λ (m : ℕ) (rs : List ℕ). prepareWrites geometry1 (pageIn (versionsIn map work)) (prepared m i) rs) (map-is map (versionsIn map work) (topSlot work) (slots-are map work) small) (those-is map (versionsIn map work) (topSlot work) (slots-are map work))
       ∙ prepare-some geometry1 (pageIn (versionsIn map work)) (prepared map i) (those 16 (named geometry1 map)) (some-named map small h)
-      ∙ ap (λ (a : List PageWrite). a ++ (sets 0 (preparedPage geometry1 (prepared map i)) ∷ [])) (intentions-are map work)
+      ∙ ap (λ (a : List PageWrite). a ++ (sets 0 (preparedPage geometry1 (prepared map i)) ∷ [])) (intentions-are map (versionsIn map work) (topSlot work) (slots-are map work))
 
   -- a prepare of no record
   pub prepare-nothing : map ≡ 0 → preparePlan geometry1 (versionsIn map work) i ≡ []
   unfolding prepareWrites
   prepare-nothing e =
       ap (prepareWrites geometry1 (pageIn (versionsIn map work)) (record { map = mapOf geometry1 (λ r. isSome (versionsIn map work r)); identity = i }))
-      (those-is map work ∙ ap (λ (m : ℕ). those 16 (named geometry1 m)) e ∙ those-none 16 (named-zero geometry1))
+      (those-is map (versionsIn map work) (topSlot work) (slots-are map work) ∙ ap (λ (m : ℕ). those 16 (named geometry1 m)) e ∙ those-none 16 (named-zero geometry1))
 
   pub prepare-none : (s : Pages) (k : ℕ) → map ≡ 0 → Leaves (prepareAt geometry1 s (versionsIn map work) i k) s 0 false
   unfolding prepareAt

@@ -1,5 +1,5 @@
 // The open operations: a run, a portion, the page writes of an event, a fresh store, the age of a record, the two ends of a two-phase commit, the report
-// on transactions that wait for each other, and the list of a job sheet. Any bytes may come in; each refuses or does what the rules say.
+// on transactions that wait for each other, the list of a job sheet, and the audit of a run. Any bytes may come in; each refuses or does what the rules say.
 ghost use mathlib.Core.Path.{_≡_};
 ghost use Prim.Native.Nat.{ℕ};
 ghost use mathlib.Core.List.{List};
@@ -16,6 +16,8 @@ ghost use Rattle.nekahuiro.specs.PageWrites.{Told-as};
 ghost use Rattle.events.specs.Whole.{Intact};
 ghost use Rattle.portions.specs.Portion.{whole};
 ghost use Rattle.clauses.specs.Decides.{Decides};
+ghost use Rattle.audit.specs.Audit.{audit1};
+ghost use Rattle.verdict.specs.Codes.{numberIn, placeIn};
 ghost use Rattle.messages.specs.Codes.{left};
 ghost use Rattle.messages.specs.Votes.{voteOn};
 ghost use Rattle.waitreport.specs.Reported.{Sound-aside, Reported, Reported-copied};
@@ -296,4 +298,21 @@ pub extern "C" fn nekahuiro_sheet(sheet: &[u8], list: &mut [u8], told: &mut usiz
     ensures { λ r. ⌜ Made (now (sheet .entry)) (now (list .entry)) (now (told .entry)) r (now (list .exit)) (now (told .exit)) ⌝ }
 {
     sheetlist::list_of(sheet, list, told)
+}
+
+// Whether a start store, a list of events, its answers and an end store belong together: 0 if so; 1 if not, and the first wrong event at `place`;
+// 2, where every event is right, and the first wrong page at `place`; or refused with 22, 20, 21 or 30, and `place` stays.
+#[no_mangle]
+pub extern "C" fn nekahuiro_audit(
+    start: &[u8],
+    events: &[u8],
+    answers: &[u8],
+    end: &[u8],
+    place: &mut u16,
+) -> u8
+    ensures { λ r.
+        let verdict = audit1 (now (start .entry)) (now (events .entry)) (now (answers .entry)) (now (end .entry)) in
+        ⌜ (r ≡ numberIn verdict) × (now (place .exit) ≡ placeIn verdict (now (place .entry))) ⌝ }
+{
+    verdict::audit(start, events, answers, end, place)
 }

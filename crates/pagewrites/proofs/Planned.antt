@@ -28,7 +28,7 @@ use Rattle.device.proofs.Plan.{refused-plan, accepted-plan}
 use Rattle.commitpage.specs.Heard.{prepared, understood}
 use Rattle.commitpage.specs.declared.CommitMap.{CommitMap}
 use Rattle.commit.specs.Phase.{sweep, copies, topSlot, versionsIn}
-use Rattle.commit.proofs.Plans.{commit-is, commit-nothing, recovery-is, recover-nothing}
+use Rattle.commit.proofs.Plans.{slots-are, commit-is, commit-nothing, recovery-is, recover-nothing}
 use Rattle.commit.proofs.Prepares.{prepare-is, prepare-nothing, decision-is}
 use Rattle.arrays.specs.Kin.{childIn}
 use Rattle.arrays.proofs.View.{child-is}
@@ -64,9 +64,9 @@ module _ (m : ℕ) (work store : List ℕ) where
   commit-writes small i = go (same? m 0)
     where
       go : Same m 0 → commitPlan geometry1 (versionsIn m work) ≡ writesOf (ofTop m false i) work store
-      go (is e q _) = rw q (commit-nothing m work e)
+      go (is e q _) = rw q (commit-nothing m (versionsIn m work) (topSlot work) (slots-are m work) e)
       go (isnt e q _) = rw q (
-          commit-is m work small e
+          commit-is m (versionsIn m work) (topSlot work) (slots-are m work) small e
           ∙ append-assoc (sweep (named geometry1 m) (copies 1 (topSlot work)) 16) (marks geometry1 m ∷ sweep (named geometry1 m) (copies 17 (topSlot work)) 16) (marks geometry1 0 ∷ []))
 
   prepare-writes : m < 2 ^ 16 → (i : ℕ) → preparePlan geometry1 (versionsIn m work) i ≡ writesOf (ofTop m true i) work store

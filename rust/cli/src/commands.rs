@@ -3,7 +3,8 @@
 use crate::command::Command;
 use crate::failure::{visible, Failure, Outcome};
 use crate::{
-    age, bench, check, demo, depot, encode, fresh, get, help, plan, play, put, serial, sheet, shell, show, waiting,
+    age, audit, bench, check, demo, depot, encode, fresh, get, help, plan, play, put, serial, sheet, shell, show,
+    waiting,
 };
 
 /// All commands.
@@ -20,6 +21,7 @@ pub const ALL: &[Command] = &[
     put::COMMAND,
     age::COMMAND,
     waiting::COMMAND,
+    audit::COMMAND,
     depot::COMMAND,
     encode::COMMAND,
     sheet::COMMAND,

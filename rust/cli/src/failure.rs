@@ -15,7 +15,7 @@ pub enum Status {
     Refused = 4,
     /// An event was refused, and --strict was given.
     EventRefused = 5,
-    /// The answers aren't those of --expect.
+    /// The answers aren't those of --expect, or what is audited doesn't belong together.
     OtherAnswers = 6,
     /// All was done, but couldn't be told.
     Untold = 7,
@@ -28,7 +28,7 @@ pub const STATUSES: &str = "  0  all went well; a refused event is an answer and
   3  busy: another command has the store, or changed it meanwhile; nothing was done, try again
   4  refused: a list, store, state file or number that can't be taken; nothing was done
   5  with --strict: the list was played, and an event was refused
-  6  with --expect: the list was played, and the answers aren't the expected ones
+  6  with --expect: the list was played, and the answers aren't the expected ones; audit: they don't belong together
   7  done, but not told: store and state file are replaced, and an output couldn't be written
 ";
 

@@ -2,6 +2,7 @@
 
 mod age;
 mod alone;
+mod audit;
 mod bench;
 mod check;
 mod command;

@@ -100,6 +100,8 @@ pub enum Refusal {
     Output,
     /// 29: the text is no sheet that is taken.
     Sheet,
+    /// 30: the auditor doesn't take a prepare, decide or query, nor a start store with a prepared transaction.
+    Unaudited,
     /// A number that this edition doesn't know.
     Other(u8),
 }
@@ -121,6 +123,7 @@ impl Refusal {
             27 => Refusal::Message,
             28 => Refusal::Output,
             29 => Refusal::Sheet,
+            30 => Refusal::Unaudited,
             other => Refusal::Other(other),
         }
     }
@@ -141,6 +144,7 @@ impl Refusal {
             Refusal::Message => 27,
             Refusal::Output => 28,
             Refusal::Sheet => 29,
+            Refusal::Unaudited => 30,
             Refusal::Other(number) => number,
         }
     }
@@ -163,6 +167,9 @@ impl fmt::Display for Refusal {
             Refusal::Message => write!(f, "the depot doesn't take this message in its state"),
             Refusal::Output => write!(f, "the output for a sheet's list has at least {LIST_BYTES} bytes"),
             Refusal::Sheet => write!(f, "the text is no sheet that is taken"),
+            Refusal::Unaudited => {
+                write!(f, "a list with a prepare, decide or query, or a start store with a prepared transaction, can't be audited")
+            }
             Refusal::Other(_) => write!(f, "an unknown refusal"),
         }
     }

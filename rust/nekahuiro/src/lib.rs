@@ -63,6 +63,8 @@
 //!
 //! A fitter's sheet is text that becomes a list: [`sheet_words`].
 //!
+//! Whether a store, a list, its answers and the store after it belong together is for the [`audit`] to say.
+//!
 //! Events that come one by one are played in portions of any length: [`Store::portion`] takes a
 //! [`State`] and a [`Work`] that the caller keeps from one portion to the next. A [`Session`] keeps all three,
 //! and has a method for each thing to do.
@@ -91,6 +93,7 @@
 
 mod age;
 mod answer;
+pub mod audit;
 mod commit_page;
 mod depot;
 mod device;

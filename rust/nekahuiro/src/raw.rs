@@ -55,6 +55,17 @@ mod linked {
             limit: u32,
             age: *mut i64,
         ) -> u8;
+        pub fn nekahuiro_audit(
+            start: *const u8,
+            start_bytes: usize,
+            events: *const u8,
+            events_bytes: usize,
+            answers: *const u8,
+            answers_bytes: usize,
+            end: *const u8,
+            end_bytes: usize,
+            place: *mut u16,
+        ) -> u8;
         pub fn nekahuiro_depot(state: *mut u8, message: u8, reply: *mut u8) -> u8;
         pub fn nekahuiro_vote(kind: u8, number: u8, value: u8) -> u8;
         pub fn nekahuiro_waiting(state: *const State, rows: *const Row, count: usize, ring: *mut Ring) -> u8;
@@ -135,6 +146,25 @@ pub fn fresh(store: &mut [u8]) -> u8 {
 pub fn age(store: &[u8], record: u8, clock: u32, limit: u32, age: &mut i64) -> u8 {
     // SAFETY: a live slice with its length, and a live integer, borrowed alone.
     unsafe { linked::nekahuiro_age(store.as_ptr(), store.len(), record, clock, limit, age) }
+}
+
+/// Audits a list: 0 it belongs to the stores and answers; 1 or 2 with `place` set to the first wrong event or page; else
+/// a refusal's number. At 0 and at a refusal `place` is untouched.
+pub fn audit(start: &[u8], events: &[u8], answers: &[u8], end: &[u8], place: &mut u16) -> u8 {
+    // SAFETY: four live slices with their own lengths, and a live integer, borrowed alone.
+    unsafe {
+        linked::nekahuiro_audit(
+            start.as_ptr(),
+            start.len(),
+            events.as_ptr(),
+            events.len(),
+            answers.as_ptr(),
+            answers.len(),
+            end.as_ptr(),
+            end.len(),
+            place,
+        )
+    }
 }
 
 /// One message to the depot: 0 with its state and the reply set; else 27 with nothing written.

@@ -2,14 +2,15 @@
 use borrow.Author.Needs.{needs}
 use Rattle.laws.specs.Tests.{same}
 use Rattle.rules.specs.Store.{pagesOf}
-use Rattle.commit.proofs.Plans.{commit-none, commit-leaves}
+use Rattle.commit.specs.Phase.{topSlot, versionsIn}
+use Rattle.commit.proofs.Plans.{slots-are, commit-none, commit-leaves}
 use Rattle.commit.proofs.commit_pages.Statement.{statement}
 use Rattle.commit.proofs.commit_pages.Tie as tie
 
 returns : tie.Need-returns
 returns c =
     let a = c .before .before .before .args in
-    commit-none (a .map) (a .work .now) (pagesOf (a .store .now)) (a .k) (c .if1 .taken)
+    commit-none (a .map) (versionsIn (a .map) (a .work .now)) (topSlot (a .work .now)) (slots-are (a .map) (a .work .now)) (pagesOf (a .store .now)) (a .k) (c .if1 .taken)
 
 write-versions-requires : tie.Need-write-versions-requires
 write-versions-requires c κs = search needs
@@ -33,7 +34,7 @@ returns-2 : tie.Need-returns-2
 unfolding same
 returns-2 c =
     let a = c .before .before .before .before .before .before .before .before .before .before .before .before .before .before .before .before .before .before .before .args in
-    commit-leaves (a .map) (a .work .now)
+    commit-leaves (a .map) (versionsIn (a .map) (a .work .now)) (topSlot (a .work .now)) (slots-are (a .map) (a .work .now))
     (c .before .before .before .before .before .before .before .before .before .before .before .before .before .before .before .before .before .before .before .fits .map .fits)
     (c .before .before .before .before .before .before .before .before .before .before .before .before .before .before .before .before .if1 .left)
     (c .before .before .before .before .before .before .before .before .before .before .before .before .before .before .write-versions .ensures)

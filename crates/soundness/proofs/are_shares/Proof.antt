@@ -32,9 +32,9 @@ loop-less c = search needs
 
 loop-again : tie.Need-loop-again Inv-loop μ-loop
 loop-again c = let a = c .before .before .before .args in let l = c .before .before .loop in (
-      search needs,
-      λ lined. decides-more (SharesOf (a .line .now) (a .held .now) (a .retained .now)) (l .r) (l .inv .1 lined) (c .are-shares-at .ensures (lined (l .r) (omega arith))),
-    )
+  search needs,
+  λ lined. decides-more (SharesOf (a .line .now) (a .held .now) (a .retained .now)) (l .r) (l .inv .1 lined) (c .are-shares-at .ensures (lined (l .r) (omega arith))),
+)
 
 returns : tie.Need-returns Inv-loop μ-loop
 returns c = λ lined. let a = c .before .before .args in let l = c .before .loop in

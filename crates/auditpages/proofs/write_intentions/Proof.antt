@@ -1,0 +1,24 @@
+-- `write_intentions` is a sweep over the records, and one page write with what it left of the count.
+use borrow.Author.Needs.{needs}
+use Rattle.commit.proofs.Phases.{phase-then}
+use Rattle.auditpages.proofs.Marks.{marked}
+use Rattle.auditpages.proofs.write_intentions.Statement.{statement}
+use Rattle.auditpages.proofs.write_intentions.Tie as tie
+
+write-records-requires : tie.Need-write-records-requires
+write-records-requires c κs = search needs
+
+commit-page-requires : tie.Need-commit-page-requires
+commit-page-requires c κs = search needs
+
+write-one-requires : tie.Need-write-one-requires
+write-one-requires c κs = search needs
+
+same-length : tie.Need-same-length
+same-length c = search needs
+
+returns : tie.Need-returns
+returns c = (λ l K. phase-then (c .before .before .before .before .before .before .before .write-records .ensures l K) (marked (c .before .before .before .commit-page .ensures) (c .before .before .write-one .ensures)), c .before .before .before .before .before .before .before .before .before .before .before .before .fits .map .fits)
+
+pub write-intentions-spec : {M : Type 1} → statement M
+write-intentions-spec = tie.close (tie.spec write-records-requires commit-page-requires write-one-requires same-length returns)

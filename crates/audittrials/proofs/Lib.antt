@@ -1,0 +1,2 @@
+-- Every row holds, by computing.
+pub mod AuditTrials

@@ -1,0 +1,1 @@
+// Rows of the auditor, decided by computing. No code.

@@ -1,0 +1,42 @@
+use mathlib.Core.Path.{_≡_, refl, sym, ap, ap₂, _∙_}
+use mathlib.Core.Bool.{Bool, true, false, not, cond, _&&_, _||_, true≢false, false≢true, and-false, and-true}
+use Prim.Native.Nat.{ℕ, suc, _+_, _-_, _*_, _<_, _≤_}
+use native.Mathlib.Omega.{arith}
+use lib.ListN.{length, getD, set, List·getD-eq-default}
+use Rattle.laws.specs.Tests.{same, under, open-tests}
+use Rattle.laws.specs.Counting.{any, lowest, lowestFrom}
+use Rattle.laws.proofs.Tests.{same?, Same, is, isnt, same-eq, same-refl, ne-false, Is, is?, yes′, no′}
+use Rattle.links.specs.Links.{entryAt, Earlier}
+use Rattle.bearers.specs.Tables.{Matched}
+use Rattle.bearers.proofs.Free.{lower-more, any-more}
+use borrow.Author.Needs.{needs}
+use Rattle.bearers.proofs.bearer_of.Statement.{statement}
+use Rattle.bearers.proofs.bearer_of.Tie as tie
+use Rattle.bearers.proofs.bearer_of.Reads as reads
+use Rattle.bearers.proofs.bearer_of.Lts as lts
+
+-- src/lib.rt:22:16
+mul-result : tie.Need-mul-result
+mul-result c = search needs
+
+-- src/lib.rt:22:16
+element-copy-out-result : tie.Need-element-copy-out-result
+element-copy-out-result c = search needs
+
+-- src/lib.rt:22:16
+cast-result : tie.Need-cast-result
+cast-result c = omega (arith, c .before .before .pre .1 (c .before .before .args .t))
+
+-- src/lib.rt:22:9
+returns : tie.Need-returns
+unfolding entryAt
+returns c = (refl, c .before .before .pre .1 (c .before .before .args .t))
+
+-- src/lib.rt:16:1
+returns-2 : tie.Need-returns-2
+unfolding entryAt
+returns-2 c = (sym (List·getD-eq-default (c .before .args .bearer .now) 0 (omega (arith, c .before .pre .0))), omega arith)
+
+pub bearer-of-spec : {M : Type 1} → statement M
+bearer-of-spec =
+    tie.close (tie.spec mul-result element-copy-out-result cast-result returns returns-2)

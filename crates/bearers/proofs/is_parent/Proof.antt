@@ -1,0 +1,54 @@
+use mathlib.Core.Path.{_≡_, refl, sym, ap, ap₂, _∙_}
+use mathlib.Core.Bool.{Bool, true, false, not, cond, _&&_, _||_, true≢false, false≢true, and-false, and-true}
+use Prim.Native.Nat.{ℕ, suc, _+_, _-_, _*_, _<_, _≤_}
+use native.Mathlib.Omega.{arith}
+use lib.ListN.{length, getD, set, List·getD-eq-default}
+use borrow.Author.Needs.{needs}
+use Rattle.laws.specs.Tests.{same, under, open-tests}
+use Rattle.laws.specs.Counting.{any, lowest, lowestFrom}
+use Rattle.laws.proofs.Tests.{same?, Same, is, isnt, same-eq, same-refl, ne-false, Is, is?, yes′, no′}
+use Rattle.links.specs.Links.{entryAt, Earlier}
+use Rattle.bearers.specs.Tables.{Matched}
+use Rattle.bearers.proofs.Free.{lower-more, any-more}
+use Rattle.bearers.proofs.is_parent.Statement.{statement}
+use Rattle.bearers.proofs.is_parent.Tie as tie
+use Rattle.bearers.proofs.is_parent.Reads as reads
+use Rattle.bearers.proofs.is_parent.Lts as lts
+use Rattle.bearers.proofs.is_child.Reads as is-child-reads
+
+abbrev Inv-loop : tie.InvT-loop
+Inv-loop bearer parent i met₀ t₀ met t =
+    (t ≤ 24) × (met ≡ any t (λ u. not (same (entryAt bearer u) 0) && same (entryAt parent (entryAt bearer u)) i))
+
+abbrev μ-loop : tie.MeasureT-loop
+μ-loop bearer parent i met₀ t₀ met t = 24 - t
+
+-- src/lib.rt:67:5
+loop-holds : tie.Need-loop-holds Inv-loop μ-loop
+unfolding any
+loop-holds c = (omega arith, refl)
+
+-- src/lib.rt:68:21
+is-child-requires : tie.Need-is-child-requires Inv-loop μ-loop
+is-child-requires c κs = search needs
+
+-- src/lib.rt:67:9
+add-t : tie.Need-add-t Inv-loop μ-loop
+add-t c = search needs
+
+-- src/lib.rt:67:5
+loop-less : tie.Need-loop-less Inv-loop μ-loop
+loop-less c = search needs
+
+-- src/lib.rt:67:5
+loop-again : tie.Need-loop-again Inv-loop μ-loop
+loop-again c = let l = c .before .before .loop in let a = c .before .before .before .args in (omega arith, rw (c .is-child .ensures) (any-more (λ u. not (same (entryAt (a .bearer .now) u) 0) && same (entryAt (a .parent .now) (entryAt (a .bearer .now) u)) (a .i)) (l .t) (l .met) (l .inv .1)))
+
+-- src/lib.rt:62:1
+returns : tie.Need-returns Inv-loop μ-loop
+returns c = let l = c .before .loop in let a = c .before .before .args in let q : l .t ≡ 24 = omega arith in l .inv .1 ∙ ap (λ (m : ℕ). any m (λ u. not (same (entryAt (a .bearer .now) u) 0) && same (entryAt (a .parent .now) (entryAt (a .bearer .now) u)) (a .i))) q
+
+pub is-parent-spec : {M : Type 1} → statement M
+is-parent-spec =
+    tie.close
+    (tie.spec Inv-loop μ-loop loop-holds is-child-requires add-t loop-less loop-again returns)

@@ -1,0 +1,2 @@
+-- What the auditor's tables stand for.
+pub mod Tables

@@ -1,0 +1,43 @@
+use lib.ListN.{getD}
+use Rattle.laws.proofs.Tests.{lt-under, under-lt, same-refl, ne-false}
+use Rattle.laws.proofs.Booleans.{refute}
+use mathlib.Core.Path.{_≡_, refl, sym, ap, ap₂, _∙_}
+use mathlib.Core.Bool.{Bool, true, false, not, cond, _&&_, _||_}
+use Prim.Native.Nat.{ℕ, suc, _+_, _-_, _*_, _<_, _≤_}
+use native.Mathlib.Omega.{arith}
+use Rattle.links.specs.Links.{fateOf, passedOf, entryAt, fateIn, passedIn, upIn, Earlier, Linked, open-links}
+use Rattle.links.proofs.Ways.{way-more, way-end, height-step, height-end, rise-up, rise-stop, committed-is, way-is, shows-is}
+use Rattle.audit.specs.Plain.{Ledger, rises, height, blocks}
+use Rattle.history.specs.History.{climbs, isCommitted, isWithin}
+use Rattle.laws.specs.Tests.{same, under, open-tests}
+use borrow.Author.Needs.{needs}
+use Rattle.links.proofs.shows.Statement.{statement}
+use Rattle.links.proofs.shows.Tie as tie
+use Rattle.links.proofs.shows.Reads as reads
+use Rattle.links.proofs.shows.Lts as lts
+use Rattle.links.proofs.stands.Reads as stands-reads
+use Rattle.links.proofs.within.Reads as within-reads
+
+-- src/lib.rt:113:9
+stands-requires : tie.Need-stands-requires
+stands-requires c κs = search needs
+
+-- src/lib.rt:114:8
+element-copy-out-if1 : tie.Need-element-copy-out-if1
+element-copy-out-if1 c = search needs
+
+-- src/lib.rt:115:9
+returns : tie.Need-returns
+returns c = λ l K. let a = c .before .before .before .args in let j = c .before .before .stands .result in sym (shows-is l (a .parent .now) (a .fate .now) K (a .reader) (a .i) j (c .before .before .stands .ensures .0) ∙ rw (c .if1 .taken, same-refl 3))
+
+-- src/lib.rt:117:5
+within-requires : tie.Need-within-requires
+within-requires c κs = search needs
+
+-- src/lib.rt:109:1
+returns-2 : tie.Need-returns-2
+returns-2 c = λ l K. let a = c .before .before .before .before .args in let j = c .before .before .before .stands .result in c .within .ensures ∙ sym (shows-is l (a .parent .now) (a .fate .now) K (a .reader) (a .i) j (c .before .before .before .stands .ensures .0) ∙ rw (ne-false (getD (a .fate .now) j 0) 3 (c .before .if1 .left)))
+
+pub shows-spec : {M : Type 1} → statement M
+shows-spec =
+    tie.close (tie.spec stands-requires element-copy-out-if1 returns within-requires returns-2)

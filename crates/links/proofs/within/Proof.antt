@@ -1,0 +1,47 @@
+use mathlib.Core.Path.{_≡_, refl, sym, ap, ap₂, _∙_}
+use mathlib.Core.Bool.{Bool, true, false, not, cond, _&&_, _||_}
+use Prim.Native.Nat.{ℕ, suc, _+_, _-_, _*_, _<_, _≤_}
+use native.Mathlib.Omega.{arith}
+use borrow.Author.Needs.{needs}
+use Rattle.links.specs.Links.{fateOf, passedOf, entryAt, fateIn, passedIn, upIn, Earlier, Linked, open-links}
+use Rattle.links.proofs.Ways.{way-more, way-end, height-step, height-end, rise-up, rise-stop, committed-is, way-is, shows-is}
+use Rattle.audit.specs.Plain.{Ledger, rises, height, blocks}
+use Rattle.history.specs.History.{climbs, isCommitted, isWithin}
+use Rattle.laws.specs.Tests.{same, under, open-tests}
+use Rattle.links.proofs.within.Statement.{statement}
+use Rattle.links.proofs.within.Tie as tie
+use Rattle.links.proofs.within.Reads as reads
+use Rattle.links.proofs.within.Lts as lts
+use Rattle.links.proofs.above.Reads as above-reads
+
+abbrev Inv-loop : tie.InvT-loop
+Inv-loop parent a i at₀ met₀ at met =
+    ((met || (not (same a 0) && climbs (entryAt parent) at a at)) ≡ (not (same a 0) && climbs (entryAt parent) i a i)) × (at ≤ i)
+
+abbrev μ-loop : tie.MeasureT-loop
+μ-loop parent a i at₀ met₀ at met = at
+
+-- src/lib.rt:72:5
+loop-holds : tie.Need-loop-holds Inv-loop μ-loop
+loop-holds c = search needs
+
+-- src/lib.rt:74:9
+above-requires : tie.Need-above-requires Inv-loop μ-loop
+above-requires c κs = search needs
+
+-- src/lib.rt:72:5
+loop-less : tie.Need-loop-less Inv-loop μ-loop
+loop-less c = search needs
+
+-- src/lib.rt:72:5
+loop-again : tie.Need-loop-again Inv-loop μ-loop
+unfolding same
+loop-again c = let l = c .before .before .loop in let a = c .before .before .before .args in let e = c .above .ensures in (rw (e .0) (way-more (a .parent .now) (c .before .before .before .pre .1) (a .a) (a .i) (l .at) (l .met) (omega arith) (l .inv .0)), omega (arith, e .1))
+
+-- src/lib.rt:66:1
+returns : tie.Need-returns Inv-loop μ-loop
+returns c = let l = c .before .loop in let a = c .before .before .args in let z : l .at ≡ 0 = omega arith in way-end (a .parent .now) (c .before .before .pre .1) (a .a) (a .i) (l .met) (rw z at (l .inv .0))
+
+pub within-spec : {M : Type 1} → statement M
+within-spec =
+    tie.close (tie.spec Inv-loop μ-loop loop-holds above-requires loop-less loop-again returns)

@@ -1,0 +1,64 @@
+use mathlib.Core.Path.{_≡_, refl, sym, ap, ap₂, _∙_}
+use mathlib.Core.Bool.{Bool, true, false, not, cond, _&&_, _||_, true≢false, false≢true, and-false, and-true}
+use Prim.Native.Nat.{ℕ, suc, _+_, _-_, _*_, _<_, _≤_}
+use native.Mathlib.Omega.{arith}
+use lib.ListN.{length, getD, set}
+use Rattle.laws.specs.Tests.{same, under, open-tests}
+use Rattle.laws.proofs.Tests.{same?, Same, is, isnt, same-eq, same-refl, ne-false, Is, is?, yes′, no′}
+use Rattle.laws.proofs.Booleans.{and-left, clash}
+use Rattle.event.specs.Meaning.{meaning, InRange}
+use Rattle.history.specs.History.{standsWith, writesTo, overlaid}
+use Rattle.audit.specs.Plain.{Ledger, blocks, locksOf}
+use Rattle.links.specs.Links.{entryAt, upIn, Earlier, Linked}
+use Rattle.links.proofs.Ways.{stands-are}
+use Rattle.scans.specs.Scans.{eventAt, modeTest, locksAt, writesAt, byteAt, grantsTo, writesUpTo, showsTo, open-scans}
+use Rattle.scans.proofs.More.{grant-more, write-more, lay-more, locks-is, writes-is, byte-is, or-none, own-some, locks-scan, writes-scan, lay-scan}
+use borrow.Author.Needs.{needs}
+use Rattle.scans.proofs.bars.Statement.{statement}
+use Rattle.scans.proofs.bars.Tie as tie
+use Rattle.scans.proofs.bars.Reads as reads
+use Rattle.scans.proofs.bars.Lts as lts
+use Rattle.links.proofs.blocks.Reads as blocks-reads
+use Rattle.scans.proofs.event_at.Reads as event-at-reads
+use Rattle.scans.proofs.locks.Reads as locks-reads
+use Rattle.scans.proofs.owner_of.Reads as owner-of-reads
+
+-- src/lib.rt:70:9
+owner-of-requires : tie.Need-owner-of-requires
+owner-of-requires c κs = search needs
+
+-- src/lib.rt:72:9
+returns : tie.Need-returns
+returns c = λ l K. let a = c .before .before .before .args in rw (← (c .before .owner-of .ensures .0), c .if1 .taken, same-refl 0)
+
+-- src/lib.rt:74:14
+event-at-requires : tie.Need-event-at-requires
+event-at-requires c κs = search needs
+
+-- src/lib.rt:74:8
+locks-requires : tie.Need-locks-requires
+locks-requires c κs = search needs
+
+-- src/lib.rt:75:9
+blocks-requires : tie.Need-blocks-requires
+blocks-requires c κs = search needs
+
+-- src/lib.rt:75:9
+returns-2 : tie.Need-returns-2
+returns-2 c = λ l K. let a = c .before .before .before .before .before .before .before .args in let z = ne-false (getD (a .owner .now) (a .k) 0) 0 (λ q. c .before .before .before .before .if1 .left (c .before .before .before .before .before .owner-of .ensures .0 ∙ q)) in let t = sym (c .before .before .locks .ensures) ∙ c .before .if2 .taken in rw (z, c .before .before .before .event-at .ensures .0, t) (c .blocks2 .ensures l K ∙ ap (blocks l (a .me)) (c .before .before .before .before .before .owner-of .ensures .0) ∙ sym (and-true _))
+
+-- src/lib.rt:66:1
+returns-3 : tie.Need-returns-3
+returns-3 c = λ l K. let a = c .before .before .before .before .before .before .args in let t = sym (c .before .locks .ensures) ∙ c .if2 .left in rw (c .before .before .event-at .ensures .0, t, and-false, and-false)
+
+pub bars-spec : {M : Type 1} → statement M
+bars-spec =
+    tie.close
+    (tie.spec
+    owner-of-requires
+    returns
+    event-at-requires
+    locks-requires
+    blocks-requires
+    returns-2
+    returns-3)

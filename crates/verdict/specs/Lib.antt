@@ -1,0 +1,2 @@
+-- What the auditor answers by numbers.
+pub mod Codes
