@@ -12,7 +12,7 @@ all:
 
 install: all
 	install -d "$(into)/include" "$(into)/lib/pkgconfig" "$(into)/bin"
-	install -m 644 include/nekahuiro.h include/nekahuiro_device.h "$(into)/include/"
+	install -m 644 include/nekahuiro.h include/nekahuiro_device.h "$(into)/include"
 	install -m 644 target/staticlib/libnekahuiro.a "$(into)/lib/libnekahuiro.a"
 	sed 's|@PREFIX@|$(prefix)|; s|@VERSION@|$(VERSION)|' include/nekahuiro.pc.in > "$(into)/lib/pkgconfig/nekahuiro.pc"
 	install -m 755 "$(CARGO_TARGET_DIR)/release/nekahuiro-cli" "$(into)/bin/nekahuiro"

@@ -1,6 +1,7 @@
 # What is installed: header, library, pkg-config file and command line, each where it is looked for.
 ok "make install" "libnekahuiro.a" make -C "$root" install PREFIX="$folder/in stalled" CARGO_TARGET_DIR="$(dirname "$(dirname "$binary")")"
 holds "the header" cmp "$root/include/nekahuiro.h" "in stalled/include/nekahuiro.h"
+holds "the header for devices" cmp "$root/include/nekahuiro_device.h" "in stalled/include/nekahuiro_device.h"
 holds "the library" cmp "$root/target/staticlib/libnekahuiro.a" "in stalled/lib/libnekahuiro.a"
 ok "the command line, as it is called" "^  nekahuiro play STORE EVENTS " "in stalled/bin/nekahuiro" help
 holds "and not as the script is" bash -c "! grep -q ./nekahuiro out"
