@@ -79,6 +79,10 @@ edgeTrials =
     onFresh (
     on top 0x0000 ∷ on (read 0 3 2) 0x0900 ∷ on (write 0 3 2 7) 0x0900 ∷ on (locks 0 4) 0x0000 ∷ on (read 0 3 2) 0x0900 ∷ on (read 0 4 2) 0x0000 ∷ on top 0x0001 ∷ on (read 1 4 2) 0x0900 ∷
     on (locks 1 4) 0x0800 ∷ on (read 1 4 2) 0x0900 ∷ on (write 0 4 2 7) 0x0000 ∷ on (commit 0 63) 0x0004 ∷ []) [] ∷
+    -- 10 at any depth, with a live child of its own; then all commit, from beneath.
+    onFresh (
+    on top 0x0000 ∷ on (begin 0) 0x0001 ∷ on (begin 1) 0x0002 ∷ on (commit 1 0) 0x0A00 ∷ on (commit 0 63) 0x0A00 ∷ on (commit 2 0) 0x0000 ∷ on (commit 0 63) 0x0A00 ∷ on (commit 1 0) 0x0000 ∷
+    on (commit 0 0) 0x0000 ∷ []) [] ∷
     -- A refused commit changes nothing: the child goes on, and so does its parent.
     onFresh (childWrites11 ++ (
     on (begin 0) 0x0001 ∷ on (commit 0 2) 0x0A00 ∷ on (locks 1 3) 0x0000 ∷ on (read 1 3 2) 0x0011 ∷ on (commit 1 63) 0x0000 ∷ on (commit 0 2) 0x0B02 ∷ on (recover 63) 0x0002 ∷ [])) (
