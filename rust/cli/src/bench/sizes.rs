@@ -40,5 +40,6 @@ fn stack(root: &Path) -> Option<String> {
     let output = Command::new(&program).output();
     let _ = std::fs::remove_file(&program);
     let output = output.ok().filter(|output| compiled && output.status.success())?;
-    String::from_utf8_lossy(&output.stdout).lines().last().map(|line| line.trim_start_matches("stack: ").to_string())
+    let text = String::from_utf8_lossy(&output.stdout).to_string();
+    Some(text.lines().map(|line| line.trim_start_matches("stack: ")).collect::<Vec<_>>().join("; "))
 }
