@@ -1,5 +1,6 @@
 //! `bench`: the engine against three yardsticks on lists of 4,096 events, whole and one event at a time.
 
+mod cold;
 mod counts;
 mod lists;
 mod programs;
@@ -33,6 +34,7 @@ fn run(arguments: &[String]) -> Outcome {
         ["--quick"] => say(&times::text()?),
         [] => {
             say(&times::text()?)?;
+            say(&cold::text()?)?;
             say(&counts::text()?)?;
             say(&sizes::text())
         }
