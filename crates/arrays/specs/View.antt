@@ -5,10 +5,10 @@ use mathlib.Core.List.{List}
 use mathlib.Core.Option.{Option, none, some}
 use Prim.Native.Nat.{ℕ, zero, suc, _+_, _*_, _-_}
 use lib.ListN.{getD}
-use Rattle.rules.specs.Store.{Page, pagesOf, home}
+use Rattle.rules.specs.Store.{Page, pagesOf}
 use Rattle.rules.specs.State.{Bearer, Bearers, free, active, lineOf, Mode, nothing, reading, writing, Modes, Versions}
 use Rattle.rules.specs.Versions.{nearest}
-use Rattle.rules.specs.Editions.{geometry1, depths}
+use Rattle.rules.specs.Editions.{depths}
 use Rattle.sets.specs.Sets.{sets}
 
 -- by place and transaction: who is in the set at the place. The writers have a place for each record, the locks have two.
@@ -49,10 +49,10 @@ slot r d = r * depths + (d - 1)
 unfoldable pub versionsOf : List ℕ → List ℕ → List ℕ → Versions
 versionsOf depth writers work t r = cond (sets writers r t) (some (pagesOf work (slot r (getD depth t 0)))) none
 
--- what t reads of r
-unfoldable pub seen : List ℕ → List ℕ → List ℕ → List ℕ → List ℕ → ℕ → ℕ → Page
-seen parent depth writers work store t r =
-    nearest (versionsOf depth writers work) (pagesOf store (home geometry1 r)) r (lineOf (bearersOf parent depth) t)
+-- what t reads of r, whose home page is given
+unfoldable pub seen : List ℕ → List ℕ → List ℕ → List ℕ → Page → ℕ → ℕ → Page
+seen parent depth writers work base t r =
+    nearest (versionsOf depth writers work) base r (lineOf (bearersOf parent depth) t)
 
 -- opens the definitions of this module: for what is proved by computing
 unfoldable pub open-view : Unit {0}

@@ -21,7 +21,7 @@ use Rattle.auditor.proofs.Still.{grants-still, writes-still, refused-au
 use Rattle.auditor.proofs.Aborts.{after-consistent, all-ledger}
 
 -- what is read of a commit page of any kind: whether it is damaged
-pub good-said : (s : Pages) {c : CommitMap} → c ≡ understood (s 0) → c .good ≡ not (damaged geometry1 s)
+pub good-said : (s : Pages) {c : CommitMap} → c ≡ understood geometry1 (s 0) → c .good ≡ not (damaged geometry1 s)
 unfolding understood damaged
 good-said s e = ap (λ (c : CommitMap). c .good) e
 

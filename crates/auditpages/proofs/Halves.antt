@@ -5,6 +5,7 @@ use mathlib.Core.List.{List, [], _∷_, _++_, append-assoc}
 use mathlib.Core.Logic.{_≢_}
 use mathlib.Core.Option.{Option, none, some}
 use Prim.Native.Nat.{ℕ, _-_, _^_, _<_}
+use Rattle.commitpage.proofs.Places.{layout1}
 use Rattle.laws.specs.Tests.{same}
 use Rattle.rules.specs.Store.{Page, Pages, named, commitPage}
 use Rattle.rules.specs.Commit.{PageWrite, sets, cutAt, marks, commitAt}
@@ -21,7 +22,7 @@ pub halves-leave : (map : ℕ) (v : ℕ → Option Page) (new : ℕ → Page) �
 unfolding commitAt marks
 halves-leave map v new are {s} {s₁} {s₂} {s₃} {k} {a} {b} {c} small h p q r =
     subst⁻¹ (λ (ws : List PageWrite). Leaves (cutAt k ws s) s₃ (k - c) (same b 0))
-    (commit-is map v new are small h
+    (commit-is geometry1 16 (layout1 .many) map v new are small h
     ∙ ap (λ (ws : List PageWrite). ws ++ (sets 0 (commitPage geometry1 0) ∷ []))
     (sym (append-assoc (sweep (named geometry1 map) (copies 1 new) 16) (sets 0 (commitPage geometry1 map) ∷ []) (sweep (named geometry1 map) (copies 17 new) 16))))
     (phase-last (phase-then p q) r)

@@ -27,6 +27,6 @@ unfolding settledIn settled isNamed intention
 settled-is store r map b h m e = rw (small r h, ← m, e, home-is r)
 
 -- the map that a commit page of any kind is read to have
-pub map-said : (page : Page) {c : CommitMap} → c ≡ understood page → c .map ≡ mapIn (readCommit geometry1 page)
+pub map-said : (page : Page) {c : CommitMap} → c ≡ understood geometry1 page → c .map ≡ mapIn (readCommit geometry1 page)
 unfolding understood
 map-said page e = ap (λ (c : CommitMap). c .map) e

@@ -3,7 +3,7 @@ use mathlib.Core.Path.{_≡_, refl, sym, ap, _∙_}
 use mathlib.Core.Bool.{Bool, true, cond}
 use mathlib.Core.List.{List}
 use mathlib.Core.Option.{none, some}
-use Prim.Native.Nat.{ℕ, zero, suc, _<_}
+use Prim.Native.Nat.{ℕ, zero, suc, _<_, _^_}
 use native.Mathlib.Omega.{arith}
 use lib.ListN.{getD}
 use Rattle.laws.specs.Tests.{same}
@@ -47,3 +47,8 @@ module _ (start owner parent fate bearer events : List ℕ) (begun n t me map : 
     versions-are r h =
         ap (λ (i : ℕ). cond (writesTo (λ k. same (standsWith (l .story) k) i) r (writesUpTo owner events n)) (some (overlaid (showsTo l i) r (writesUpTo owner events n) (settledIn edition1 start r))) none) bears
         ∙ ap (λ (b : Bool). cond b (some (changedPage l start owner events n me r)) none) (sym (named-is r h))
+
+-- a map of sixteen records
+pub small-map : (m : ℕ) → m < 65536 → m < 2 ^ records geometry1
+unfolding open-geometry
+small-map m h = h

@@ -36,9 +36,9 @@ pub struct Written {
 // What the commit page says: whether it is damaged, and the map in force.
 pub fn read_map(store: &[u8]) -> commitpage::CommitMap
     requires { ⌜ length (now store) ≡ 1056 ⌝ }
-    ensures { λ c. ⌜ c ≡ understood (pagesOf (now (store .entry)) 0) ⌝ }
+    ensures { λ c. ⌜ c ≡ understood geometry1 (pagesOf (now (store .entry)) 0) ⌝ }
 {
-    commitpage::read_page(page::get_page(store, 0))
+    commitpage::read_page(page::get_page(store, 0), 16, true)
 }
 
 // The settled value of record r in a store.
@@ -48,15 +48,15 @@ pub fn settled_page(store: &[u8], r: u8) -> [u8; 32]
 {
     let n = r as usize;
     let c = read_map(store);
-    if commitpage::names(c.map, r) {
+    if commitpage::names(c.map, 16, r) {
         return page::get_page(store, 1 + n);
     }
     page::get_page(store, 17 + n)
 }
 
 // A map with a further record at its end.
-fn grown(map: u16, yes: bool) -> u16
-    requires { ⌜ map < 32768 ⌝ }
+fn grown(map: u64, yes: bool) -> u64
+    requires { ⌜ map < 9223372036854775808 ⌝ }
     ensures { λ r. ⌜ r ≡ map * 2 + cond yes 1 0 ⌝ }
 {
     if yes {
@@ -74,11 +74,11 @@ fn changed_map(
     fate: &[u8; 4097],
     n: usize,
     me: usize,
-) -> u16
+) -> u64
     requires { ⌜ (now table ≡ flags) × (n < 4096) × (4 * n + 4 ≤ length (now events)) × ((j : ℕ) → getD (now owner) j 0 < 4097) × (me < 4097) × Earlier (now parent) ⌝ }
-    ensures { λ m. ⌜ ((l : Ledger) → Linked l (now (parent .entry)) (now (fate .entry)) → m ≡ mapOf geometry1 (λ q. writesTo (λ i. same (standsWith (l .story) i) me) q (writesUpTo (now (owner .entry)) (now (events .entry)) n))) ⌝ }
+    ensures { λ m. ⌜ (((l : Ledger) → Linked l (now (parent .entry)) (now (fate .entry)) → m ≡ mapOf geometry1 (λ q. writesTo (λ i. same (standsWith (l .story) i) me) q (writesUpTo (now (owner .entry)) (now (events .entry)) n)))) × (m < 65536) ⌝ }
 {
-    let mut map = 0u16;
+    let mut map = 0u64;
     for r in 0..16u8 {
         map = grown(
             map,
@@ -111,7 +111,7 @@ fn write_record(
     fate: &[u8; 4097],
     n: usize,
     me: usize,
-    map: u16,
+    map: u64,
     first: usize,
     r: u8,
     left: u8,
@@ -120,7 +120,7 @@ fn write_record(
     ensures { λ x. ⌜ ((l : Ledger) → Linked l (now (parent .entry)) (now (fate .entry)) →
         Phase left (due (named geometry1 map) (copies first (changedPage l (now (start .entry)) (now (owner .entry)) (now (events .entry)) n me)) r) (pagesOf (now (store .entry))) (pagesOf (now (store .exit))) x) ⌝ }
 {
-    if commitpage::names(map, r) & (0 < left) {
+    if commitpage::names(map, 16, r) & (0 < left) {
         let at = first + (r as usize);
         let seen = scans::page_of(
             settled_page(start, r),
@@ -150,7 +150,7 @@ fn write_records(
     fate: &[u8; 4097],
     n: usize,
     me: usize,
-    map: u16,
+    map: u64,
     first: usize,
     left: u8,
 ) -> u8
@@ -190,12 +190,12 @@ fn write_intentions(
     fate: &[u8; 4097],
     n: usize,
     me: usize,
-    map: u16,
+    map: u64,
     left: u8,
 ) -> u8
-    requires { ⌜ (now table ≡ flags) × (n < 4096) × (4 * n + 4 ≤ length (now events)) × ((j : ℕ) → getD (now owner) j 0 < 4097) × (me < 4097) × Earlier (now parent) × (length (now start) ≡ 1056) × (length (now store) ≡ 1056) ⌝ }
+    requires { ⌜ (now table ≡ flags) × (n < 4096) × (4 * n + 4 ≤ length (now events)) × ((j : ℕ) → getD (now owner) j 0 < 4097) × (me < 4097) × Earlier (now parent) × (length (now start) ≡ 1056) × (length (now store) ≡ 1056) × (map < 65536) ⌝ }
     ensures { λ x. ⌜ ((l : Ledger) → Linked l (now (parent .entry)) (now (fate .entry)) →
-        Phase left (sweep (named geometry1 map) (copies 1 (changedPage l (now (start .entry)) (now (owner .entry)) (now (events .entry)) n me)) 16 ++ (sets 0 (commitPage geometry1 map) ∷ [])) (pagesOf (now (store .entry))) (pagesOf (now (store .exit))) x) × (map < 65536) ⌝ }
+        Phase left (sweep (named geometry1 map) (copies 1 (changedPage l (now (start .entry)) (now (owner .entry)) (now (events .entry)) n me)) 16 ++ (sets 0 (commitPage geometry1 map) ∷ [])) (pagesOf (now (store .entry))) (pagesOf (now (store .exit))) x) ⌝ }
 {
     let rest = write_records(
         store,
@@ -211,7 +211,7 @@ fn write_intentions(
         1,
         left,
     );
-    write_one(store, 0, commitpage::commit_page(map), rest)
+    write_one(store, 0, commitpage::commit_page(map, 16), rest)
 }
 
 // The page writes of the commit of `me`, a top transaction, in the order of the plan: intention pages, the commit page as committed, home pages, the
@@ -270,7 +270,7 @@ pub fn commit_writes(
         17,
         a,
     );
-    let c = write_one(store, 0, commitpage::commit_page(0), b);
+    let c = write_one(store, 0, commitpage::commit_page(0, 16), b);
     Written {
         made: k - c,
         crashed: b == 0,
@@ -279,11 +279,11 @@ pub fn commit_writes(
 }
 
 // Record r's intention page goes home, if the map names r and anything is left of the count.
-fn recover_record(store: &mut [u8], map: u16, r: u8, left: u8) -> u8
+fn recover_record(store: &mut [u8], map: u64, r: u8, left: u8) -> u8
     requires { ⌜ (r < 16) × (length (now store) ≡ 1056) ⌝ }
     ensures { λ x. ⌜ Phase left (due (named geometry1 map) (copies 17 (λ j. pagesOf (now (store .entry)) (1 + j))) r) (pagesOf (now (store .entry))) (pagesOf (now (store .exit))) x ⌝ }
 {
-    if commitpage::names(map, r) & (0 < left) {
+    if commitpage::names(map, 16, r) & (0 < left) {
         let at = r as usize;
         let planned = page::get_page(store, 1 + at);
         page::put_page(store, 17 + at, planned);
@@ -294,7 +294,7 @@ fn recover_record(store: &mut [u8], map: u16, r: u8, left: u8) -> u8
 
 // The page writes of a recovery over a commit page with this map, in the order of the plan: the intention pages go home by rising record, then the
 // commit page is emptied; none where the map is 0. The first k happen.
-pub fn recover_writes(store: &mut [u8], map: u16, k: u8) -> Made
+pub fn recover_writes(store: &mut [u8], map: u64, k: u8) -> Made
     requires { ⌜ (length (now store) ≡ 1056) × (mapIn (readCommit geometry1 (pagesOf (now store) 0)) ≡ map) ⌝ }
     ensures { λ m. ⌜ Leaves (recoverAt geometry1 (pagesOf (now (store .entry))) k) (pagesOf (now (store .exit))) (m .made) (m .crashed) ⌝ }
 {
@@ -308,7 +308,7 @@ pub fn recover_writes(store: &mut [u8], map: u16, k: u8) -> Made
     for r in 0..16u8 {
         rest = recover_record(store, map, r, rest);
     }
-    let d = write_one(store, 0, commitpage::commit_page(0), rest);
+    let d = write_one(store, 0, commitpage::commit_page(0, 16), rest);
     Made {
         made: k - d,
         crashed: rest == 0,

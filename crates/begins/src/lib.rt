@@ -1,20 +1,20 @@
 // A begin: under nobody at the top, or under a live transaction.
 ghost use mathlib.Core.Path.{_≡_};
 ghost use mathlib.Core.List.{List};
-ghost use mathlib.Core.Option.{Option, none, some};
-ghost use Prim.Native.Nat.{ℕ, _+_, _<_, _≤_};
+ghost use mathlib.Core.Option.{some};
+ghost use Prim.Native.Nat.{ℕ, _<_, _≤_};
 ghost use lib.ListN.{length, getD};
 ghost use Rattle.laws.specs.Bits.{bits};
 ghost use Rattle.rules.specs.Event.{begin};
-ghost use Rattle.rules.specs.Editions.{depths};
+ghost use Rattle.rules.specs.Editions.{depths, Edition, formOf};
 ghost use Rattle.sets.specs.Sets.{sets};
 ghost use Rattle.arrays.specs.Kin.{Kin};
-ghost use Rattle.events.specs.Whole.{Arrays, arrays, Intact, Stepped};
-use events::Answer;
+ghost use Rattle.state.specs.Whole.{Arrays, arrays, Intact, Stepped};
+use event::Answer;
 
 const DEPTH_LIMIT: u8 = page::DEPTHS as u8;
 
-// A transaction begins under p at depth d, whose line is given; p is a live transaction, or 31 at depth 0.
+// A transaction begins under p, which is a live transaction at depth d, or 31 and d is 0 (then it is a top transaction). `above` is the line of p.
 fn begin_under(
     parent: &mut [u8; 24],
     depth: &mut [u8; 24],
@@ -25,8 +25,12 @@ fn begin_under(
     d: u8,
     above: u32,
 ) -> Answer
-    requires { ⌜ (d < depths) × (d ≡ getD (now depth) p 0) × (bits above ≡ sets (now line) p) × ((d ≡ 0) → p ≡ 31) × (p < 32) × (length (now parent) ≡ 24) × (length (now depth) ≡ 24) × Kin (now parent) (now depth) (now live) (now children) ⌝ }
-    ensures { λ a. ⌜ ((up : ℕ) (held retained writers work store : List ℕ) → Intact (arrays up (now (parent .entry)) (now (depth .entry)) (now (line .entry)) held retained writers work store) → up ≡ 1 → Stepped (arrays up (now (parent .entry)) (now (depth .entry)) (now (line .entry)) held retained writers work store) (some (begin p)) a (arrays up (now (parent .exit)) (now (depth .exit)) (now (line .exit)) held retained writers work store)) ⌝ }
+    requires { ⌜ (d < depths) × (d ≡ getD (now depth) p 0) × (bits above ≡ sets (now line) p) × ((d ≡ 0) → p ≡ 31) × (p < 32)
+        × (length (now parent) ≡ 24) × (length (now depth) ≡ 24) × Kin (now parent) (now depth) (now live) (now children) ⌝ }
+    ensures { λ a. ⌜ ((k : Edition) (up : ℕ) (held retained writers work store : List ℕ) →
+        let before = arrays up (now (parent .entry)) (now (depth .entry)) (now (line .entry)) held retained writers work store in
+        let after = arrays up (now (parent .exit)) (now (depth .exit)) (now (line .exit)) held retained writers work store in
+        Intact (formOf k) before → up ≡ 1 → Stepped (formOf k) before (some (begin p)) a after) ⌝ }
     ensures { λ _. ⌜ Kin (now (parent .exit)) (now (depth .exit)) (now (live .exit)) (now (children .exit)) ⌝ }
 {
     let f = transactions::first_free(*live);
@@ -44,7 +48,7 @@ fn begin_under(
     }
 }
 
-// A transaction begins: under 31 at the top, else under a live transaction above the depth limit.
+// A transaction begins: at the top where p is 31, else under the live transaction p, unless that is at the depth limit.
 pub fn begin_event(
     parent: &mut [u8; 24],
     depth: &mut [u8; 24],
@@ -53,8 +57,12 @@ pub fn begin_event(
     children: &mut [u32; 32],
     p: u8,
 ) -> Answer
-    requires { ⌜ (p < 32) × (length (now depth) ≡ 24) × (length (now line) ≡ 24) × ((k : ℕ) → getD (now depth) k 0 ≤ depths) × (length (now parent) ≡ 24) × Kin (now parent) (now depth) (now live) (now children) ⌝ }
-    ensures { λ a. ⌜ ((up : ℕ) (held retained writers work store : List ℕ) → Intact (arrays up (now (parent .entry)) (now (depth .entry)) (now (line .entry)) held retained writers work store) → up ≡ 1 → Stepped (arrays up (now (parent .entry)) (now (depth .entry)) (now (line .entry)) held retained writers work store) (some (begin p)) a (arrays up (now (parent .exit)) (now (depth .exit)) (now (line .exit)) held retained writers work store)) ⌝ }
+    requires { ⌜ (p < 32) × (length (now depth) ≡ 24) × (length (now line) ≡ 24) × ((k : ℕ) → getD (now depth) k 0 ≤ depths)
+        × (length (now parent) ≡ 24) × Kin (now parent) (now depth) (now live) (now children) ⌝ }
+    ensures { λ a. ⌜ ((k : Edition) (up : ℕ) (held retained writers work store : List ℕ) →
+        let before = arrays up (now (parent .entry)) (now (depth .entry)) (now (line .entry)) held retained writers work store in
+        let after = arrays up (now (parent .exit)) (now (depth .exit)) (now (line .exit)) held retained writers work store in
+        Intact (formOf k) before → up ≡ 1 → Stepped (formOf k) before (some (begin p)) a after) ⌝ }
     ensures { λ _. ⌜ Kin (now (parent .exit)) (now (depth .exit)) (now (live .exit)) (now (children .exit)) ⌝ }
 {
     if p == 31 {

@@ -1,5 +1,5 @@
 -- The page writes of a commit and of a recovery as phases: a sweep over the records, a commit page, and so on; and the rules' cut of them.
-use mathlib.Core.Path.{_≡_, refl, sym, ap, ap₂, subst⁻¹, _∙_}
+use mathlib.Core.Path.{_≡_, refl, sym, ap, ap₂, subst, subst⁻¹, _∙_}
 use mathlib.Core.Bool.{Bool, true, false, cond, _&&_, true≢false}
 use mathlib.Core.List.{List, [], _∷_, _++_, map, append-assoc}
 use mathlib.Core.Logic.{_≢_}
@@ -7,6 +7,7 @@ use mathlib.Core.Option.{Option, none, some}
 use Prim.Native.Nat.{ℕ, _+_, _-_, _^_, _<_}
 use native.Mathlib.Omega.{arith}
 use lib.ListN.{length, take}
+use lib.Pow.{pow-pos}
 use lib.Seq.{take-nil}
 use Rattle.laws.specs.Tests.{same, under}
 use Rattle.laws.specs.Counting.{those}
@@ -16,11 +17,11 @@ use Rattle.rules.specs.Geometry.{Geometry, records}
 use Rattle.rules.specs.Store.{Page, Pages, intention, home, mapOf, named, commitPage, readCommit, mapIn, isNamed}
 use Rattle.rules.specs.Versions.{isSome, else}
 use Rattle.rules.specs.Commit.{PageWrite, sets, applied, cutAt, pageIn, intentions, homes, marks, commitWrites, recoverWrites, commitPlan, recoverPlan, commitAt, recoverAt}
+use Rattle.rules.proofs.CommitPage.{read-is}
 use Rattle.rules.proofs.Cuts.{not-lt-under}
 use Rattle.rules.proofs.Map.{mapOf-named, mapOf-same, named-zero, names-none}
 use Rattle.rules.proofs.Members.{those-all}
 use Rattle.rules.specs.State.{mem}
-use Rattle.rules.specs.Editions.{geometry1}
 use Rattle.commit.specs.Phase.{Phase, Leaves, sweep, copies, topSlot, versionsIn}
 use Rattle.commit.proofs.Phases.{phase-then, phase-last}
 use Rattle.commit.proofs.Sweeps.{sweep-same}
@@ -48,111 +49,123 @@ unfolding recoverWrites
 recover-some g new [] h = absurd (h refl)
 recover-some g new (r ∷ rs) h = refl
 
--- a map that isn't 0 names some record
-pub some-named : (map : ℕ) → map < 2 ^ 16 → map ≢ 0 → those 16 (named geometry1 map) ≢ []
-unfolding records mem
-some-named map small h e = h (names-none geometry1 map small (λ r lt. go r lt (is? (named geometry1 map r))))
+-- the map in force has a bit for each record
+in-force-lt : (g : Geometry) (page : Page) → mapIn (readCommit g page) < 2 ^ records g
+unfolding mapIn
+in-force-lt g page = go (readCommit g page) refl
   where
-    go : (r : ℕ) → r < 16 → Is (named geometry1 map r) → named geometry1 map r ≡ false
-    go r lt (no′ q) = q
-    go r lt (yes′ q) = absurd (true≢false (sym (those-all 16 (named geometry1 map) r lt q) ∙ ap (mem r) e))
+    go : (o : Option ℕ) → readCommit g page ≡ o → mapIn o < 2 ^ records g
+    go none e = pow-pos (records g)
+    go (some m) e = read-is g page m e .1
 
--- the working buffer's versions of the records that a map names
-pub slots-are : (map : ℕ) (work : List ℕ) (r : ℕ) → r < 16 → versionsIn map work r ≡ cond (named geometry1 map r) (some (topSlot work r)) none
-unfolding versionsIn
-slots-are map work r lt = ap (λ (x : Bool). cond (x && named geometry1 map r) (some (topSlot work r)) none) (lt-under r 16 lt)
-
--- versions of the records that a map names, as the sweeps see them
-module _ (map : ℕ) (v : ℕ → Option Page) (new : ℕ → Page) (are : (r : ℕ) → r < 16 → v r ≡ cond (named geometry1 map r) (some (new r)) none) where
-  changed-is : (r : ℕ) → r < 16 → isSome (v r) ≡ named geometry1 map r
-  unfolding isSome
-  changed-is r lt = ap isSome (are r lt) ∙ go (named geometry1 map r)
+module _ (g : Geometry) (n : ℕ) (many : records g ≡ n) where
+  -- a map that isn't 0 names some record
+  pub some-named : (map : ℕ) → map < 2 ^ n → map ≢ 0 → those n (named g map) ≢ []
+  unfolding mem
+  some-named map small h e =
+      h (names-none g map (subst (λ (k : ℕ). map < 2 ^ k) (sym many) small) (λ r lt. go r (subst (λ (k : ℕ). r < k) many lt) (is? (named g map r))))
     where
-      go : (b : Bool) → isSome (cond b (some (new r)) none) ≡ b
-      go true = refl
-      go false = refl
+      go : (r : ℕ) → r < n → Is (named g map r) → named g map r ≡ false
+      go r lt (no′ q) = q
+      go r lt (yes′ q) = absurd (true≢false (sym (those-all n (named g map) r lt q) ∙ ap (mem r) e))
 
-  page-is : (r : ℕ) → r < 16 → named geometry1 map r ≡ true → pageIn v r ≡ new r
-  unfolding pageIn else
-  page-is r lt e = ap (λ o. else o []) (are r lt ∙ ap (λ (b : Bool). cond b (some (new r)) none) e)
+  -- the working buffer's versions of the records that a map names
+  pub slots-are : (map : ℕ) (work : List ℕ) (r : ℕ) → r < n → versionsIn g map work r ≡ cond (named g map r) (some (topSlot work r)) none
+  unfolding versionsIn
+  slots-are map work r lt =
+      ap (λ (x : Bool). cond (x && named g map r) (some (topSlot work r)) none) (lt-under r (records g) (subst (λ (k : ℕ). r < k) (sym many) lt))
 
-  pub those-is : those (records geometry1) (λ r. isSome (v r)) ≡ those 16 (named geometry1 map)
-  unfolding records
-  those-is = those-same 16 changed-is
+  -- versions of the records that a map names, as the sweeps see them
+  module _ (map : ℕ) (v : ℕ → Option Page) (new : ℕ → Page) (are : (r : ℕ) → r < n → v r ≡ cond (named g map r) (some (new r)) none) where
+    changed-is : (r : ℕ) → r < n → isSome (v r) ≡ named g map r
+    unfolding isSome
+    changed-is r lt = ap isSome (are r lt) ∙ go (named g map r)
+      where
+        go : (b : Bool) → isSome (cond b (some (new r)) none) ≡ b
+        go true = refl
+        go false = refl
 
-  pub map-is : map < 2 ^ 16 → mapOf geometry1 (λ r. isSome (v r)) ≡ map
-  unfolding records
-  map-is small = mapOf-same geometry1 (λ r. isSome (v r)) (named geometry1 map) changed-is ∙ mapOf-named geometry1 map small
+    page-is : (r : ℕ) → r < n → named g map r ≡ true → pageIn v r ≡ new r
+    unfolding pageIn else
+    page-is r lt e = ap (λ o. else o []) (are r lt ∙ ap (λ (b : Bool). cond b (some (new r)) none) e)
 
-  pub intentions-are : intentions geometry1 (pageIn v) (those 16 (named geometry1 map)) ≡ sweep (named geometry1 map) (copies 1 new) 16
-  unfolding intentions sweep intention copies
-  intentions-are = sweep-same 16 (named geometry1 map) _ _ (λ r lt e. ap (sets (1 + r)) (page-is r lt e))
+    pub those-is : those (records g) (λ r. isSome (v r)) ≡ those n (named g map)
+    those-is = ap (λ (k : ℕ). those k (λ r. isSome (v r))) many ∙ those-same n changed-is
 
-  homes-are : homes geometry1 (pageIn v) (those 16 (named geometry1 map)) ≡ sweep (named geometry1 map) (copies 17 new) 16
-  unfolding homes sweep home copies records
-  homes-are = sweep-same 16 (named geometry1 map) _ _ (λ r lt e. ap₂ sets (omega arith) (page-is r lt e))
+    pub map-is : map < 2 ^ n → mapOf g (λ r. isSome (v r)) ≡ map
+    map-is small =
+        mapOf-same g (λ r. isSome (v r)) (named g map) (λ r lt. changed-is r (subst (λ (k : ℕ). r < k) many lt))
+        ∙ mapOf-named g map (subst (λ (k : ℕ). map < 2 ^ k) (sym many) small)
 
-  pub commit-is : map < 2 ^ 16 → map ≢ 0
-      → commitPlan geometry1 v
-      ≡ (sweep (named geometry1 map) (copies 1 new) 16 ++ ((marks geometry1 map ∷ []) ++ sweep (named geometry1 map) (copies 17 new) 16)) ++ (marks geometry1 0 ∷ [])
-  commit-is small h =
-      ap₂ (commitWrites geometry1 (pageIn v)) (map-is small) those-is
-      ∙ commit-some geometry1 (pageIn v) map (those 16 (named geometry1 map)) (some-named map small h)
-      ∙ ap₂ (λ (a b : List PageWrite). (a ++ ((marks geometry1 map ∷ []) ++ b)) ++ (marks geometry1 0 ∷ [])) intentions-are homes-are
+    pub intentions-are : intentions g (pageIn v) (those n (named g map)) ≡ sweep (named g map) (copies 1 new) n
+    unfolding intentions sweep intention copies
+    intentions-are = sweep-same n (named g map) _ _ (λ r lt e. ap (sets (1 + r)) (page-is r lt e))
 
-  -- a commit of no record
-  pub commit-nothing : map ≡ 0 → commitPlan geometry1 v ≡ []
-  unfolding commitWrites
-  commit-nothing e =
-      ap (commitWrites geometry1 (pageIn v) (mapOf geometry1 (λ r. isSome (v r))))
-      (those-is ∙ ap (λ (m : ℕ). those 16 (named geometry1 m)) e ∙ those-none 16 (named-zero geometry1))
+    homes-are : homes g (pageIn v) (those n (named g map)) ≡ sweep (named g map) (copies (1 + n) new) n
+    unfolding homes sweep home copies
+    homes-are = sweep-same n (named g map) _ _ (λ r lt e. ap₂ sets (omega (arith, many)) (page-is r lt e))
 
-  pub commit-none : (s : Pages) (k : ℕ) → map ≡ 0 → Leaves (commitAt geometry1 s v k) s 0 false
-  unfolding commitAt
-  commit-none s k e = none-left k s (commit-nothing e)
+    pub commit-is : map < 2 ^ n → map ≢ 0
+        → commitPlan g v
+        ≡ (sweep (named g map) (copies 1 new) n ++ ((marks g map ∷ []) ++ sweep (named g map) (copies (1 + n) new) n)) ++ (marks g 0 ∷ [])
+    commit-is small h =
+        ap₂ (commitWrites g (pageIn v)) (map-is small) those-is
+        ∙ commit-some g (pageIn v) map (those n (named g map)) (some-named map small h)
+        ∙ ap₂ (λ (a b : List PageWrite). (a ++ ((marks g map ∷ []) ++ b)) ++ (marks g 0 ∷ [])) intentions-are homes-are
 
-  -- the four phases of a commit
-  pub commit-leaves : {s s₁ s₂ s₃ s₄ : Pages} {k a b c d : ℕ} → map < 2 ^ 16 → map ≢ 0
-      → Phase k (sweep (named geometry1 map) (copies 1 new) 16) s s₁ a → Phase a (sets 0 (commitPage geometry1 map) ∷ []) s₁ s₂ b
-      → Phase b (sweep (named geometry1 map) (copies 17 new) 16) s₂ s₃ c → Phase c (sets 0 (commitPage geometry1 0) ∷ []) s₃ s₄ d
-      → Leaves (commitAt geometry1 s v k) s₄ (k - d) (same c 0)
-  unfolding commitAt marks
-  commit-leaves {s = s} {s₄ = s₄} {k = k} {c = c} {d = d} small h p q r t =
-      subst⁻¹ (λ (ws : List PageWrite). Leaves (cutAt k ws s) s₄ (k - d) (same c 0)) (commit-is small h) (phase-last (phase-then p (phase-then q r)) t)
+    -- a commit of no record
+    pub commit-nothing : map ≡ 0 → commitPlan g v ≡ []
+    unfolding commitWrites
+    commit-nothing e =
+        ap (commitWrites g (pageIn v) (mapOf g (λ r. isSome (v r)))) (those-is ∙ ap (λ (m : ℕ). those n (named g m)) e ∙ those-none n (named-zero g))
 
--- a recovery over a commit page whose map in force is this
-module _ (map k : ℕ) (s : Pages) (says : mapIn (readCommit geometry1 (s 0)) ≡ map) where
-  named-is : (r : ℕ) → r < 16 → isNamed geometry1 s r ≡ named geometry1 map r
-  unfolding isNamed records
-  named-is r lt = ap₂ (λ (b : Bool) (m : ℕ). b && named geometry1 m r) (lt-under r 16 lt) says
+    pub commit-none : (s : Pages) (k : ℕ) → map ≡ 0 → Leaves (commitAt g s v k) s 0 false
+    unfolding commitAt
+    commit-none s k e = none-left k s (commit-nothing e)
 
-  names-are : those (records geometry1) (isNamed geometry1 s) ≡ those 16 (named geometry1 map)
-  unfolding records
-  names-are = those-same 16 named-is
+    -- the four phases of a commit
+    pub commit-leaves : {s s₁ s₂ s₃ s₄ : Pages} {k a b c d : ℕ} → map < 2 ^ n → map ≢ 0
+        → Phase k (sweep (named g map) (copies 1 new) n) s s₁ a → Phase a (sets 0 (commitPage g map) ∷ []) s₁ s₂ b
+        → Phase b (sweep (named g map) (copies (1 + n) new) n) s₂ s₃ c → Phase c (sets 0 (commitPage g 0) ∷ []) s₃ s₄ d
+        → Leaves (commitAt g s v k) s₄ (k - d) (same c 0)
+    unfolding commitAt marks
+    commit-leaves {s = s} {s₄ = s₄} {k = k} {c = c} {d = d} small h p q r t =
+        subst⁻¹ (λ (ws : List PageWrite). Leaves (cutAt k ws s) s₄ (k - d) (same c 0)) (commit-is small h) (phase-last (phase-then p (phase-then q r)) t)
 
-  pub recover-nothing : map ≡ 0 → recoverPlan geometry1 s ≡ []
-  unfolding recoverWrites
-  recover-nothing e = ap (recoverWrites geometry1 (λ r. s (intention r))) (names-are ∙ ap (λ (m : ℕ). those 16 (named geometry1 m)) e ∙ those-none 16 (named-zero geometry1))
+  -- a recovery over a commit page whose map in force is this
+  module _ (map k : ℕ) (s : Pages) (says : mapIn (readCommit g (s 0)) ≡ map) where
+    small : map < 2 ^ n
+    small = subst (λ (m : ℕ). m < 2 ^ n) says (subst (λ (j : ℕ). mapIn (readCommit g (s 0)) < 2 ^ j) many (in-force-lt g (s 0)))
 
-  pub recover-none : map ≡ 0 → Leaves (recoverAt geometry1 s k) s 0 false
-  unfolding recoverAt
-  recover-none e = none-left k s (recover-nothing e)
+    named-is : (r : ℕ) → r < n → isNamed g s r ≡ named g map r
+    unfolding isNamed
+    named-is r lt = ap₂ (λ (b : Bool) (m : ℕ). b && named g m r) (lt-under r (records g) (subst (λ (j : ℕ). r < j) (sym many) lt)) says
 
-  returns-are : homes geometry1 (λ r. s (intention r)) (those 16 (named geometry1 map)) ≡ sweep (named geometry1 map) (copies 17 (λ r. s (1 + r))) 16
-  unfolding homes sweep home copies records intention
-  returns-are = sweep-same 16 (named geometry1 map) _ _ (λ r lt e. ap (λ (n : ℕ). sets n (s (1 + r))) (omega arith))
+    names-are : those (records g) (isNamed g s) ≡ those n (named g map)
+    names-are = ap (λ (j : ℕ). those j (isNamed g s)) many ∙ those-same n named-is
 
-  pub recovery-is : map < 2 ^ 16 → map ≢ 0 → recoverPlan geometry1 s
-      ≡ sweep (named geometry1 map) (copies 17 (λ r. s (1 + r))) 16 ++ (marks geometry1 0 ∷ [])
-  recovery-is small h =
-      ap (recoverWrites geometry1 (λ r. s (intention r))) names-are
-      ∙ recover-some geometry1 (λ r. s (intention r)) (those 16 (named geometry1 map)) (some-named map small h)
-      ∙ ap (λ (l : List PageWrite). l ++ (marks geometry1 0 ∷ [])) returns-are
+    pub recover-nothing : map ≡ 0 → recoverPlan g s ≡ []
+    unfolding recoverWrites
+    recover-nothing e = ap (recoverWrites g (λ r. s (intention r))) (names-are ∙ ap (λ (m : ℕ). those n (named g m)) e ∙ those-none n (named-zero g))
 
-  -- the two phases of a recovery
-  pub recover-leaves : {s₁ s₂ : Pages} {a b : ℕ} → map < 2 ^ 16 → map ≢ 0
-      → Phase k (sweep (named geometry1 map) (copies 17 (λ r. s (1 + r))) 16) s s₁ a → Phase a (sets 0 (commitPage geometry1 0) ∷ []) s₁ s₂ b
-      → Leaves (recoverAt geometry1 s k) s₂ (k - b) (same a 0)
-  unfolding recoverAt marks
-  recover-leaves {s₂ = s₂} {a = a} {b = b} small h p q =
-      subst⁻¹ (λ (ws : List PageWrite). Leaves (cutAt k ws s) s₂ (k - b) (same a 0)) (recovery-is small h) (phase-last p q)
+    pub recover-none : map ≡ 0 → Leaves (recoverAt g s k) s 0 false
+    unfolding recoverAt
+    recover-none e = none-left k s (recover-nothing e)
+
+    returns-are : homes g (λ r. s (intention r)) (those n (named g map)) ≡ sweep (named g map) (copies (1 + n) (λ r. s (1 + r))) n
+    unfolding homes sweep home copies intention
+    returns-are = sweep-same n (named g map) _ _ (λ r lt e. ap (λ (j : ℕ). sets j (s (1 + r))) (omega (arith, many)))
+
+    pub recovery-is : map ≢ 0 → recoverPlan g s ≡ sweep (named g map) (copies (1 + n) (λ r. s (1 + r))) n ++ (marks g 0 ∷ [])
+    recovery-is h =
+        ap (recoverWrites g (λ r. s (intention r))) names-are
+        ∙ recover-some g (λ r. s (intention r)) (those n (named g map)) (some-named map small h)
+        ∙ ap (λ (l : List PageWrite). l ++ (marks g 0 ∷ [])) returns-are
+
+    -- the two phases of a recovery
+    pub recover-leaves : {s₁ s₂ : Pages} {a b : ℕ} → map ≢ 0
+        → Phase k (sweep (named g map) (copies (1 + n) (λ r. s (1 + r))) n) s s₁ a → Phase a (sets 0 (commitPage g 0) ∷ []) s₁ s₂ b
+        → Leaves (recoverAt g s k) s₂ (k - b) (same a 0)
+    unfolding recoverAt marks
+    recover-leaves {s₂ = s₂} {a = a} {b = b} h p q =
+        subst⁻¹ (λ (ws : List PageWrite). Leaves (cutAt k ws s) s₂ (k - b) (same a 0)) (recovery-is h) (phase-last p q)

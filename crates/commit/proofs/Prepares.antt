@@ -1,14 +1,14 @@
 -- The page writes of a prepare and of a decision as phases, and the rules' cut of them.
-use mathlib.Core.Path.{_≡_, refl, sym, ap, ap₂, subst⁻¹, _∙_}
-use mathlib.Core.Bool.{Bool, true, false, cond, _&&_}
+use mathlib.Core.Path.{_≡_, refl, sym, ap, ap₂, subst, subst⁻¹, _∙_}
+use mathlib.Core.Bool.{Bool, true, false, _&&_}
 use mathlib.Core.List.{List, [], _∷_, _++_}
 use mathlib.Core.Logic.{_≢_}
-use mathlib.Core.Option.{Option, none, some}
+use mathlib.Core.Option.{Option, some}
 use Prim.Native.Nat.{ℕ, zero, suc, _+_, _-_, _^_, _<_}
 use native.Mathlib.Omega.{arith}
-use lib.ListN.{length, take}
+use lib.ListN.{take}
 use lib.Seq.{take-nil}
-use Rattle.laws.specs.Tests.{same, under}
+use Rattle.laws.specs.Tests.{same}
 use Rattle.laws.specs.Counting.{those}
 use Rattle.laws.specs.Functions.{updated}
 use Rattle.laws.proofs.Tests.{lt-under}
@@ -18,7 +18,6 @@ use Rattle.rules.specs.Geometry.{Geometry, records}
 use Rattle.rules.specs.Store.{Page, Pages, intention, home, mapOf, named, commitPage, Prepared, preparedPage, readPrepared, preparedMap, isReserved}
 use Rattle.rules.specs.Versions.{isSome}
 use Rattle.rules.specs.Commit.{PageWrite, sets, written, applied, cutAt, pageIn, intentions, homes, marks, recoverWrites, prepareWrites, decideWrites, prepareAt, decideAt, preparePlan, decidePlan}
-use Rattle.rules.specs.Editions.{geometry1}
 use Rattle.rules.proofs.Map.{named-zero}
 use Rattle.rules.proofs.PreparedPage.{prepared-is}
 use Rattle.commitpage.specs.Heard.{prepared}
@@ -32,82 +31,84 @@ unfolding prepareWrites
 prepare-some g new p [] h = absurd (h refl)
 prepare-some g new p (r ∷ rs) h = refl
 
-module _ (map : ℕ) (work : List ℕ) (i : ℕ) where
-  pub prepare-is : map < 2 ^ 16 → map ≢ 0
-      → preparePlan geometry1 (versionsIn map work) i
-      ≡ sweep (named geometry1 map) (copies 1 (topSlot work)) 16 ++ (sets 0 (preparedPage geometry1 (prepared map i)) ∷ [])
-  prepare-is small h =
-      ap₂ (λ (m : ℕ) (rs : List ℕ). prepareWrites geometry1 (pageIn (versionsIn map work)) (prepared m i) rs) (map-is map (versionsIn map work) (topSlot work) (slots-are map work) small) (those-is map (versionsIn map work) (topSlot work) (slots-are map work))
-      ∙ prepare-some geometry1 (pageIn (versionsIn map work)) (prepared map i) (those 16 (named geometry1 map)) (some-named map small h)
-      ∙ ap (λ (a : List PageWrite). a ++ (sets 0 (preparedPage geometry1 (prepared map i)) ∷ [])) (intentions-are map (versionsIn map work) (topSlot work) (slots-are map work))
-
-  -- a prepare of no record
-  pub prepare-nothing : map ≡ 0 → preparePlan geometry1 (versionsIn map work) i ≡ []
-  unfolding prepareWrites
-  prepare-nothing e =
-      ap (prepareWrites geometry1 (pageIn (versionsIn map work)) (record { map = mapOf geometry1 (λ r. isSome (versionsIn map work r)); identity = i }))
-      (those-is map (versionsIn map work) (topSlot work) (slots-are map work) ∙ ap (λ (m : ℕ). those 16 (named geometry1 m)) e ∙ those-none 16 (named-zero geometry1))
-
-  pub prepare-none : (s : Pages) (k : ℕ) → map ≡ 0 → Leaves (prepareAt geometry1 s (versionsIn map work) i k) s 0 false
-  unfolding prepareAt
-  prepare-none s k e = none-left k s (prepare-nothing e)
-
-  -- the two phases of a prepare
-  pub prepare-leaves : {s s₁ s₂ : Pages} {k a b : ℕ} → map < 2 ^ 16 → map ≢ 0
-      → Phase k (sweep (named geometry1 map) (copies 1 (topSlot work)) 16) s s₁ a → Phase a (sets 0 (preparedPage geometry1 (prepared map i)) ∷ []) s₁ s₂ b
-      → Leaves (prepareAt geometry1 s (versionsIn map work) i k) s₂ (k - b) (same a 0)
-  unfolding prepareAt
-  prepare-leaves {s = s} {s₂ = s₂} {k = k} {a = a} {b = b} small h p q =
-      subst⁻¹ (λ (ws : List PageWrite). Leaves (cutAt k ws s) s₂ (k - b) (same a 0)) (prepare-is small h) (phase-last p q)
-
 -- a page write of the commit page leaves the intention pages
 mark-plan : (k : ℕ) (p : Page) (s : Pages) (j : ℕ) → applied (take k (sets 0 p ∷ [])) s (1 + j) ≡ s (1 + j)
 unfolding applied written
 mark-plan zero p s j = refl
 mark-plan (suc k) p s j = ap (λ (l : List PageWrite). applied l (updated 0 p s) (1 + j)) (take-nil k) ∙ updated-other 0 p s (1 + j) (λ e. omega arith)
 
--- a decision on what is prepared with this map
-module _ (map i k : ℕ) (s : Pages) (says : readPrepared geometry1 (s 0) ≡ some (prepared map i)) where
-  reserved-is : (r : ℕ) → r < 16 → isReserved geometry1 s r ≡ named geometry1 map r
-  unfolding isReserved preparedMap records
-  reserved-is r lt = ap₂ (λ (b : Bool) (o : Option Prepared). b && named geometry1 (preparedMap o) r) (lt-under r 16 lt) says
-
-  reserves-are : those (records geometry1) (isReserved geometry1 s) ≡ those 16 (named geometry1 map)
-  unfolding records
-  reserves-are = those-same 16 reserved-is
-
-  small : map < 2 ^ 16
-  unfolding records
-  small = prepared-is geometry1 (s 0) (prepared map i) says .1 .map-fits
-
-  some-map : map ≢ 0
-  some-map = prepared-is geometry1 (s 0) (prepared map i) says .1 .some-record
-
-  returns-are : (planned : ℕ → Page) → ((j : ℕ) → planned j ≡ s (1 + j)) → homes geometry1 (λ r. s (intention r)) (those 16 (named geometry1 map)) ≡ sweep (named geometry1 map) (copies 17 planned) 16
-  unfolding homes sweep home copies records intention
-  returns-are planned e = sweep-same 16 (named geometry1 map) _ _ (λ r lt q. ap₂ sets (omega arith) (sym (e r)))
-
-  pub decision-is : (planned : ℕ → Page) → ((j : ℕ) → planned j ≡ s (1 + j))
-      → decidePlan geometry1 s true
-      ≡ ((marks geometry1 map ∷ []) ++ sweep (named geometry1 map) (copies 17 planned) 16) ++ (marks geometry1 0 ∷ [])
-  unfolding decideWrites preparedMap
-  decision-is planned e =
-      ap₂ (λ (o : Option Prepared) (rs : List ℕ). marks geometry1 (preparedMap o) ∷ recoverWrites geometry1 (λ r. s (intention r)) rs) says reserves-are
-      ∙ ap (λ (l : List PageWrite). marks geometry1 map ∷ l)
-      (recover-some geometry1 (λ r. s (intention r)) (those 16 (named geometry1 map)) (some-named map small some-map) ∙ ap (λ (l : List PageWrite). l ++ (marks geometry1 0 ∷ [])) (returns-are planned e))
-
-  -- the three phases of a decision to commit
-  pub decided-leaves : {s₁ s₂ s₃ : Pages} {a b c : ℕ}
-      → Phase k (sets 0 (commitPage geometry1 map) ∷ []) s s₁ a → Phase a (sweep (named geometry1 map) (copies 17 (λ r. s₁ (1 + r))) 16) s₁ s₂ b
-      → Phase b (sets 0 (commitPage geometry1 0) ∷ []) s₂ s₃ c
-      → Leaves (decideAt geometry1 s true k) s₃ (k - c) (same b 0)
-  unfolding decideAt marks
-  decided-leaves {s₁ = s₁} {s₃ = s₃} {b = b} {c = c} p q t =
-      subst⁻¹ (λ (ws : List PageWrite). Leaves (cutAt k ws s) s₃ (k - c) (same b 0))
-      (decision-is (λ r. s₁ (1 + r)) (λ j. ap (λ (x : Pages). x (1 + j)) (p .store) ∙ mark-plan k (commitPage geometry1 map) s j))
-      (phase-last (phase-then p q) t)
-
 -- the one phase of a decision to abort
-pub struck-leaves : {s s₁ : Pages} {k a : ℕ} → Phase k (sets 0 (commitPage geometry1 0) ∷ []) s s₁ a → Leaves (decideAt geometry1 s false k) s₁ (k - a) (same k 0)
+pub struck-leaves : (g : Geometry) {s s₁ : Pages} {k a : ℕ} → Phase k (sets 0 (commitPage g 0) ∷ []) s s₁ a → Leaves (decideAt g s false k) s₁ (k - a) (same k 0)
 unfolding decideAt decideWrites marks
-struck-leaves p = phase-last phase-none p
+struck-leaves g p = phase-last phase-none p
+
+module _ (g : Geometry) (n : ℕ) (many : records g ≡ n) where
+  module _ (map : ℕ) (work : List ℕ) (i : ℕ) where
+    pub prepare-is : map < 2 ^ n → map ≢ 0
+        → preparePlan g (versionsIn g map work) i ≡ sweep (named g map) (copies 1 (topSlot work)) n ++ (sets 0 (preparedPage g (prepared map i)) ∷ [])
+    prepare-is small h =
+        ap₂ (λ (m : ℕ) (rs : List ℕ). prepareWrites g (pageIn (versionsIn g map work)) (prepared m i) rs)
+        (map-is g n many map (versionsIn g map work) (topSlot work) (slots-are g n many map work) small)
+        (those-is g n many map (versionsIn g map work) (topSlot work) (slots-are g n many map work))
+        ∙ prepare-some g (pageIn (versionsIn g map work)) (prepared map i) (those n (named g map)) (some-named g n many map small h)
+        ∙ ap (λ (a : List PageWrite). a ++ (sets 0 (preparedPage g (prepared map i)) ∷ [])) (intentions-are g n many map (versionsIn g map work) (topSlot work) (slots-are g n many map work))
+
+    -- a prepare of no record
+    pub prepare-nothing : map ≡ 0 → preparePlan g (versionsIn g map work) i ≡ []
+    unfolding prepareWrites
+    prepare-nothing e =
+        ap (prepareWrites g (pageIn (versionsIn g map work)) (record { map = mapOf g (λ r. isSome (versionsIn g map work r)); identity = i }))
+        (those-is g n many map (versionsIn g map work) (topSlot work) (slots-are g n many map work) ∙ ap (λ (m : ℕ). those n (named g m)) e ∙ those-none n (named-zero g))
+
+    pub prepare-none : (s : Pages) (k : ℕ) → map ≡ 0 → Leaves (prepareAt g s (versionsIn g map work) i k) s 0 false
+    unfolding prepareAt
+    prepare-none s k e = none-left k s (prepare-nothing e)
+
+    -- the two phases of a prepare
+    pub prepare-leaves : {s s₁ s₂ : Pages} {k a b : ℕ} → map < 2 ^ n → map ≢ 0
+        → Phase k (sweep (named g map) (copies 1 (topSlot work)) n) s s₁ a → Phase a (sets 0 (preparedPage g (prepared map i)) ∷ []) s₁ s₂ b
+        → Leaves (prepareAt g s (versionsIn g map work) i k) s₂ (k - b) (same a 0)
+    unfolding prepareAt
+    prepare-leaves {s = s} {s₂ = s₂} {k = k} {a = a} {b = b} small h p q =
+        subst⁻¹ (λ (ws : List PageWrite). Leaves (cutAt k ws s) s₂ (k - b) (same a 0)) (prepare-is small h) (phase-last p q)
+
+  -- a decision on what is prepared with this map
+  module _ (map i k : ℕ) (s : Pages) (says : readPrepared g (s 0) ≡ some (prepared map i)) where
+    reserved-is : (r : ℕ) → r < n → isReserved g s r ≡ named g map r
+    unfolding isReserved preparedMap
+    reserved-is r lt =
+        ap₂ (λ (b : Bool) (o : Option Prepared). b && named g (preparedMap o) r) (lt-under r (records g) (subst (λ (j : ℕ). r < j) (sym many) lt)) says
+
+    reserves-are : those (records g) (isReserved g s) ≡ those n (named g map)
+    reserves-are = ap (λ (j : ℕ). those j (isReserved g s)) many ∙ those-same n reserved-is
+
+    small : map < 2 ^ n
+    small = subst (λ (j : ℕ). map < 2 ^ j) many (prepared-is g (s 0) (prepared map i) says .1 .map-fits)
+
+    some-map : map ≢ 0
+    some-map = prepared-is g (s 0) (prepared map i) says .1 .some-record
+
+    returns-are : (planned : ℕ → Page) → ((j : ℕ) → planned j ≡ s (1 + j))
+        → homes g (λ r. s (intention r)) (those n (named g map)) ≡ sweep (named g map) (copies (1 + n) planned) n
+    unfolding homes sweep home copies intention
+    returns-are planned e = sweep-same n (named g map) _ _ (λ r lt q. ap₂ sets (omega (arith, many)) (sym (e r)))
+
+    pub decision-is : (planned : ℕ → Page) → ((j : ℕ) → planned j ≡ s (1 + j))
+        → decidePlan g s true ≡ ((marks g map ∷ []) ++ sweep (named g map) (copies (1 + n) planned) n) ++ (marks g 0 ∷ [])
+    unfolding decideWrites preparedMap
+    decision-is planned e =
+        ap₂ (λ (o : Option Prepared) (rs : List ℕ). marks g (preparedMap o) ∷ recoverWrites g (λ r. s (intention r)) rs) says reserves-are
+        ∙ ap (λ (l : List PageWrite). marks g map ∷ l)
+        (recover-some g (λ r. s (intention r)) (those n (named g map)) (some-named g n many map small some-map)
+        ∙ ap (λ (l : List PageWrite). l ++ (marks g 0 ∷ [])) (returns-are planned e))
+
+    -- the three phases of a decision to commit
+    pub decided-leaves : {s₁ s₂ s₃ : Pages} {a b c : ℕ}
+        → Phase k (sets 0 (commitPage g map) ∷ []) s s₁ a → Phase a (sweep (named g map) (copies (1 + n) (λ r. s₁ (1 + r))) n) s₁ s₂ b
+        → Phase b (sets 0 (commitPage g 0) ∷ []) s₂ s₃ c
+        → Leaves (decideAt g s true k) s₃ (k - c) (same b 0)
+    unfolding decideAt marks
+    decided-leaves {s₁ = s₁} {s₃ = s₃} {b = b} {c = c} p q t =
+        subst⁻¹ (λ (ws : List PageWrite). Leaves (cutAt k ws s) s₃ (k - c) (same b 0))
+        (decision-is (λ r. s₁ (1 + r)) (λ j. ap (λ (x : Pages). x (1 + j)) (p .store) ∙ mark-plan k (commitPage g map) s j))
+        (phase-last (phase-then p q) t)

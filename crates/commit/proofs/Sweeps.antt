@@ -59,35 +59,36 @@ pub some-left : (b : Bool) (k : ℕ) → (b && ltb 0 k) ≡ true → 0 < k
 some-left true k e = ltb-true 0 k e
 some-left false k e = absurd (true≢false (sym e))
 
--- The pages up to the last intention page, which no home page write changes.
-pub record Kept (s t : Pages) : Type 0 where
-  pub same-page : (j : ℕ) → j < 17 → t j ≡ s j
+-- The pages below page `first`, which no page write from there on changes: the commit page and the intention pages, while home pages are written.
+pub record Kept (first : ℕ) (s t : Pages) : Type 0 where
+  pub same-page : (j : ℕ) → j < first → t j ≡ s j
 
-pub kept-none : {s : Pages} → Kept s s
+pub kept-none : {first : ℕ} {s : Pages} → Kept first s s
 kept-none = record { same-page = λ j lt. refl }
 
-pub kept-then : {s t u : Pages} → Kept s t → Kept t u → Kept s u
+pub kept-then : {first : ℕ} {s t u : Pages} → Kept first s t → Kept first t u → Kept first s u
 kept-then h g = record { same-page = λ j lt. g .same-page j lt ∙ h .same-page j lt }
 
-module _ (new : ℕ → Page) (r k : ℕ) {s t : Pages} {a : ℕ} where
-  kept-one : (b : Bool) → Phase k (cond b (sets (17 + r) (new r) ∷ []) []) s t a → Kept s t
+module _ (first : ℕ) (new : ℕ → Page) (r k : ℕ) {s t : Pages} {a : ℕ} where
+  kept-one : (b : Bool) → Phase k (cond b (sets (first + r) (new r) ∷ []) []) s t a → Kept first s t
   unfolding applied written updated
   kept-one false h = record { same-page = λ j lt. ap (λ (f : Pages). f j) (h .store ∙ ap (λ (l : List PageWrite). applied l s) (take-nil k)) }
   kept-one true h = record { same-page = λ j lt. ap (λ (f : Pages). f j) (h .store) ∙ go j lt k }
     where
-      go : (j : ℕ) → j < 17 → (n : ℕ) → applied (take n (sets (17 + r) (new r) ∷ [])) s j ≡ s j
+      go : (j : ℕ) → j < first → (n : ℕ) → applied (take n (sets (first + r) (new r) ∷ [])) s j ≡ s j
       go j lt zero = refl
-      go j lt (suc n) = ap (λ (l : List PageWrite). applied l (updated (17 + r) (new r) s) j) (take-nil n)
-          ∙ ap (λ (b : Bool). cond b (new r) (s j)) (ne-false j (17 + r) (λ e. omega arith))
+      go j lt (suc n) = ap (λ (l : List PageWrite). applied l (updated (first + r) (new r) s) j) (take-nil n)
+          ∙ ap (λ (b : Bool). cond b (new r) (s j)) (ne-false j (first + r) (λ e. omega arith))
 
-  pub kept-row : (p : ℕ → Bool) → Phase k (due p (copies 17 new) r) s t a → Kept s t
+  pub kept-row : (p : ℕ → Bool) → Phase k (due p (copies first new) r) s t a → Kept first s t
   unfolding due copies
   kept-row p h = kept-one (p r) h
 
 -- one record more goes home: its intention page is still the one that it was
-pub home-more : (p : ℕ → Bool) (n k : ℕ) {s s′ s″ : Pages} {a b : ℕ} → n < 16 → Phase k (sweep p (copies 17 (λ j. s (1 + j))) n) s s′ a → Kept s s′
-    → Phase a (due p (copies 17 (λ j. s′ (1 + j))) n) s′ s″ b → Phase k (sweep p (copies 17 (λ j. s (1 + j))) (n + 1)) s s″ b
+pub home-more : (p : ℕ → Bool) (first r k : ℕ) {s s′ s″ : Pages} {a b : ℕ} → 1 + r < first
+    → Phase k (sweep p (copies first (λ j. s (1 + j))) r) s s′ a → Kept first s s′
+    → Phase a (due p (copies first (λ j. s′ (1 + j))) r) s′ s″ b → Phase k (sweep p (copies first (λ j. s (1 + j))) (r + 1)) s s″ b
 unfolding due copies
-home-more p n k {s} {s′} {s″} {a} {b} lt h kept g =
-    phase-more p (copies 17 (λ j. s (1 + j))) n h
-    (subst (λ (q : Page). Phase a (cond (p n) (sets (17 + n) q ∷ []) []) s′ s″ b) (kept .same-page (1 + n) (omega arith)) g)
+home-more p first r k {s} {s′} {s″} {a} {b} lt h kept g =
+    phase-more p (copies first (λ j. s (1 + j))) r h
+    (subst (λ (q : Page). Phase a (cond (p r) (sets (first + r) q ∷ []) []) s′ s″ b) (kept .same-page (1 + r) lt) g)

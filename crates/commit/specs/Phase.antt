@@ -7,9 +7,10 @@ use Prim.Native.Nat.{ℕ, _+_, _-_, _*_}
 use lib.ListN.{length, take}
 use Rattle.laws.specs.Tests.{under}
 use Rattle.laws.specs.Counting.{those}
+use Rattle.rules.specs.Geometry.{Geometry, records}
 use Rattle.rules.specs.Store.{Page, Pages, pagesOf, named}
 use Rattle.rules.specs.Commit.{PageWrite, sets, applied, Cut}
-use Rattle.rules.specs.Editions.{geometry1, depths}
+use Rattle.rules.specs.Editions.{depths}
 
 -- Of these page writes the first k happen: the store after them, and what they leave of k.
 pub record Phase (k : ℕ) (ws : List PageWrite) (before after : Pages) (left : ℕ) : Type 0 where
@@ -32,8 +33,8 @@ unfoldable pub topSlot : List ℕ → ℕ → Page
 topSlot work r = pagesOf work (r * depths)
 
 -- the versions that a top transaction has of the records that a map names
-unfoldable pub versionsIn : ℕ → List ℕ → ℕ → Option Page
-versionsIn map work r = cond (under r 16 && named geometry1 map r) (some (topSlot work r)) none
+unfoldable pub versionsIn : Geometry → ℕ → List ℕ → ℕ → Option Page
+versionsIn g map work r = cond (under r (records g) && named g map r) (some (topSlot work r)) none
 
 -- a store, a count of page writes and whether a crash came are what the rules say
 pub record Leaves (c : Cut Pages) (after : Pages) (n : ℕ) (down : Bool) : Type 0 where

@@ -12,9 +12,8 @@ use mir.Val.{Fits}
 use Rattle.laws.specs.Tests.{same}
 use Rattle.laws.specs.Counting.{count}
 use Rattle.laws.proofs.Tests.{Same, is, isnt, same?}
-use Rattle.rules.specs.Geometry.{records}
+use Rattle.rules.specs.Geometry.{Geometry, records}
 use Rattle.rules.specs.Store.{named, bitsFrom}
-use Rattle.rules.specs.Editions.{geometry1}
 use Rattle.rules.proofs.Map.{bits-lt}
 
 -- the bit of place r in a map of n records, record 0 first
@@ -59,19 +58,19 @@ count-placed (suc n) m h =
         ∙ ap (λ (x : ℕ). same (m / x % 2) 1) (pow-suc 2 (n - suc r) ∙ mul-comm (2 ^ (n - suc r)) 2)
         ∙ ap (λ (x : ℕ). same (x % 2) 1) (sym (div-div-eq-div-mul m 2 (2 ^ (n - suc r))))
 
-pub count-ones : (m : ℕ) → m < 65536 → ones m ≡ count (records geometry1) (named geometry1 m)
-unfolding named records
-count-ones m h = sym (count-placed 16 m h)
+pub count-ones : (g : Geometry) (m : ℕ) → m < 2 ^ records g → ones m ≡ count (records g) (named g m)
+unfolding named
+count-ones g m h = sym (count-placed (records g) m h)
 
-pub ones-fit : (m : ℕ) → m < 65536 → Fits w8 (ones m)
-ones-fit m h = omega (arith, ones-le 16 m (omega arith))
+pub ones-fit : (m : ℕ) → m < 2 ^ 64 → Fits w8 (ones m)
+ones-fit m h = omega (arith, ones-le 64 m h)
 
-pub names-bit : (m r : ℕ) → r < 16 → same (m / 2 ^ (15 - r) % 2) 1 ≡ named geometry1 m r
-unfolding named records
-names-bit m r h = let e : 15 - r ≡ 16 - suc r = omega arith in ap (λ (k : ℕ). same (m / 2 ^ k % 2) 1) e
+pub names-bit : (g : Geometry) (n m r : ℕ) → r < n → records g ≡ n → same (m / 2 ^ (n - 1 - r) % 2) 1 ≡ named g m r
+unfolding named
+names-bit g n m r h q = let e : n - 1 - r ≡ records g - suc r = omega arith in ap (λ (k : ℕ). same (m / 2 ^ k % 2) 1) e
 
--- a map of i records, of fewer than sixteen, has room for one more
-pub map-room : (i : ℕ) (p : ℕ → Bool) → i < 16 → bitsFrom i p < 32768
+-- a map of i records, of fewer than sixty-four, has room for one more
+pub map-room : (i : ℕ) (p : ℕ → Bool) → i < 64 → bitsFrom i p < 9223372036854775808
 map-room i p h = lt-of-lt-of-le (bits-lt i p) (pow-mono (le-of-suc-le-suc h))
 
 pub map-next : (i : ℕ) (p : ℕ → Bool) → bitsFrom i p * 2 + cond (p i) 1 0 ≡ bitsFrom (i + 1) p

@@ -4,7 +4,7 @@ use mathlib.Core.Bool.{true, false, not, _&&_}
 use mathlib.Core.Option.{Option, none, some}
 use Prim.Native.Nat.{ℕ}
 use Rattle.rules.specs.Store.{Page, Prepared, readCommit, mapIn, readPrepared, isDamaged, isPrepared}
-use Rattle.rules.specs.Editions.{geometry1}
+use Rattle.rules.specs.Geometry.{Geometry}
 use Rattle.commitpage.specs.declared.CommitMap.{CommitMap}
 use Rattle.commitpage.specs.declared.PreparedMap.{PreparedMap}
 
@@ -21,8 +21,8 @@ overheard none = record { map = 0; identity = 0 }
 overheard (some p) = record { map = p .map; identity = p .identity }
 
 -- of a commit page of any kind: whether it is damaged, and the map in force
-unfoldable pub understood : Page → CommitMap
-understood page = record { good = not (isDamaged (readCommit geometry1 page) && not (isPrepared (readPrepared geometry1 page))); map = mapIn (readCommit geometry1 page) }
+unfoldable pub understood : Geometry → Page → CommitMap
+understood g page = record { good = not (isDamaged (readCommit g page) && not (isPrepared (readPrepared g page))); map = mapIn (readCommit g page) }
 
 -- opens the definitions of this module: for what is proved by computing
 unfoldable pub open-heard : Unit {0}

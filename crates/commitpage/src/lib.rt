@@ -1,81 +1,87 @@
-// The commit page: edition 4 bits, state 4 bits, map 16 bits with record 0 first, count 5 bits, zeros; of a prepared transaction with its identity
-// as fifth byte.
+// The commit page, which is page 0 of the store: edition 4 bits, state 4 bits, the map with a bit for each record and record 0 first, the number of ones in
+// the map, zeros. A prepared transaction's commit page has the transaction's identity as its fifth byte.
+//
+// The number of records n tells the edition: 16 records are edition 1, 64 are edition 2. The map fills n / 8 whole bytes behind the first byte, and the
+// number of its ones begins in the byte behind them.
 ghost use mathlib.Core.Path.{_≡_};
-ghost use mathlib.Core.Bool.{cond};
-ghost use Prim.Native.Nat.{_+_, _*_, _/_, _%_, _<_, _≤_};
-ghost use lib.ListN.{length};
+ghost use mathlib.Core.Bool.{true, cond};
+ghost use Prim.Native.Nat.{ℕ, _+_, _*_, _/_, _%_, _^_, _<_, _≤_};
+ghost use lib.ListN.{length, take, drop};
 ghost use Rattle.laws.specs.Tests.{same};
 ghost use Rattle.laws.specs.Counting.{count};
-ghost use Rattle.laws.specs.Bytes.{sameList};
-ghost use Rattle.rules.specs.Geometry.{records};
+ghost use Rattle.laws.specs.Bytes.{sameList, number, bytes};
+ghost use Rattle.rules.specs.Geometry.{Geometry, records};
 ghost use Rattle.rules.specs.Store.{commitPage, readCommit, preparedPage, readPrepared, named, mapOf};
-ghost use Rattle.rules.specs.Editions.{geometry1};
 ghost use Rattle.sets.specs.Sets.{sets};
 ghost use Rattle.commitpage.specs.Heard.{heard, overheard, prepared, understood};
+ghost use Rattle.commitpage.specs.Layout.{Layout, headOf, placeOf, behind, Known};
 
 // What a page says as a commit page. A damaged page has map 0.
 pub struct CommitMap {
     pub good: bool,
-    pub map: u16,
+    pub map: u64,
 }
 
 // What a page says of a prepared transaction: its map, which is 0 where there is none, and its identity.
 pub struct PreparedMap {
-    pub map: u16,
+    pub map: u64,
     pub identity: u8,
 }
 
-const EDITION: u8 = 16;
+// The first byte is an edition plus a state. The state of an empty commit page is 0.
+const EDITION_1: u8 = 16;
 
-const COMMITTED: u8 = 21;
+const EDITION_2: u8 = 32;
 
-const PREPARED: u8 = 19;
+const COMMITTED: u8 = 5;
+
+const PREPARED: u8 = 3;
 
 // How many records a map names.
-pub fn ones(map: u16) -> u8
-    ensures { λ r. ⌜ (r ≡ count (records geometry1) (named geometry1 map)) × (r ≤ 16) ⌝ }
+pub fn ones(map: u64) -> u8
+    ensures { λ r. ⌜ ((g : Geometry) → map < 2 ^ records g → r ≡ count (records g) (named g map)) × ((n : ℕ) → map < 2 ^ n → r ≤ n) ⌝ }
 {
-    u16::count_ones(map) as u8
+    u64::count_ones(map) as u8
 }
 
-// A map names record r.
-pub fn names(map: u16, r: u8) -> bool
-    requires { ⌜ r < 16 ⌝ }
-    ensures { λ b. ⌜ b ≡ named geometry1 map r ⌝ }
+// Whether a map of n records names record r.
+pub fn names(map: u64, n: u8, r: u8) -> bool
+    requires { ⌜ (r < n) × (n ≤ 64) ⌝ }
+    ensures { λ b. ⌜ ((g : Geometry) → records g ≡ n → b ≡ named g map r) ⌝ }
 {
-    (map >> (15 - r)) % 2 == 1
+    (map >> (n - 1 - r)) % 2 == 1
 }
 
-// The map of the records whose set has t.
-pub fn map_of(words: &[u32; 16], t: u8) -> u16
-    requires { ⌜ (t < 32) × (length (now words) ≡ 16) ⌝ }
-    ensures { λ r. ⌜ r ≡ mapOf geometry1 (λ k. sets (now (words .entry)) k t) ⌝ }
+// The map of the records whose set has the member t, where words holds a set for each of the n records.
+pub fn map_of(words: &[u32], n: usize, t: u8) -> u64
+    requires { ⌜ (t < 32) × (n ≤ 64) × (length (now words) ≡ n) ⌝ }
+    ensures { λ r. ⌜ ((g : Geometry) → records g ≡ n → r ≡ mapOf g (λ k. sets (now (words .entry)) k t)) × (r < 2 ^ n) ⌝ }
 {
-    let mut map: u16 = 0;
-    for k in 0..16 {
+    let mut map: u64 = 0;
+    for k in 0..n {
         map = appended(map, sets::contains(words[k], t));
     }
     map
 }
 
-// The commit page of a map: empty where the map is 0.
-pub fn commit_page(map: u16) -> [u8; 32]
-    ensures { λ r. ⌜ r ≡ commitPage geometry1 map ⌝ }
+// The commit page of a map of n records: the empty commit page where the map is 0, else the committed one.
+pub fn commit_page(map: u64, n: usize) -> [u8; 32]
+    requires { ⌜ Known n × (map < 2 ^ n) ⌝ }
+    ensures { λ r. ⌜ ((g : Geometry) → Layout g n → r ≡ commitPage g map) ⌝ }
 {
-    let mut page = [0u8; 32];
-    page[0] = head(map);
-    page[1] = (map / 256) as u8;
-    page[2] = (map % 256) as u8;
-    page[3] = ones(map) * 8;
+    let mut page = lay_map(map, n / 8);
+    page[0] = head(map, n);
+    page[n / 8 + 1] = ones(map) * place(n);
     page
 }
 
-// What a page says: its map, or that it is damaged.
-pub fn read_commit(page: [u8; 32]) -> CommitMap
-    ensures { λ r. ⌜ r ≡ heard (readCommit geometry1 page) ⌝ }
+// What a page says as a commit page of n records: its map, or that it is damaged.
+pub fn read_commit(page: [u8; 32], n: usize) -> CommitMap
+    requires { ⌜ Known n ⌝ }
+    ensures { λ r. ⌜ ((g : Geometry) → Layout g n → r ≡ heard (readCommit g page)) × (r .map < 2 ^ n) ⌝ }
 {
-    let map = wide(page[1]) * 256 + wide(page[2]);
-    if same_page(page, commit_page(map)) {
+    let map = map_in(page, n / 8);
+    if same_page(page, commit_page(map, n)) {
         CommitMap { good: true, map }
     } else {
         CommitMap {
@@ -85,24 +91,30 @@ pub fn read_commit(page: [u8; 32]) -> CommitMap
     }
 }
 
-// The commit page of a transaction that is prepared.
-pub fn prepared_page(map: u16, identity: u8) -> [u8; 32]
-    ensures { λ r. ⌜ r ≡ preparedPage geometry1 (prepared map identity) ⌝ }
+// The commit page of a prepared transaction. Only sixteen records leave the fifth byte to its identity.
+pub fn prepared_page(map: u64, identity: u8) -> [u8; 32]
+    requires { ⌜ map < 65536 ⌝ }
+    ensures { λ r. ⌜ ((g : Geometry) → Layout g 16 → r ≡ preparedPage g (prepared map identity)) ⌝ }
 {
-    let mut held = [0u8; 32];
-    held[0] = PREPARED;
-    held[1] = (map / 256) as u8;
-    held[2] = (map % 256) as u8;
+    let mut held = lay_map(map, 2);
+    held[0] = EDITION_1 + PREPARED;
     held[3] = ones(map) * 8;
     held[4] = identity;
     held
 }
 
-// What a page says of a prepared transaction.
-pub fn read_prepared(page: [u8; 32]) -> PreparedMap
-    ensures { λ r. ⌜ r ≡ overheard (readPrepared geometry1 page) ⌝ }
+// What a page says of a prepared transaction. Where transactions can't be prepared (`joint` is false) there is none.
+pub fn read_prepared(page: [u8; 32], n: usize, joint: bool) -> PreparedMap
+    requires { ⌜ Known n × (joint ≡ true → n ≡ 16) ⌝ }
+    ensures { λ r. ⌜ ((g : Geometry) → Layout g n → g .joint ≡ joint → r ≡ overheard (readPrepared g page)) × (r .map < 2 ^ n) ⌝ }
 {
-    let map = wide(page[1]) * 256 + wide(page[2]);
+    if !joint {
+        return PreparedMap {
+            map: 0, // nothing can be prepared
+            identity: 0,
+        };
+    }
+    let map = map_in(page, n / 8);
     let identity = byte(page[4]);
     if same_page(page, prepared_page(map, identity)) {
         kept(map, identity)
@@ -114,9 +126,9 @@ pub fn read_prepared(page: [u8; 32]) -> PreparedMap
     }
 }
 
-// A map of 0 is none's.
-fn kept(map: u16, identity: u8) -> PreparedMap
-    ensures { λ r. ⌜ r ≡ cond (same map 0) (record { map = 0; identity = 0 }) (record { map = map; identity = identity }) ⌝ }
+// A prepared transaction of this map and identity; none where the map is 0.
+fn kept(map: u64, identity: u8) -> PreparedMap
+    ensures { λ r. ⌜ (r ≡ cond (same map 0) (record { map = 0; identity = 0 }) (record { map = map; identity = identity })) × (r .map ≤ map) ⌝ }
 {
     if map == 0 {
         PreparedMap {
@@ -129,11 +141,12 @@ fn kept(map: u16, identity: u8) -> PreparedMap
 }
 
 // What a page says as a commit page of any kind: whether it is damaged, and the map in force, which is 0 for a prepared page.
-pub fn read_page(page: [u8; 32]) -> CommitMap
-    ensures { λ r. ⌜ r ≡ understood page ⌝ }
+pub fn read_page(page: [u8; 32], n: usize, joint: bool) -> CommitMap
+    requires { ⌜ Known n × (joint ≡ true → n ≡ 16) ⌝ }
+    ensures { λ r. ⌜ ((g : Geometry) → Layout g n → g .joint ≡ joint → r ≡ understood g page) × (r .map < 2 ^ n) ⌝ }
 {
-    let c = read_commit(page);
-    let p = read_prepared(page);
+    let c = read_commit(page, n);
+    let p = read_prepared(page, n, joint);
     let good = c.good;
     let map = c.map;
     let some = p.map != 0;
@@ -143,21 +156,67 @@ pub fn read_page(page: [u8; 32]) -> CommitMap
     }
 }
 
-// The map with a further record at its end.
-fn appended(map: u16, yes: bool) -> u16
-    requires { ⌜ map < 32768 ⌝ }
+// A page of zeros, but for the m bytes behind the first: they are the map's, the most significant first.
+fn lay_map(map: u64, m: usize) -> [u8; 32]
+    requires { ⌜ m ≤ 8 ⌝ }
+    ensures { λ r. ⌜ r ≡ behind m (bytes m map) ⌝ }
+{
+    let mut page = [0u8; 32];
+    let mut rest = map;
+    for i in 0..m {
+        page[m - i] = (rest % 256) as u8;
+        rest = rest / 256;
+    }
+    page
+}
+
+// The number that the m bytes behind the first spell.
+fn map_in(page: [u8; 32], m: usize) -> u64
+    requires { ⌜ m ≤ 8 ⌝ }
+    ensures { λ r. ⌜ (r ≡ number (take m (drop 1 page))) × (r < 256 ^ m) ⌝ }
+{
+    let mut map: u64 = 0;
+    for i in 0..m {
+        map = map * 256 + wide(page[1 + i]);
+    }
+    map
+}
+
+// The map with a further record at its end, which it names or not.
+fn appended(map: u64, yes: bool) -> u64
+    requires { ⌜ map < 9223372036854775808 ⌝ }
     ensures { λ r. ⌜ r ≡ map * 2 + cond yes 1 0 ⌝ }
 {
     if yes { map * 2 + 1 } else { map * 2 }
 }
 
-// Edition and state.
-fn head(map: u16) -> u8
-    ensures { λ r. ⌜ r ≡ 16 + cond (same map 0) 0 5 ⌝ }
+// The first byte of a map's commit page: edition and state.
+fn head(map: u64, n: usize) -> u8
+    ensures { λ r. ⌜ r ≡ headOf n + cond (same map 0) 0 5 ⌝ }
 {
-    if map == 0 { EDITION } else { COMMITTED }
+    let edition = edition_of(n);
+    if map == 0 {
+        edition
+    } else {
+        edition + COMMITTED
+    }
 }
 
+// The edition of n records, as it stands in the first byte.
+fn edition_of(n: usize) -> u8
+    ensures { λ r. ⌜ (r ≡ headOf n) × (r ≤ 32) ⌝ }
+{
+    if n == 64 { EDITION_2 } else { EDITION_1 }
+}
+
+// The count's place in its byte, as a factor: the count has the byte's first five bits in edition 1, and its first seven in edition 2.
+fn place(n: usize) -> u8
+    ensures { λ r. ⌜ (r ≡ placeOf n) × (r ≤ 8) ⌝ }
+{
+    if n == 64 { 2 } else { 8 }
+}
+
+// Whether two pages are the same. All bytes are compared, without a way out before the last.
 fn same_page(a: [u8; 32], b: [u8; 32]) -> bool
     ensures { λ r. ⌜ r ≡ sameList a b ⌝ }
 {
@@ -168,14 +227,16 @@ fn same_page(a: [u8; 32], b: [u8; 32]) -> bool
     equal
 }
 
+// The same byte: for what is known of a byte.
 fn byte(x: u8) -> u8
     ensures { λ r. ⌜ (r ≡ x) × (r < 256) ⌝ }
 {
     x
 }
 
-fn wide(x: u8) -> u16
+// A byte as a wider number.
+fn wide(x: u8) -> u64
     ensures { λ r. ⌜ (r ≡ x) × (r < 256) ⌝ }
 {
-    x as u16
+    x as u64
 }

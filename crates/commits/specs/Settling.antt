@@ -5,12 +5,12 @@ use Prim.Native.Nat.{ℕ}
 use Rattle.rules.specs.Store.{Page, Pages}
 use Rattle.rules.specs.Event.{Event, commit, prepare}
 use Rattle.rules.specs.Commit.{Cut, commitAt, prepareAt}
-use Rattle.rules.specs.Editions.{geometry1}
+use Rattle.rules.specs.Geometry.{Geometry}
 
 unfoldable pub settling : Bool → ℕ → ℕ → ℕ → Event
 settling false t k i = commit t k
 settling true t k i = prepare t k i
 
-unfoldable pub settlingAt : Bool → Pages → (ℕ → Option Page) → ℕ → ℕ → Cut Pages
-settlingAt false s v i k = commitAt geometry1 s v k
-settlingAt true s v i k = prepareAt geometry1 s v i k
+unfoldable pub settlingAt : Geometry → Bool → Pages → (ℕ → Option Page) → ℕ → ℕ → Cut Pages
+settlingAt g false s v i k = commitAt g s v k
+settlingAt g true s v i k = prepareAt g s v i k

@@ -3,22 +3,22 @@ ghost use mathlib.Core.Path.{_≡_};
 ghost use mathlib.Core.Bool.{true, false};
 ghost use mathlib.Core.List.{List};
 ghost use mathlib.Core.Option.{Option, none, some};
-ghost use Prim.Native.Nat.{ℕ, _+_, _*_, _/_, _<_, _≤_};
-ghost use lib.ListN.{length, getD, set, replicate};
-ghost use Rattle.laws.specs.Bits.{bits};
+ghost use Prim.Native.Nat.{ℕ, _+_, _*_, _^_, _<_, _≤_};
+ghost use lib.ListN.{length, getD};
 ghost use Rattle.rules.specs.Store.{Pages, pagesOf};
 ghost use Rattle.rules.specs.Event.{Event, commit};
 ghost use Rattle.rules.specs.Commit.{Cut};
 ghost use Rattle.rules.specs.Step.{hasChild, commitsTop, step};
-ghost use Rattle.rules.specs.Editions.{edition1, depths, workBytes};
-ghost use Rattle.sets.specs.Sets.{sets};
+ghost use Rattle.rules.specs.Geometry.{Geometry};
+ghost use Rattle.rules.specs.Editions.{Edition, geometryOf, formOf, InNumbers};
 ghost use Rattle.arrays.specs.Kin.{Kin};
 ghost use Rattle.slots.specs.Parts.{Sources};
+ghost use Rattle.commitpage.specs.Layout.{Known, Layout};
 ghost use Rattle.commit.specs.Phase.{Leaves, versionsIn};
 ghost use Rattle.commits.specs.Settling.{settling, settlingAt};
 ghost use Rattle.numbers.specs.Named.{transactionOf};
-ghost use Rattle.events.specs.Whole.{Arrays, arrays, view, Intact, Stepped, Ready, Reserves};
-use events::Answer;
+ghost use Rattle.state.specs.Whole.{Arrays, arrays, view, Intact, Stepped, Ready, Reserves};
+use event::Answer;
 use numbers::TransactionNumber;
 
 // A top transaction without a live child ends, after its page writes: all of them were made, or a crash came.
@@ -29,15 +29,23 @@ fn end_top(
     line: &mut [u32; 24],
     live: &mut u32,
     children: &mut [u32; 32],
-    held: &mut [u32; 32],
-    retained: &mut [u32; 32],
-    writers: &mut [u32; 16],
+    held: &mut [u32],
+    retained: &mut [u32],
+    writers: &mut [u32],
+    records: usize,
     t: u8,
     made: u8,
     crashed: bool,
 ) -> Answer
-    requires { ⌜ (t < 24) × (length (now parent) ≡ 24) × (length (now depth) ≡ 24) × (length (now line) ≡ 24) × (length (now held) ≡ 32) × (length (now retained) ≡ 32) × (length (now writers) ≡ 16) × Kin (now parent) (now depth) (now live) (now children) ⌝ }
-    ensures { λ a. ⌜ ((e : Event) (c : Cut Pages) (work store store′ : List ℕ) → let before = arrays (now (up .entry)) (now (parent .entry)) (now (depth .entry)) (now (line .entry)) (now (held .entry)) (now (retained .entry)) (now (writers .entry)) work store in let after = arrays (now (up .exit)) (now (parent .exit)) (now (depth .exit)) (now (line .exit)) (now (held .exit)) (now (retained .exit)) (now (writers .exit)) work store′ in Intact before → Ready before t → hasChild (view before) t ≡ false → step edition1 (view before) (some e) ≡ commitsTop edition1 (view before) t c → Leaves c (pagesOf store′) made crashed → length store′ ≡ 1056 → Stepped before (some e) a after) ⌝ }
+    requires { ⌜ (t < 24) × (records ≤ 64) × (length (now parent) ≡ 24) × (length (now depth) ≡ 24) × (length (now line) ≡ 24) × (length (now held) ≡ 2 * records)
+        × (length (now retained) ≡ 2 * records) × (length (now writers) ≡ records) × Kin (now parent) (now depth) (now live) (now children) ⌝ }
+    ensures { λ a. ⌜ ((edition : Edition) (e : Event) (c : Cut Pages) (work store store′ : List ℕ) →
+        let before = arrays (now (up .entry)) (now (parent .entry)) (now (depth .entry)) (now (line .entry)) (now (held .entry)) (now (retained .entry)) (now (writers .entry)) work store in
+        let after = arrays (now (up .exit)) (now (parent .exit)) (now (depth .exit)) (now (line .exit)) (now (held .exit)) (now (retained .exit)) (now (writers .exit)) work store′ in
+        let form = formOf edition in
+        Intact form before → Ready form before t → hasChild (view form before) t ≡ false
+        → step form (view form before) (some e) ≡ commitsTop form (view form before) t c → Leaves c (pagesOf store′) made crashed → length store′ ≡ length store
+        → Stepped form before (some e) a after) ⌝ }
     ensures { λ _. ⌜ Kin (now (parent .exit)) (now (depth .exit)) (now (live .exit)) (now (children .exit)) ⌝ }
 {
     if crashed {
@@ -51,13 +59,14 @@ fn end_top(
             held,
             retained,
             writers,
+            records,
         );
         return Answer {
             number: 11,
             value: made,
         };
     }
-    locks::discard(held, retained, writers, sets::single(t));
+    locks::discard(held, retained, writers, records, sets::single(t));
     transactions::strike(live, children, parent[t as usize], t);
     transactions::retire(parent, depth, line, t);
     Answer {
@@ -70,29 +79,44 @@ fn end_top(
 fn write_pages(
     store: &mut [u8],
     work: &[u8],
-    map: u16,
+    map: u64,
+    records: usize,
     prepares: bool,
     k: u8,
     i: u8,
 ) -> commit::Made
-    requires { ⌜ (length (now store) ≡ 1056) × (length (now work) ≡ workBytes) ⌝ }
-    ensures { λ r. ⌜ Leaves (settlingAt prepares (pagesOf (now (store .entry))) (versionsIn map (now (work .entry))) i k) (pagesOf (now (store .exit))) (r .made) (r .crashed) ⌝ }
+    requires { ⌜ Known records × (prepares ≡ true → records ≡ 16) × (map < 2 ^ records) × (length (now store) ≡ 32 * (1 + (records + records)))
+        × (length (now work) ≡ 512 * records) ⌝ }
+    ensures { λ r. ⌜ ((g : Geometry) →
+        let before = pagesOf (now (store .entry)) in
+        let after = pagesOf (now (store .exit)) in
+        Layout g records → Leaves (settlingAt g prepares before (versionsIn g map (now (work .entry))) i k) after (r .made) (r .crashed)) ⌝ }
 {
     if prepares {
-        return commit::prepare_pages(store, work, map, i, k);
+        return commit::prepare_pages(store, work, map, records, i, k);
     }
-    commit::commit_pages(store, work, map, k)
+    commit::commit_pages(store, work, map, records, k)
 }
 
 // After a prepare, what is prepared is read again.
-fn reread(store: &[u8], reserved: &mut u16, identity: &mut u8, prepares: bool)
-    requires { ⌜ length (now store) ≡ 1056 ⌝ }
-    ensures { λ _. ⌜ (prepares ≡ true → Reserves (now (store .entry)) (now (reserved .exit)) (now (identity .exit))) × (prepares ≡ false → (now (reserved .exit) ≡ now (reserved .entry)) × (now (identity .exit) ≡ now (identity .entry))) ⌝ }
+fn reread(
+    store: &[u8],
+    reserved: &mut u64,
+    identity: &mut u8,
+    records: usize,
+    joint: bool,
+    prepares: bool,
+)
+    requires { ⌜ Known records × (joint ≡ true → records ≡ 16) × (length (now store) ≡ 32 * (1 + (records + records))) ⌝ }
+    ensures { λ _.
+        ⌜ ((edition : Edition) → InNumbers edition records joint → prepares ≡ true
+        → Reserves (geometryOf edition) (now (store .entry)) (now (reserved .exit)) (now (identity .exit)))
+        × (prepares ≡ false → (now (reserved .exit) ≡ now (reserved .entry)) × (now (identity .exit) ≡ now (identity .entry))) ⌝ }
 {
     if !prepares {
         return;
     }
-    let p = commit::read_held(store);
+    let p = commit::read_held(store, records, joint);
     *reserved = p.map;
     *identity = p.identity;
 }
@@ -106,24 +130,37 @@ fn settle_top(
     line: &mut [u32; 24],
     live: &mut u32,
     children: &mut [u32; 32],
-    held: &mut [u32; 32],
-    retained: &mut [u32; 32],
-    writers: &mut [u32; 16],
+    held: &mut [u32],
+    retained: &mut [u32],
+    writers: &mut [u32],
     work: &[u8],
     store: &mut [u8],
-    reserved: &mut u16,
+    reserved: &mut u64,
     identity: &mut u8,
+    records: usize,
+    joint: bool,
     t: u8,
     d: u8,
     prepares: bool,
     k: u8,
     i: u8,
 ) -> Answer
-    requires { ⌜ (t < 24) × (length (now parent) ≡ 24) × (length (now depth) ≡ 24) × (length (now line) ≡ 24) × (length (now held) ≡ 32) × (length (now retained) ≡ 32) × (length (now writers) ≡ 16) × (length (now work) ≡ workBytes) × (length (now store) ≡ 1056) × (d ≡ getD (now depth) t 0) × (prepares ≡ false → d ≡ 1) × Kin (now parent) (now depth) (now live) (now children) × Reserves (now store) (now reserved) (now identity) ⌝ }
-    ensures { λ a. let before = arrays (now (up .entry)) (now (parent .entry)) (now (depth .entry)) (now (line .entry)) (now (held .entry)) (now (retained .entry)) (now (writers .entry)) (now (work .entry)) (now (store .entry)) in let after = arrays (now (up .exit)) (now (parent .exit)) (now (depth .exit)) (now (line .exit)) (now (held .exit)) (now (retained .exit)) (now (writers .exit)) (now (work .entry)) (now (store .exit)) in ⌜ (Intact before → Ready before t → hasChild (view before) t ≡ false → Stepped before (some (settling prepares t k i)) a after × Reserves (now (store .exit)) (now (reserved .exit)) (now (identity .exit))) ⌝ }
+    requires { ⌜ (t < 24) × Known records × (joint ≡ true → records ≡ 16) × (prepares ≡ true → joint ≡ true)
+        × (length (now parent) ≡ 24) × (length (now depth) ≡ 24) × (length (now line) ≡ 24) × (length (now held) ≡ 2 * records)
+        × (length (now retained) ≡ 2 * records) × (length (now writers) ≡ records) × (length (now work) ≡ 512 * records)
+        × (length (now store) ≡ 32 * (1 + (records + records)))
+        × (d ≡ getD (now depth) t 0) × (prepares ≡ false → d ≡ 1) × Kin (now parent) (now depth) (now live) (now children) ⌝ }
+    ensures { λ a. ⌜ ((edition : Edition) →
+        let before = arrays (now (up .entry)) (now (parent .entry)) (now (depth .entry)) (now (line .entry)) (now (held .entry)) (now (retained .entry)) (now (writers .entry)) (now (work .entry)) (now (store .entry)) in
+        let after = arrays (now (up .exit)) (now (parent .exit)) (now (depth .exit)) (now (line .exit)) (now (held .exit)) (now (retained .exit)) (now (writers .exit)) (now (work .entry)) (now (store .exit)) in
+        let form = formOf edition in
+        InNumbers edition records joint → Intact form before → Ready form before t → hasChild (view form before) t ≡ false
+        → Reserves (geometryOf edition) (now (store .entry)) (now (reserved .entry)) (now (identity .entry))
+        → Stepped form before (some (settling prepares t k i)) a after
+        × Reserves (geometryOf edition) (now (store .exit)) (now (reserved .exit)) (now (identity .exit))) ⌝ }
     ensures { λ _. ⌜ Kin (now (parent .exit)) (now (depth .exit)) (now (live .exit)) (now (children .exit)) ⌝ }
 {
-    let map = commitpage::map_of(writers, t);
+    let map = commitpage::map_of(&writers[..], records, t);
     if (map != 0) & (*reserved != 0) {
         return Answer {
             number: 13,
@@ -136,10 +173,10 @@ fn settle_top(
             value: 0,
         };
     }
-    let m = write_pages(store, work, map, prepares, k, i);
+    let m = write_pages(store, work, map, records, prepares, k, i);
     let made = m.made;
     let crashed = m.crashed;
-    reread(&store[..], reserved, identity, prepares);
+    reread(&store[..], reserved, identity, records, joint, prepares);
     end_top(
         up,
         parent,
@@ -150,6 +187,7 @@ fn settle_top(
         held,
         retained,
         writers,
+        records,
         t,
         made,
         crashed,
@@ -163,20 +201,28 @@ fn commit_child(
     line: &mut [u32; 24],
     live: &mut u32,
     children: &mut [u32; 32],
-    held: &mut [u32; 32],
-    retained: &mut [u32; 32],
-    writers: &mut [u32; 16],
+    held: &mut [u32],
+    retained: &mut [u32],
+    writers: &mut [u32],
     work: &mut [u8],
+    records: usize,
     t: u8,
     d: u8,
 ) -> Answer
-    requires { ⌜ (t < 24) × (length (now parent) ≡ 24) × (length (now depth) ≡ 24) × (length (now line) ≡ 24) × (length (now held) ≡ 32) × (length (now retained) ≡ 32) × (length (now writers) ≡ 16) × (length (now work) ≡ workBytes) × (1 < d) × (d ≡ getD (now depth) t 0) × Sources (now parent) (now depth) × Kin (now parent) (now depth) (now live) (now children) ⌝ }
-    ensures { λ a. ⌜ ((up : ℕ) (k : ℕ) (store : List ℕ) → Intact (arrays up (now (parent .entry)) (now (depth .entry)) (now (line .entry)) (now (held .entry)) (now (retained .entry)) (now (writers .entry)) (now (work .entry)) store) → Ready (arrays up (now (parent .entry)) (now (depth .entry)) (now (line .entry)) (now (held .entry)) (now (retained .entry)) (now (writers .entry)) (now (work .entry)) store) t → hasChild (view (arrays up (now (parent .entry)) (now (depth .entry)) (now (line .entry)) (now (held .entry)) (now (retained .entry)) (now (writers .entry)) (now (work .entry)) store)) t ≡ false → Stepped (arrays up (now (parent .entry)) (now (depth .entry)) (now (line .entry)) (now (held .entry)) (now (retained .entry)) (now (writers .entry)) (now (work .entry)) store) (some (commit t k)) a (arrays up (now (parent .exit)) (now (depth .exit)) (now (line .exit)) (now (held .exit)) (now (retained .exit)) (now (writers .exit)) (now (work .exit)) store)) ⌝ }
+    requires { ⌜ (t < 24) × (records ≤ 64) × (length (now parent) ≡ 24) × (length (now depth) ≡ 24) × (length (now line) ≡ 24) × (length (now held) ≡ 2 * records)
+        × (length (now retained) ≡ 2 * records) × (length (now writers) ≡ records) × (length (now work) ≡ 512 * records)
+        × (1 < d) × (d ≡ getD (now depth) t 0) × Sources (now parent) (now depth) × Kin (now parent) (now depth) (now live) (now children) ⌝ }
+    ensures { λ a. ⌜ ((edition : Edition) (up k : ℕ) (store : List ℕ) →
+        let before = arrays up (now (parent .entry)) (now (depth .entry)) (now (line .entry)) (now (held .entry)) (now (retained .entry)) (now (writers .entry)) (now (work .entry)) store in
+        let after = arrays up (now (parent .exit)) (now (depth .exit)) (now (line .exit)) (now (held .exit)) (now (retained .exit)) (now (writers .exit)) (now (work .exit)) store in
+        let form = formOf edition in
+        Intact form before → Ready form before t → hasChild (view form before) t ≡ false → Stepped form before (some (commit t k)) a after) ⌝ }
     ensures { λ _. ⌜ Kin (now (parent .exit)) (now (depth .exit)) (now (live .exit)) (now (children .exit)) ⌝ }
 {
     let p = parent[t as usize];
-    slots::lift(writers, work, t, p, d);
-    locks::pass(held, retained, t, p);
+    slots::lift(writers, work, records, t, p, d);
+    let places = 2 * records;
+    locks::pass(held, retained, places, t, p);
     transactions::strike(live, children, p, t);
     transactions::retire(parent, depth, line, t);
     Answer {
@@ -194,20 +240,33 @@ pub fn settle_event(
     line: &mut [u32; 24],
     live: &mut u32,
     children: &mut [u32; 32],
-    held: &mut [u32; 32],
-    retained: &mut [u32; 32],
-    writers: &mut [u32; 16],
+    held: &mut [u32],
+    retained: &mut [u32],
+    writers: &mut [u32],
     work: &mut [u8],
     store: &mut [u8],
-    reserved: &mut u16,
+    reserved: &mut u64,
     identity: &mut u8,
+    records: usize,
+    joint: bool,
     t: TransactionNumber,
     prepares: bool,
     k: u8,
     i: u8,
 ) -> Answer
-    requires { ⌜ (length (now parent) ≡ 24) × (length (now depth) ≡ 24) × (length (now line) ≡ 24) × (length (now held) ≡ 32) × (length (now retained) ≡ 32) × (length (now writers) ≡ 16) × (length (now work) ≡ workBytes) × (length (now store) ≡ 1056) × (0 < getD (now depth) (transactionOf t) 0) × Sources (now parent) (now depth) × Kin (now parent) (now depth) (now live) (now children) × Reserves (now store) (now reserved) (now identity) ⌝ }
-    ensures { λ a. let before = arrays (now (up .entry)) (now (parent .entry)) (now (depth .entry)) (now (line .entry)) (now (held .entry)) (now (retained .entry)) (now (writers .entry)) (now (work .entry)) (now (store .entry)) in let after = arrays (now (up .exit)) (now (parent .exit)) (now (depth .exit)) (now (line .exit)) (now (held .exit)) (now (retained .exit)) (now (writers .exit)) (now (work .exit)) (now (store .exit)) in ⌜ (Intact before → Ready before (transactionOf t) → Stepped before (some (settling prepares (transactionOf t) k i)) a after × Reserves (now (store .exit)) (now (reserved .exit)) (now (identity .exit))) ⌝ }
+    requires { ⌜ Known records × (joint ≡ true → records ≡ 16) × (prepares ≡ true → joint ≡ true)
+        × (length (now parent) ≡ 24) × (length (now depth) ≡ 24) × (length (now line) ≡ 24) × (length (now held) ≡ 2 * records)
+        × (length (now retained) ≡ 2 * records) × (length (now writers) ≡ records) × (length (now work) ≡ 512 * records)
+        × (length (now store) ≡ 32 * (1 + (records + records)))
+        × (0 < getD (now depth) (transactionOf t) 0) × Sources (now parent) (now depth) × Kin (now parent) (now depth) (now live) (now children) ⌝ }
+    ensures { λ a. ⌜ ((edition : Edition) →
+        let before = arrays (now (up .entry)) (now (parent .entry)) (now (depth .entry)) (now (line .entry)) (now (held .entry)) (now (retained .entry)) (now (writers .entry)) (now (work .entry)) (now (store .entry)) in
+        let after = arrays (now (up .exit)) (now (parent .exit)) (now (depth .exit)) (now (line .exit)) (now (held .exit)) (now (retained .exit)) (now (writers .exit)) (now (work .exit)) (now (store .exit)) in
+        let form = formOf edition in
+        InNumbers edition records joint → Intact form before → Ready form before (transactionOf t)
+        → Reserves (geometryOf edition) (now (store .entry)) (now (reserved .entry)) (now (identity .entry))
+        → Stepped form before (some (settling prepares (transactionOf t) k i)) a after
+        × Reserves (geometryOf edition) (now (store .exit)) (now (reserved .exit)) (now (identity .exit))) ⌝ }
     ensures { λ _. ⌜ Kin (now (parent .exit)) (now (depth .exit)) (now (live .exit)) (now (children .exit)) ⌝ }
 {
     let n = t.number();
@@ -229,6 +288,7 @@ pub fn settle_event(
             retained,
             writers,
             work,
+            records,
             n,
             d,
         );
@@ -247,6 +307,8 @@ pub fn settle_event(
         store,
         reserved,
         identity,
+        records,
+        joint,
         n,
         d,
         prepares,

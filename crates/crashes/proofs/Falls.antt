@@ -4,7 +4,7 @@ use mathlib.Core.Bool.{Bool, true, false, not, cond, true≢false}
 use mathlib.Core.List.{List, [], _∷_}
 use mathlib.Core.Logic.{_≢_}
 use mathlib.Core.Option.{Option, none, some}
-use Prim.Native.Nat.{ℕ, zero, suc, _≤_}
+use Prim.Native.Nat.{ℕ, zero, suc, _*_, _≤_}
 use native.Mathlib.Omega.{arith}
 use lib.ListN.{length, getD, replicate, length-replicate}
 use Rattle.laws.specs.Tests.{same}
@@ -17,10 +17,10 @@ use Rattle.rules.specs.Event.{Event, crash, recover}
 use Rattle.rules.specs.State.{Bearer, free, active, isActive, depthIn, chain, lineOf, mem, Mode, nothing, reading, writing, isLock, State, live, holds, retains, down}
 use Rattle.rules.specs.Versions.{isSome}
 use Rattle.rules.specs.Commit.{Cut, recoverAt}
-use Rattle.rules.specs.Form.{Form}
+use Rattle.rules.specs.Geometry.{Geometry, records}
+use Rattle.rules.specs.Form.{Form, Medium, atomic}
 use Rattle.rules.specs.Step.{done, refused, cut, StateOf, numberOf, valueOf, raised, concluded, recovers, step}
 use Rattle.rules.specs.Sound.{Sound}
-use Rattle.rules.specs.Editions.{geometry1, edition1, depths, workBytes}
 use Rattle.rules.proofs.Parts.{sound-down}
 use Rattle.rules.proofs.Locks.{no-version}
 use Rattle.sets.specs.Sets.{sets}
@@ -28,78 +28,82 @@ use Rattle.arrays.specs.View.{Owners, bearerAt, bearersOf, anyMode, writeMode, 
 use Rattle.commitpage.specs.Heard.{understood}
 use Rattle.commitpage.specs.declared.CommitMap.{CommitMap}
 use Rattle.commit.specs.Phase.{Leaves}
-use Rattle.events.specs.Whole.{Arrays, arrays, view, lineIn, Formed, Intact, saying, Stepped}
-use Rattle.events.proofs.Rules.{crash-done, recover-up, recover-damaged, recover-done}
-use Rattle.events.proofs.Steps.{answer, stepped, finishes, unmoved, state-eq, up-is, down-is}
+use Rattle.state.specs.Whole.{Arrays, arrays, view, lineIn, Served, Formed, Intact, saying, Stepped}
+use Rattle.state.proofs.Rules.{crash-done, recover-up, recover-damaged, recover-done}
+use Rattle.state.proofs.Steps.{answer, stepped, finishes, unmoved, state-eq, up-is, down-is}
 
-module _ (work store : List ℕ) where
-  abbrev z : ℕ → List ℕ
-  z n = replicate n 0
+abbrev z : ℕ → List ℕ
+z n = replicate n 0
 
-  -- nothing is live, held, retained or written, and it is down
-  abbrev pub zeros : Arrays
-  zeros = arrays 0 (z 24) (z 24) (z 24) (z 32) (z 32) (z 16) work store
+at : (n k : ℕ) → getD (z n) k 0 ≡ 0
+at zero k = refl
+at (suc n) zero = refl
+at (suc n) (suc k) = at n k
 
-  at : (n k : ℕ) → getD (z n) k 0 ≡ 0
-  at zero k = refl
-  at (suc n) zero = refl
-  at (suc n) (suc k) = at n k
+none-in : (n : ℕ) → sets (z n) ≡ (λ r j. false)
+unfolding sets
+none-in n = fun-ext (λ r. fun-ext (λ j. ap (λ (v : ℕ). bits v j) (at n r) ∙ bits-zero j))
 
-  none-in : (n : ℕ) → sets (z n) ≡ (λ r j. false)
-  unfolding sets
-  none-in n = fun-ext (λ r. fun-ext (λ j. ap (λ (v : ℕ). bits v j) (at n r) ∙ bits-zero j))
+bearers-free : bearersOf (z 24) (z 24) ≡ (λ t. free)
+unfolding bearersOf bearerAt
+bearers-free = fun-ext (λ t. ap (λ (d : ℕ). bearerAt (getD (z 24) t 0) d) (at 24 t))
 
-  bearers-free : bearersOf (z 24) (z 24) ≡ (λ t. free)
-  unfolding bearersOf bearerAt
-  bearers-free = fun-ext (λ t. ap (λ (d : ℕ). bearerAt (getD (z 24) t 0) d) (at 24 t))
+zeros-nested : (n : ℕ) → Nested (sets (z n))
+unfolding anyMode writeMode
+zeros-nested n = subst⁻¹ (λ (o : Owners). Nested o) (none-in n) (λ r t e. e)
 
-  pub zeros-down : view zeros ≡ down (pagesOf store)
+-- nothing is live, held, retained or written, and it is down
+abbrev pub zeros : ℕ → List ℕ → List ℕ → Arrays
+zeros n work store = arrays 0 (z 24) (z 24) (z 24) (z (2 * n)) (z (2 * n)) (z n) work store
+
+module _ (f : Form) (n : ℕ) (work store : List ℕ) where
+  pub zeros-down : view f (zeros n work store) ≡ down (f .medium .fromBytes store)
   unfolding view down versionsOf modesOf modeOf anyMode writeMode
-  zeros-down = state-eq (ne-false 0 1 (λ e. omega arith)) bearers-free (ap modesOf (none-in 32)) (ap modesOf (none-in 32))
-      (fun-ext (λ j. fun-ext (λ r. ap (λ (f : Owners). cond (f r j) (some (pagesOf work (slot r (getD (z 24) j 0)))) none) (none-in 16)))) refl
+  zeros-down = state-eq f (ne-false 0 1 (λ e. omega arith)) bearers-free (ap modesOf (none-in (2 * n))) (ap modesOf (none-in (2 * n)))
+      (fun-ext (λ j. fun-ext (λ r. ap (λ (o : Owners). cond (o r j) (some (pagesOf work (slot r (getD (z 24) j 0)))) none) (none-in n)))) refl
 
-  zeros-nested : Nested (sets (z 32))
-  unfolding anyMode writeMode
-  zeros-nested = subst⁻¹ (λ (o : Owners). Nested o) (none-in 32) (λ r t e. e)
+  module _ (many : records (f .geometry) ≡ n) (w : length work ≡ 512 * records (f .geometry)) (s : length store ≡ f .medium .size) where
+    pub zeros-formed : Formed f (zeros n work store)
+    unfolding lineIn lineOf depthIn chain mem
+    zeros-formed = record {
+      lines = none-in 24 ∙ sym (ap lineIn bearers-free);
+      flag = omega arith;
+      tidy = λ t e. at 24 t;
+      held-nested = zeros-nested (2 * n);
+      retained-nested = zeros-nested (2 * n);
+      parents = length-replicate {A = ℕ} 24 0;
+      depths = length-replicate {A = ℕ} 24 0;
+      long = length-replicate {A = ℕ} 24 0;
+      helds = length-replicate {A = ℕ} (2 * n) 0 ∙ ap (λ (m : ℕ). 2 * m) (sym many);
+      retaineds = length-replicate {A = ℕ} (2 * n) 0 ∙ ap (λ (m : ℕ). 2 * m) (sym many);
+      writerss = length-replicate {A = ℕ} n 0 ∙ sym many;
+      works = w;
+      stores = s;
+    }
 
-  pub zeros-formed : length work ≡ workBytes → length store ≡ 1056 → Formed zeros
-  unfolding lineIn lineOf depthIn chain mem
-  zeros-formed w s = record {
-    lines = none-in 24 ∙ sym (ap lineIn bearers-free);
-    flag = omega arith;
-    tidy = λ t e. at 24 t;
-    held-nested = zeros-nested;
-    retained-nested = zeros-nested;
-    parents = length-replicate {A = ℕ} 24 0;
-    depths = length-replicate {A = ℕ} 24 0;
-    long = length-replicate {A = ℕ} 24 0;
-    helds = length-replicate {A = ℕ} 32 0;
-    retaineds = length-replicate {A = ℕ} 32 0;
-    writerss = length-replicate {A = ℕ} 16 0;
-    works = w;
-    stores = s;
-  }
+    pub zeros-intact : Served f → Intact f (zeros n work store)
+    zeros-intact S = record { sound = subst⁻¹ (Sound f) zeros-down (sound-down f (f .medium .fromBytes store)); served = S; form = zeros-formed }
 
-  pub zeros-intact : length work ≡ workBytes → length store ≡ 1056 → Intact zeros
-  zeros-intact w s = record { sound = subst⁻¹ (Sound edition1) zeros-down (sound-down edition1 (pagesOf store)); form = zeros-formed w s }
+-- arrays that are all zeros, for n records
+abbrev pub Fallen : ℕ → ℕ → List ℕ → List ℕ → List ℕ → List ℕ → List ℕ → List ℕ → Type 0
+Fallen n up parent depth line held retained writers =
+    (up ≡ 0) × (parent ≡ replicate 24 0) × (depth ≡ replicate 24 0) × (line ≡ replicate 24 0)
+    × (held ≡ replicate (2 * n) 0) × (retained ≡ replicate (2 * n) 0) × (writers ≡ replicate n 0)
 
--- arrays that are all zeros
-abbrev pub Fallen : ℕ → List ℕ → List ℕ → List ℕ → List ℕ → List ℕ → List ℕ → Type 0
-Fallen up parent depth line held retained writers =
-    (up ≡ 0) × (parent ≡ replicate 24 0) × (depth ≡ replicate 24 0) × (line ≡ replicate 24 0) × (held ≡ replicate 32 0) × (retained ≡ replicate 32 0) × (writers ≡ replicate 16 0)
-
-pub fallen : (up : ℕ) (parent depth line held retained writers work store : List ℕ) → Fallen up parent depth line held retained writers
-    → arrays up parent depth line held retained writers work store ≡ zeros work store
-fallen up parent depth line held retained writers work store F =
+pub fallen : (n up : ℕ) (parent depth line held retained writers work store : List ℕ) → Fallen n up parent depth line held retained writers
+    → arrays up parent depth line held retained writers work store ≡ zeros n work store
+fallen n up parent depth line held retained writers work store F =
     λ i. arrays (F .0 i) (F .1 i) (F .2 i) (F .3 i) (F .4 i) (F .5 i) (F .6 i) work store
 
 -- a crash
-pub crash-steps : (x : Arrays) → Formed x → (up : ℕ) (parent depth line held retained writers : List ℕ) → Fallen up parent depth line held retained writers
-    → Stepped x (some crash) (answer 0 0) (arrays up parent depth line held retained writers (x .work) (x .store))
+pub crash-steps : (f : Form) (x : Arrays) → Formed f x → (n : ℕ) → length (x .writers) ≡ n
+    → (up : ℕ) (parent depth line held retained writers : List ℕ) → Fallen n up parent depth line held retained writers
+    → Stepped f x (some crash) (answer 0 0) (arrays up parent depth line held retained writers (x .work) (x .store))
 unfolding view
-crash-steps x F up parent depth line held retained writers Z =
-    subst⁻¹ (Stepped x (some crash) (answer 0 0)) (fallen up parent depth line held retained writers (x .work) (x .store) Z)
-    (finishes x _ (some crash) (down (pagesOf (x .store))) 0 (crash-done edition1 (view x)) (zeros-down (x .work) (x .store)) (zeros-formed (x .work) (x .store) (F .works) (F .stores)))
+crash-steps f x F n e up parent depth line held retained writers Z =
+    subst⁻¹ (Stepped f x (some crash) (answer 0 0)) (fallen n up parent depth line held retained writers (x .work) (x .store) Z)
+    (finishes f x _ (some crash) (down (f .medium .fromBytes (x .store))) 0 (crash-done f (view f x)) (zeros-down f n (x .work) (x .store))
+    (zeros-formed f n (x .work) (x .store) (sym (F .writerss) ∙ e) (F .works) (F .stores)))
 
 -- a sound state that is down has nothing
 module _ {f : Form} {s : StateOf f} (S : Sound f s) (d : s .up ≡ false) where
@@ -131,57 +135,60 @@ module _ {f : Form} {s : StateOf f} (S : Sound f s) (d : s .up ≡ false) where
   }
 
 -- what a commit page says
-module _ (store : List ℕ) (c : CommitMap) (h : c ≡ understood (pagesOf store 0)) where
-  pub damaged-is : c .good ≡ false → damaged geometry1 (pagesOf store) ≡ true
+module _ (g : Geometry) (store : List ℕ) (c : CommitMap) (h : c ≡ understood g (pagesOf store 0)) where
+  pub damaged-is : c .good ≡ false → damaged g (pagesOf store) ≡ true
   unfolding damaged understood
   damaged-is e = not-false _ (sym (ap (λ (c : CommitMap). c .good) h) ∙ e)
 
-  pub whole-is : c .good ≡ true → damaged geometry1 (pagesOf store) ≡ false
+  pub whole-is : c .good ≡ true → damaged g (pagesOf store) ≡ false
   unfolding damaged understood
   whole-is e = not-true _ (sym (ap (λ (c : CommitMap). c .good) h) ∙ e)
 
-  pub map-is : mapIn (readCommit geometry1 (pagesOf store 0)) ≡ c .map
+  pub map-is : mapIn (readCommit g (pagesOf store 0)) ≡ c .map
   unfolding understood
   map-is = sym (ap (λ (c : CommitMap). c .map) h)
 
-module _ (x : Arrays) (I : Intact x) (k : ℕ) where
-  pub recover-refuses-3 : x .up ≡ 1 → Stepped x (some (recover k)) (answer 3 0) x
-  recover-refuses-3 e = unmoved x (some (recover k)) 3 (I .form) (recover-up edition1 (view x) k (up-is x e))
+module _ (g : Geometry) (x : Arrays) (I : Intact (atomic g) x) (k : ℕ) where
+  abbrev f : Form
+  f = atomic g
 
-  module _ (n : x .up ≢ 1) (c : CommitMap) (h : c ≡ understood (pagesOf (x .store) 0)) where
-    pub recover-refuses-4 : c .good ≡ false → Stepped x (some (recover k)) (answer 4 0) x
+  pub recover-refuses-3 : x .up ≡ 1 → Stepped f x (some (recover k)) (answer 3 0) x
+  recover-refuses-3 e = unmoved f x (some (recover k)) 3 (I .form) (recover-up f (view f x) k (up-is f x e))
+
+  module _ (n : x .up ≢ 1) (c : CommitMap) (h : c ≡ understood g (pagesOf (x .store) 0)) where
+    pub recover-refuses-4 : c .good ≡ false → Stepped f x (some (recover k)) (answer 4 0) x
     unfolding view
     recover-refuses-4 e =
-        unmoved x (some (recover k)) 4 (I .form) (recover-damaged edition1 (view x) k (down-is x n) (damaged-is (x .store) c h e))
+        unmoved f x (some (recover k)) 4 (I .form) (recover-damaged f (view f x) k (down-is f x n) (damaged-is g (x .store) c h e))
 
-    module _ (g : c .good ≡ true) (store : List ℕ) (made : ℕ) (crashed : Bool) (size : length store ≡ 1056)
-        (L : Leaves (recoverAt geometry1 (pagesOf (x .store)) k) (pagesOf store) made crashed) where
+    module _ (good : c .good ≡ true) (store : List ℕ) (made : ℕ) (crashed : Bool) (size : length store ≡ length (x .store))
+        (L : Leaves (recoverAt g (pagesOf (x .store)) k) (pagesOf store) made crashed) where
       abbrev C : Cut Pages
-      C = recoverAt geometry1 (pagesOf (x .store)) k
+      C = recoverAt g (pagesOf (x .store)) k
 
-      outcome : (b : Bool) → crashed ≡ b → step edition1 (view x) (some (recover k)) ≡ concluded (raised (view x) (pagesOf store)) C b
+      outcome : (b : Bool) → crashed ≡ b → step f (view f x) (some (recover k)) ≡ concluded (raised (view f x) (pagesOf store)) C b
       unfolding recovers view
       outcome b e =
-          recover-done edition1 (view x) k (down-is x n) (whole-is (x .store) c h g)
-          ∙ ap₂ (λ (p : Pages) (b : Bool). concluded (raised (view x) p) C b) (sym (L .store)) (sym (L .crashed) ∙ e)
+          recover-done f (view f x) k (down-is f x n) (whole-is g (x .store) c h good)
+          ∙ ap₂ (λ (p : Pages) (b : Bool). concluded (raised (view f x) p) C b) (sym (L .store)) (sym (L .crashed) ∙ e)
 
-      formed : (up : ℕ) → up ≤ 1 → Formed (arrays up (x .parent) (x .depth) (x .line) (x .held) (x .retained) (x .writers) (x .work) store)
-      formed up h = let F = I .form in record { lines = F .lines; flag = h; tidy = F .tidy; held-nested = F .held-nested; retained-nested = F .retained-nested; parents = F .parents; depths = F .depths; long = F .long; helds = F .helds; retaineds = F .retaineds; writerss = F .writerss; works = F .works; stores = size }
+      formed : (up : ℕ) → up ≤ 1 → Formed f (arrays up (x .parent) (x .depth) (x .line) (x .held) (x .retained) (x .writers) (x .work) store)
+      formed up h = let F = I .form in record { lines = F .lines; flag = h; tidy = F .tidy; held-nested = F .held-nested; retained-nested = F .retained-nested; parents = F .parents; depths = F .depths; long = F .long; helds = F .helds; retaineds = F .retaineds; writerss = F .writerss; works = F .works; stores = size ∙ F .stores }
 
       over : State Pages → State Pages
       over s = record { up = s .up; bearer = s .bearer; held = s .held; retained = s .retained; version = s .version; store = pagesOf store }
 
       -- cut: still down, and nothing was live
       pub recover-cut : crashed ≡ true
-          → Stepped x (some (recover k)) (answer 11 made) (arrays (x .up) (x .parent) (x .depth) (x .line) (x .held) (x .retained) (x .writers) (x .work) store)
+          → Stepped f x (some (recover k)) (answer 11 made) (arrays (x .up) (x .parent) (x .depth) (x .line) (x .held) (x .retained) (x .writers) (x .work) store)
       unfolding concluded saying numberOf valueOf view down over
       recover-cut e =
-          stepped x _ (some (recover k)) (down (C .store)) (cut (C .made)) (answer 11 made) (outcome true e)
-          (ap over (idle-down (I .sound) (down-is x n)) ∙ ap down (L .store)) (ap (answer 11) (L .made)) (formed (x .up) (I .form .flag))
+          stepped f x _ (some (recover k)) (down (C .store)) (cut (C .made)) (answer 11 made) (outcome true e)
+          (ap over (idle-down (I .sound) (down-is f x n)) ∙ ap down (L .store)) (ap (answer 11) (L .made)) (formed (x .up) (I .form .flag))
 
       pub recover-steps : crashed ≡ false
-          → Stepped x (some (recover k)) (answer 0 made) (arrays 1 (x .parent) (x .depth) (x .line) (x .held) (x .retained) (x .writers) (x .work) store)
+          → Stepped f x (some (recover k)) (answer 0 made) (arrays 1 (x .parent) (x .depth) (x .line) (x .held) (x .retained) (x .writers) (x .work) store)
       unfolding concluded saying numberOf valueOf view raised
       recover-steps e =
-          stepped x _ (some (recover k)) (raised (view x) (pagesOf store)) (done (C .made)) (answer 0 made) (outcome false e)
-          (state-eq (same-refl 1) refl refl refl refl refl) (ap (answer 0) (L .made)) (formed 1 (omega arith))
+          stepped f x _ (some (recover k)) (raised (view f x) (pagesOf store)) (done (C .made)) (answer 0 made) (outcome false e)
+          (state-eq f (same-refl 1) refl refl refl refl refl) (ap (answer 0) (L .made)) (formed 1 (omega arith))

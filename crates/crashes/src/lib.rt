@@ -1,15 +1,18 @@
 // A crash, and a recover after it.
 ghost use mathlib.Core.Path.{_≡_};
+ghost use mathlib.Core.Bool.{true};
 ghost use mathlib.Core.List.{List};
 ghost use mathlib.Core.Option.{Option, none, some};
-ghost use Prim.Native.Nat.{ℕ};
+ghost use Prim.Native.Nat.{ℕ, _+_, _*_, _≤_};
 ghost use lib.ListN.{length, replicate};
 ghost use Rattle.rules.specs.Event.{crash, recover};
+ghost use Rattle.rules.specs.Editions.{Edition, formOf, InNumbers};
 ghost use Rattle.arrays.specs.Kin.{Kin};
-ghost use Rattle.events.specs.Whole.{Arrays, arrays, Intact, Stepped};
-use events::Answer;
+ghost use Rattle.commitpage.specs.Layout.{Known};
+ghost use Rattle.state.specs.Whole.{Arrays, arrays, Intact, Stepped};
+use event::Answer;
 
-// All go, and the engine is down.
+// All transactions go, with their locks and versions, and the engine is down.
 pub fn fall(
     up: &mut u8,
     parent: &mut [u8; 24],
@@ -17,11 +20,15 @@ pub fn fall(
     line: &mut [u32; 24],
     live: &mut u32,
     children: &mut [u32; 32],
-    held: &mut [u32; 32],
-    retained: &mut [u32; 32],
-    writers: &mut [u32; 16],
+    held: &mut [u32],
+    retained: &mut [u32],
+    writers: &mut [u32],
+    records: usize,
 )
-    ensures { λ _. ⌜ (now (up .exit) ≡ 0) × (now (parent .exit) ≡ replicate 24 0) × (now (depth .exit) ≡ replicate 24 0) × (now (line .exit) ≡ replicate 24 0) × (now (held .exit) ≡ replicate 32 0) × (now (retained .exit) ≡ replicate 32 0) × (now (writers .exit) ≡ replicate 16 0) ⌝ }
+    requires { ⌜ (records ≤ 64) × (length (now held) ≡ 2 * records) × (length (now retained) ≡ 2 * records) × (length (now writers) ≡ records) ⌝ }
+    ensures { λ _.
+        ⌜ (now (up .exit) ≡ 0) × (now (parent .exit) ≡ replicate 24 0) × (now (depth .exit) ≡ replicate 24 0) × (now (line .exit) ≡ replicate 24 0)
+        × (now (held .exit) ≡ replicate (2 * records) 0) × (now (retained .exit) ≡ replicate (2 * records) 0) × (now (writers .exit) ≡ replicate records 0) ⌝ }
     ensures { λ _. ⌜ Kin (now (parent .exit)) (now (depth .exit)) (now (live .exit)) (now (children .exit)) ⌝ }
 {
     *up = 0;
@@ -30,9 +37,10 @@ pub fn fall(
     *line = [0; 24];
     *live = 0;
     *children = [0; 32];
-    *held = [0; 32];
-    *retained = [0; 32];
-    *writers = [0; 16];
+    let places = 2 * records;
+    locks::clear(held, places);
+    locks::clear(retained, places);
+    locks::clear(writers, records);
 }
 
 // A crash.
@@ -43,11 +51,16 @@ pub fn crash_event(
     line: &mut [u32; 24],
     live: &mut u32,
     children: &mut [u32; 32],
-    held: &mut [u32; 32],
-    retained: &mut [u32; 32],
-    writers: &mut [u32; 16],
+    held: &mut [u32],
+    retained: &mut [u32],
+    writers: &mut [u32],
+    records: usize,
 ) -> Answer
-    ensures { λ a. ⌜ ((work store : List ℕ) → Intact (arrays (now (up .entry)) (now (parent .entry)) (now (depth .entry)) (now (line .entry)) (now (held .entry)) (now (retained .entry)) (now (writers .entry)) work store) → Stepped (arrays (now (up .entry)) (now (parent .entry)) (now (depth .entry)) (now (line .entry)) (now (held .entry)) (now (retained .entry)) (now (writers .entry)) work store) (some (crash)) a (arrays (now (up .exit)) (now (parent .exit)) (now (depth .exit)) (now (line .exit)) (now (held .exit)) (now (retained .exit)) (now (writers .exit)) work store)) ⌝ }
+    requires { ⌜ (records ≤ 64) × (length (now held) ≡ 2 * records) × (length (now retained) ≡ 2 * records) × (length (now writers) ≡ records) ⌝ }
+    ensures { λ a. ⌜ ((edition : Edition) (work store : List ℕ) →
+        let before = arrays (now (up .entry)) (now (parent .entry)) (now (depth .entry)) (now (line .entry)) (now (held .entry)) (now (retained .entry)) (now (writers .entry)) work store in
+        let after = arrays (now (up .exit)) (now (parent .exit)) (now (depth .exit)) (now (line .exit)) (now (held .exit)) (now (retained .exit)) (now (writers .exit)) work store in
+        Intact (formOf edition) before → Stepped (formOf edition) before (some crash) a after) ⌝ }
     ensures { λ _. ⌜ Kin (now (parent .exit)) (now (depth .exit)) (now (live .exit)) (now (children .exit)) ⌝ }
 {
     fall(
@@ -60,6 +73,7 @@ pub fn crash_event(
         held,
         retained,
         writers,
+        records,
     );
     Answer {
         number: 0,
@@ -68,9 +82,12 @@ pub fn crash_event(
 }
 
 // A recovery, cut at k: only while down, over a commit page that is not damaged.
-pub fn recover_event(up: &mut u8, store: &mut [u8], k: u8) -> Answer
-    requires { ⌜ length (now store) ≡ 1056 ⌝ }
-    ensures { λ a. ⌜ ((parent depth line held retained writers work : List ℕ) → Intact (arrays (now (up .entry)) parent depth line held retained writers work (now (store .entry))) → Stepped (arrays (now (up .entry)) parent depth line held retained writers work (now (store .entry))) (some (recover k)) a (arrays (now (up .exit)) parent depth line held retained writers work (now (store .exit)))) ⌝ }
+pub fn recover_event(up: &mut u8, store: &mut [u8], records: usize, joint: bool, k: u8) -> Answer
+    requires { ⌜ Known records × (joint ≡ true → records ≡ 16) × (length (now store) ≡ 32 * (1 + (records + records))) ⌝ }
+    ensures { λ a. ⌜ ((edition : Edition) (parent depth line held retained writers work : List ℕ) →
+        let before = arrays (now (up .entry)) parent depth line held retained writers work (now (store .entry)) in
+        let after = arrays (now (up .exit)) parent depth line held retained writers work (now (store .exit)) in
+        InNumbers edition records joint → Intact (formOf edition) before → Stepped (formOf edition) before (some (recover k)) a after) ⌝ }
 {
     if *up == 1 {
         return Answer {
@@ -78,7 +95,7 @@ pub fn recover_event(up: &mut u8, store: &mut [u8], k: u8) -> Answer
             value: 0,
         };
     }
-    let c = commit::read_map(&store[..]);
+    let c = commit::read_map(&store[..], records, joint);
     let map = c.map;
     if !c.good {
         return Answer {
@@ -86,7 +103,7 @@ pub fn recover_event(up: &mut u8, store: &mut [u8], k: u8) -> Answer
             value: 0,
         };
     }
-    let m = commit::recover_pages(store, map, k);
+    let m = commit::recover_pages(store, map, records, k);
     let made = m.made;
     if m.crashed {
         return Answer {

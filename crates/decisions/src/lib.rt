@@ -1,37 +1,49 @@
 // The decision on a prepared transaction, and the question whether one is prepared.
 ghost use mathlib.Core.Path.{_≡_};
-ghost use mathlib.Core.Bool.{not, _&&_};
+ghost use mathlib.Core.Bool.{true, not, _&&_};
 ghost use mathlib.Core.List.{List};
 ghost use mathlib.Core.Option.{some};
-ghost use Prim.Native.Nat.{ℕ};
+ghost use Prim.Native.Nat.{ℕ, _+_, _*_, _^_, _<_, _≤_};
 ghost use lib.ListN.{length};
 ghost use Rattle.laws.specs.Tests.{same};
 ghost use Rattle.rules.specs.Store.{pagesOf, readPrepared};
 ghost use Rattle.rules.specs.Event.{decide, query};
 ghost use Rattle.rules.specs.Commit.{decideAt};
-ghost use Rattle.rules.specs.Editions.{geometry1};
+ghost use Rattle.rules.specs.Geometry.{Geometry};
+ghost use Rattle.rules.specs.Editions.{Edition, geometryOf, formOf, InNumbers};
 ghost use Rattle.arrays.specs.Kin.{Kin};
 ghost use Rattle.commitpage.specs.Heard.{prepared};
+ghost use Rattle.commitpage.specs.Layout.{Known, Layout};
 ghost use Rattle.commit.specs.Phase.{Leaves};
-ghost use Rattle.events.specs.Whole.{Arrays, arrays, Intact, Stepped, Reserves};
-use events::Answer;
+ghost use Rattle.state.specs.Whole.{Arrays, arrays, Intact, Stepped, Reserves};
+use event::Answer;
 
 // A transaction is prepared with identity i, where `reserved` is the map of what is prepared.
-pub fn is_for(reserved: u16, identity: u8, i: u8) -> bool
+pub fn is_for(reserved: u64, identity: u8, i: u8) -> bool
     ensures { λ b. ⌜ b ≡ (not (same reserved 0) && same identity i) ⌝ }
 {
     (reserved != 0) & (identity == i)
 }
 
-// The page writes of the decision, to commit or to abort; the first k of them happen.
-fn decide_pages(store: &mut [u8], map: u16, identity: u8, commits: bool, k: u8) -> commit::Made
-    requires { ⌜ (length (now store) ≡ 1056) × (readPrepared geometry1 (pagesOf (now store) 0) ≡ some (prepared map identity)) ⌝ }
-    ensures { λ r. ⌜ Leaves (decideAt geometry1 (pagesOf (now (store .entry))) commits k) (pagesOf (now (store .exit))) (r .made) (r .crashed) ⌝ }
+// The page writes of the decision on what is prepared, to commit or to abort; the first k of them happen.
+fn decide_pages(
+    store: &mut [u8],
+    map: u64,
+    identity: u8,
+    records: usize,
+    commits: bool,
+    k: u8,
+) -> commit::Made
+    requires { ⌜ Known records × (map < 2 ^ records) × (length (now store) ≡ 32 * (1 + (records + records))) ⌝ }
+    ensures { λ r. ⌜ ((g : Geometry) →
+        let before = pagesOf (now (store .entry)) in
+        let after = pagesOf (now (store .exit)) in
+        Layout g records → readPrepared g (before 0) ≡ some (prepared map identity) → Leaves (decideAt g before commits k) after (r .made) (r .crashed)) ⌝ }
 {
     if commits {
-        return commit::commit_decided(store, map, identity, k);
+        return commit::commit_decided(store, map, records, identity, k);
     }
-    commit::abort_decided(store, k)
+    commit::abort_decided(store, records, k)
 }
 
 // The decision on identity i, cut at k: for another than the prepared one it does nothing. What is prepared is read again.
@@ -42,20 +54,28 @@ pub fn decide_event(
     line: &mut [u32; 24],
     live: &mut u32,
     children: &mut [u32; 32],
-    held: &mut [u32; 32],
-    retained: &mut [u32; 32],
-    writers: &mut [u32; 16],
+    held: &mut [u32],
+    retained: &mut [u32],
+    writers: &mut [u32],
     store: &mut [u8],
-    reserved: &mut u16,
+    reserved: &mut u64,
     identity: &mut u8,
+    records: usize,
+    joint: bool,
     commits: bool,
     k: u8,
     i: u8,
 ) -> Answer
-    requires { ⌜ (length (now store) ≡ 1056) × Kin (now parent) (now depth) (now live) (now children) × Reserves (now store) (now reserved) (now identity) ⌝ }
-    ensures { λ a. ⌜ ((work : List ℕ) → let before = arrays (now (up .entry)) (now (parent .entry)) (now (depth .entry)) (now (line .entry)) (now (held .entry)) (now (retained .entry)) (now (writers .entry)) work (now (store .entry)) in let after = arrays (now (up .exit)) (now (parent .exit)) (now (depth .exit)) (now (line .exit)) (now (held .exit)) (now (retained .exit)) (now (writers .exit)) work (now (store .exit)) in Intact before → now (up .entry) ≡ 1 → Stepped before (some (decide commits k i)) a after) ⌝ }
+    requires { ⌜ Known records × (joint ≡ true → records ≡ 16) × (now reserved < 2 ^ records) × (length (now held) ≡ 2 * records) × (length (now retained) ≡ 2 * records)
+        × (length (now writers) ≡ records) × (length (now store) ≡ 32 * (1 + (records + records))) × Kin (now parent) (now depth) (now live) (now children) ⌝ }
+    ensures { λ a. ⌜ ((edition : Edition) (work : List ℕ) →
+        let before = arrays (now (up .entry)) (now (parent .entry)) (now (depth .entry)) (now (line .entry)) (now (held .entry)) (now (retained .entry)) (now (writers .entry)) work (now (store .entry)) in
+        let after = arrays (now (up .exit)) (now (parent .exit)) (now (depth .exit)) (now (line .exit)) (now (held .exit)) (now (retained .exit)) (now (writers .exit)) work (now (store .exit)) in
+        InNumbers edition records joint → Intact (formOf edition) before → now (up .entry) ≡ 1
+        → Reserves (geometryOf edition) (now (store .entry)) (now (reserved .entry)) (now (identity .entry))
+        → Stepped (formOf edition) before (some (decide commits k i)) a after
+        × Reserves (geometryOf edition) (now (store .exit)) (now (reserved .exit)) (now (identity .exit))) ⌝ }
     ensures { λ _. ⌜ Kin (now (parent .exit)) (now (depth .exit)) (now (live .exit)) (now (children .exit)) ⌝ }
-    ensures { λ _. ⌜ Reserves (now (store .exit)) (now (reserved .exit)) (now (identity .exit)) ⌝ }
 {
     let map = *reserved;
     let whose = *identity;
@@ -65,9 +85,9 @@ pub fn decide_event(
             value: 0,
         };
     }
-    let m = decide_pages(store, map, whose, commits, k);
+    let m = decide_pages(store, map, whose, records, commits, k);
     let made = m.made;
-    let p = commit::read_held(&store[..]);
+    let p = commit::read_held(&store[..], records, joint);
     *reserved = p.map;
     *identity = p.identity;
     if m.crashed {
@@ -81,6 +101,7 @@ pub fn decide_event(
             held,
             retained,
             writers,
+            records,
         );
         return Answer {
             number: 11,
@@ -94,8 +115,9 @@ pub fn decide_event(
 }
 
 // Whether a transaction is prepared with identity i: 1, else 0.
-pub fn query_event(reserved: u16, identity: u8, i: u8) -> Answer
-    ensures { λ a. ⌜ ((x : Arrays) → Intact x → x .up ≡ 1 → Reserves (x .store) reserved identity → Stepped x (some (query i)) a x) ⌝ }
+pub fn query_event(reserved: u64, identity: u8, i: u8) -> Answer
+    ensures { λ a. ⌜ ((edition : Edition) (x : Arrays) → Intact (formOf edition) x → x .up ≡ 1 → Reserves (geometryOf edition) (x .store) reserved identity
+        → Stepped (formOf edition) x (some (query i)) a x) ⌝ }
 {
     if is_for(reserved, identity, i) {
         return Answer {

@@ -12,9 +12,9 @@ use Rattle.rules.specs.Event.{Event, begin, lock, write, read, commit, abort, c
 use Rattle.rules.specs.State.{live, down}
 use Rattle.rules.specs.Form.{atomicPages, atomic}
 use Rattle.rules.specs.Step.{StateOf, visible}
-use Rattle.rules.specs.Editions.{geometry1}
+use Rattle.rules.specs.Editions.{geometry1, geometry2}
 use Rattle.rules.specs.Sound.{Sound}
-use Rattle.rules.proofs.Editions.{proper1}
+use Rattle.rules.proofs.Editions.{proper1, proper2}
 use Rattle.rules.proofs.Medium.{MediumLaws}
 use Rattle.rules.proofs.AtomicPages.{atomic-laws}
 use Rattle.rules.proofs.Soundness.{Reached, reached-start, reached-play}
@@ -141,3 +141,11 @@ device-holds-edition1 store sized hs = device-holds geometry1 proper1 store (siz
   where
     size1 : 1056 ≡ atomicPages geometry1 .size
     size1 = refl
+
+-- of edition 2
+pub device-holds-edition2 : (store : List ℕ) → length store ≡ 4128 → (hs : List Happening) → Device-holds geometry2 store hs
+unfolding pageCount records
+device-holds-edition2 store sized hs = device-holds geometry2 proper2 store (sized ∙ size2) hs
+  where
+    size2 : 4128 ≡ atomicPages geometry2 .size
+    size2 = refl

@@ -19,7 +19,7 @@ use Rattle.rules.specs.State.{down, open-state}
 use Rattle.rules.specs.Commit.{PageWrite, written, marks, open-commit}
 use Rattle.rules.specs.Form.{atomic}
 use Rattle.rules.specs.Step.{done, refused, firstOf, refusals, refusal, judged, step, open-step}
-use Rattle.rules.specs.Editions.{geometry1}
+use Rattle.rules.specs.Editions.{geometry1, geometry2}
 use Rattle.rules.proofs.Cuts.{broken}
 use Rattle.device.specs.Plan.{carried, open-plan}
 use Rattle.device.specs.Laying.{blanks, layPlan, relayPlan, Lays, Relays, open-laying}
@@ -124,6 +124,14 @@ zeros1 = refl
 
 pub relays1 : (m : Pages) (k : ℕ) → Relays geometry1 m k
 relays1 = relays geometry1 zeros1
+
+-- of edition 2
+zeros2 : broken geometry2 blank ≡ true
+unfolding broken open-store open-geometry open-bytes open-tests open-counting
+zeros2 = refl
+
+pub relays2 : (m : Pages) (k : ℕ) → Relays geometry2 m k
+relays2 = relays geometry2 zeros2
 
 -- WHY PAGE 0 GOES FIRST over a store that can be read: a used store (every record a page of ones) laid down in the order of `layPlan` and cut after 17
 -- writes has record 0 blank and record 1 as it was, and its page 0 says that all is well.

@@ -12,7 +12,7 @@ use Rattle.laws.proofs.Tests.{ne-false}
 use Rattle.rules.specs.Geometry.{Geometry, records}
 use Rattle.rules.specs.Store.{Page, Pages, Prepared, intention, mapOf, isNamed, isReserved}
 use Rattle.rules.specs.Versions.{isSome}
-use Rattle.rules.specs.Editions.{geometry1}
+use Rattle.rules.specs.Editions.{geometry1, geometry2}
 use Rattle.laws.specs.Counting.{those}
 use Rattle.laws.proofs.Those.{count-le, those-length}
 use lib.Seq.{take-all}
@@ -342,3 +342,8 @@ module _ (g : Geometry) (s : StateOf (atomic g)) where
 pub due-whole1 : (s : StateOf (atomic geometry1)) (e : Event) → countOf e ≡ 63 → dueOf geometry1 s (some e) ≡ planOf geometry1 s e
 unfolding records
 due-whole1 s e q = due-whole geometry1 s e (omega (arith, q))
+
+-- of edition 2: the count 255 cuts nothing, and one byte can number the writes
+pub due-whole2 : (s : StateOf (atomic geometry2)) (e : Event) → countOf e ≡ 255 → dueOf geometry2 s (some e) ≡ planOf geometry2 s e
+unfolding records
+due-whole2 s e q = due-whole geometry2 s e (omega (arith, q))

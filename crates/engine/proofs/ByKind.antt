@@ -4,34 +4,36 @@ use mathlib.Core.Bool.{Bool, true, false, not, true≢false}
 use mathlib.Core.List.{List}
 use mathlib.Core.Logic.{_≢_}
 use mathlib.Core.Option.{Option, none, some}
-use Prim.Native.Nat.{ℕ, zero, suc, _<_}
+use Prim.Native.Nat.{ℕ, zero, suc, _^_, _<_}
 use native.Mathlib.Omega.{arith}
 use lib.Dec.{eqb·suc-zero}
 use lib.ListN.{length}
 use Rattle.laws.specs.Tests.{same}
 use Rattle.laws.proofs.Tests.{lt-under, same?, Same, is, isnt}
-use Rattle.rules.specs.Geometry.{records, pageCount}
+use Rattle.rules.specs.Geometry.{Geometry, Proper, records, pageCount}
 use Rattle.rules.specs.Store.{pagesOf}
 use Rattle.rules.specs.Event.{Event, begin, lock, write, read, commit, abort, crash, recover, prepare, decide, query, accessOf, reportOf, decisionOf, eventOf, fits}
 use Rattle.rules.specs.State.{live}
-use Rattle.rules.specs.Form.{atomicPages}
+use Rattle.rules.specs.Form.{Form, Medium, atomicPages}
 use Rattle.rules.specs.Step.{refused, hasChild, StateOf, step}
 use Rattle.rules.specs.Sound.{Sound}
-use Rattle.rules.specs.Editions.{geometry1, edition1}
+use Rattle.rules.specs.Editions.{geometry1, Edition, geometryOf, formOf, InNumbers}
 use Rattle.rules.proofs.Medium.{MediumLaws}
 use Rattle.rules.proofs.AtomicPages.{atomic-laws}
 use Rattle.rules.proofs.Editions.{proper1}
 use Rattle.rules.proofs.Soundness.{sound-step, sound-bad}
 use Rattle.rules.proofs.Waiting.{lock-waits, write-waits, read-waits}
+use Rattle.commitpage.specs.Layout.{Layout}
+use Rattle.commitpage.proofs.Places.{laid}
 use Rattle.commits.specs.Settling.{settling}
-use Rattle.event.specs.Meaning.{meaning, fieldsOf, InRange}
+use Rattle.event.specs.Meaning.{meaning, fieldsOf, InWord}
 use Rattle.event.specs.declared.Event.{Event as Fields}
 use Rattle.event.proofs.Meaning.{means-begin, means-lock, means-write, means-read, means-commit, means-abort, means-prepare, means-decide, means-query}
-use Rattle.events.specs.Whole.{Arrays, view, Intact, Stepped, Ready, ReadyLeaf, Reserves}
-use Rattle.events.specs.declared.Answer.{Answer}
-use Rattle.events.proofs.Rules.{begin-down, lock-down, write-down, read-down, commit-down, abort-down, prepare-down, decide-down, query-down, lock-unknown, write-unknown, read-unknown, commit-unknown, abort-unknown, prepare-unknown}
-use Rattle.events.proofs.Steps.{answer, unmoved, up-is, down-is, live-is}
-use Rattle.events.proofs.Reserves.{reserves-kept}
+use Rattle.state.specs.Whole.{Arrays, view, Intact, Stepped, Ready, ReadyLeaf, Reserves}
+use Rattle.event.specs.declared.Answer.{Answer}
+use Rattle.state.proofs.Rules.{begin-down, lock-down, write-down, read-down, commit-down, abort-down, prepare-down, decide-down, query-down, lock-unknown, write-unknown, read-unknown, commit-unknown, abort-unknown, prepare-unknown}
+use Rattle.state.proofs.Steps.{answer, unmoved, up-is, down-is, live-is}
+use Rattle.state.proofs.Reserves.{reserves-kept}
 use Rattle.rules.proofs.Held.{isPlain}
 
 abbrev pub laws1 : MediumLaws geometry1 (atomicPages geometry1)
@@ -47,78 +49,79 @@ unfolding reportOf same
 report-is zero = refl
 report-is (suc v) = ap not (sym (eqb·suc-zero v))
 
--- down: 2, whatever else
-down-kinds : (s : StateOf edition1) (e : Fields) (k : ℕ) → e .kind ≡ k → 0 < k → k < 12 → k ≢ 7 → k ≢ 8 → s .up ≡ false → step edition1 s (meaning e) ≡ record { state = s; answer = refused 2 }
-down-kinds s e zero q h g c r d = absurd (omega arith)
-down-kinds s e (suc zero) q h g c r d = ap (step edition1 s) (means-begin e q) ∙ begin-down edition1 s d (e .transaction)
-down-kinds s e (suc (suc zero)) q h g c r d = ap (step edition1 s) (means-lock e q) ∙ lock-down edition1 s d (e .transaction) (e .rec) (accessOf (e .value))
-down-kinds s e (suc (suc (suc zero))) q h g c r d = ap (step edition1 s) (means-write e q) ∙ write-down edition1 s d (e .transaction) (e .rec) (e .offset) (e .value)
-down-kinds s e (suc (suc (suc (suc zero)))) q h g c r d = ap (step edition1 s) (means-read e q) ∙ read-down edition1 s d (e .transaction) (e .rec) (e .offset)
-down-kinds s e (suc (suc (suc (suc (suc zero))))) q h g c r d = ap (step edition1 s) (means-commit e q) ∙ commit-down edition1 s d (e .transaction) (e .count)
-down-kinds s e (suc (suc (suc (suc (suc (suc zero)))))) q h g c r d = ap (step edition1 s) (means-abort e q) ∙ abort-down edition1 s d (e .transaction) (reportOf (e .value))
-down-kinds s e (suc (suc (suc (suc (suc (suc (suc zero))))))) q h g c r d = absurd (c refl)
-down-kinds s e (suc (suc (suc (suc (suc (suc (suc (suc zero)))))))) q h g c r d = absurd (r refl)
-down-kinds s e (suc (suc (suc (suc (suc (suc (suc (suc (suc zero))))))))) q h g c r d = ap (step edition1 s) (means-prepare e q) ∙ prepare-down edition1 s d (e .transaction) (e .count) (e .value)
-down-kinds s e (suc (suc (suc (suc (suc (suc (suc (suc (suc (suc zero)))))))))) q h g c r d = ap (step edition1 s) (means-decide e q) ∙ decide-down edition1 s d (decisionOf (e .offset)) (e .count) (e .value)
-down-kinds s e (suc (suc (suc (suc (suc (suc (suc (suc (suc (suc (suc zero))))))))))) q h g c r d = ap (step edition1 s) (means-query e q) ∙ query-down edition1 s d (e .value)
-down-kinds s e (suc (suc (suc (suc (suc (suc (suc (suc (suc (suc (suc (suc k)))))))))))) q h g c r d = absurd (omega arith)
+module _ (f : Form) where
+  -- down: 2, whatever else
+  down-kinds : (s : StateOf f) (e : Fields) (k : ℕ) → e .kind ≡ k → 0 < k → k < 12 → k ≢ 7 → k ≢ 8 → s .up ≡ false → step f s (meaning e) ≡ record { state = s; answer = refused 2 }
+  down-kinds s e zero q h g c r d = absurd (omega arith)
+  down-kinds s e (suc zero) q h g c r d = ap (step f s) (means-begin e q) ∙ begin-down f s d (e .transaction)
+  down-kinds s e (suc (suc zero)) q h g c r d = ap (step f s) (means-lock e q) ∙ lock-down f s d (e .transaction) (e .rec) (accessOf (e .value))
+  down-kinds s e (suc (suc (suc zero))) q h g c r d = ap (step f s) (means-write e q) ∙ write-down f s d (e .transaction) (e .rec) (e .offset) (e .value)
+  down-kinds s e (suc (suc (suc (suc zero)))) q h g c r d = ap (step f s) (means-read e q) ∙ read-down f s d (e .transaction) (e .rec) (e .offset)
+  down-kinds s e (suc (suc (suc (suc (suc zero))))) q h g c r d = ap (step f s) (means-commit e q) ∙ commit-down f s d (e .transaction) (e .count)
+  down-kinds s e (suc (suc (suc (suc (suc (suc zero)))))) q h g c r d = ap (step f s) (means-abort e q) ∙ abort-down f s d (e .transaction) (reportOf (e .value))
+  down-kinds s e (suc (suc (suc (suc (suc (suc (suc zero))))))) q h g c r d = absurd (c refl)
+  down-kinds s e (suc (suc (suc (suc (suc (suc (suc (suc zero)))))))) q h g c r d = absurd (r refl)
+  down-kinds s e (suc (suc (suc (suc (suc (suc (suc (suc (suc zero))))))))) q h g c r d = ap (step f s) (means-prepare e q) ∙ prepare-down f s d (e .transaction) (e .count) (e .value)
+  down-kinds s e (suc (suc (suc (suc (suc (suc (suc (suc (suc (suc zero)))))))))) q h g c r d = ap (step f s) (means-decide e q) ∙ decide-down f s d (decisionOf (e .offset)) (e .count) (e .value)
+  down-kinds s e (suc (suc (suc (suc (suc (suc (suc (suc (suc (suc (suc zero))))))))))) q h g c r d = ap (step f s) (means-query e q) ∙ query-down f s d (e .value)
+  down-kinds s e (suc (suc (suc (suc (suc (suc (suc (suc (suc (suc (suc (suc k)))))))))))) q h g c r d = absurd (omega arith)
 
-pub down-steps : (x : Arrays) (e : Fields) → Intact x → 0 < e .kind → e .kind < 12 → e .kind ≢ 7 → e .kind ≢ 8 → x .up ≢ 1 → Stepped x (meaning e) (answer 2 0) x
-down-steps x e I h g c r d = unmoved x (meaning e) 2 (I .form) (down-kinds (view x) e (e .kind) refl h g c r (down-is x d))
+  pub down-steps : (x : Arrays) (e : Fields) → Intact f x → 0 < e .kind → e .kind < 12 → e .kind ≢ 7 → e .kind ≢ 8 → x .up ≢ 1 → Stepped f x (meaning e) (answer 2 0) x
+  down-steps x e I h g c r d = unmoved f x (meaning e) 2 (I .form) (down-kinds (view f x) e (e .kind) refl h g c r (down-is f x d))
 
--- a transaction that isn't live is named: 5
-unknown-kinds : (s : StateOf edition1) (e : Fields) (k : ℕ) → e .kind ≡ k → 1 < k → k < 10 → k ≢ 7 → k ≢ 8 → s .up ≡ true → live s (e .transaction) ≡ false
-    → step edition1 s (meaning e) ≡ record { state = s; answer = refused 5 }
-unknown-kinds s e zero q h g c r u l = absurd (omega arith)
-unknown-kinds s e (suc zero) q h g c r u l = absurd (omega arith)
-unknown-kinds s e (suc (suc zero)) q h g c r u l = ap (step edition1 s) (means-lock e q) ∙ lock-unknown edition1 s (e .transaction) u l (e .rec) (accessOf (e .value))
-unknown-kinds s e (suc (suc (suc zero))) q h g c r u l = ap (step edition1 s) (means-write e q) ∙ write-unknown edition1 s (e .transaction) u l (e .rec) (e .offset) (e .value)
-unknown-kinds s e (suc (suc (suc (suc zero)))) q h g c r u l = ap (step edition1 s) (means-read e q) ∙ read-unknown edition1 s (e .transaction) u l (e .rec) (e .offset)
-unknown-kinds s e (suc (suc (suc (suc (suc zero))))) q h g c r u l = ap (step edition1 s) (means-commit e q) ∙ commit-unknown edition1 s (e .transaction) u l (e .count)
-unknown-kinds s e (suc (suc (suc (suc (suc (suc zero)))))) q h g c r u l = ap (step edition1 s) (means-abort e q) ∙ abort-unknown edition1 s (e .transaction) u l (reportOf (e .value))
-unknown-kinds s e (suc (suc (suc (suc (suc (suc (suc zero))))))) q h g c r u l = absurd (c refl)
-unknown-kinds s e (suc (suc (suc (suc (suc (suc (suc (suc zero)))))))) q h g c r u l = absurd (r refl)
-unknown-kinds s e (suc (suc (suc (suc (suc (suc (suc (suc (suc zero))))))))) q h g c r u l = ap (step edition1 s) (means-prepare e q) ∙ prepare-unknown edition1 s (e .transaction) u l (e .count) (e .value)
-unknown-kinds s e (suc (suc (suc (suc (suc (suc (suc (suc (suc (suc k)))))))))) q h g c r u l = absurd (omega arith)
+  -- a transaction that isn't live is named: 5
+  unknown-kinds : (s : StateOf f) (e : Fields) (k : ℕ) → e .kind ≡ k → 1 < k → k < 10 → k ≢ 7 → k ≢ 8 → s .up ≡ true → live s (e .transaction) ≡ false
+      → step f s (meaning e) ≡ record { state = s; answer = refused 5 }
+  unknown-kinds s e zero q h g c r u l = absurd (omega arith)
+  unknown-kinds s e (suc zero) q h g c r u l = absurd (omega arith)
+  unknown-kinds s e (suc (suc zero)) q h g c r u l = ap (step f s) (means-lock e q) ∙ lock-unknown f s (e .transaction) u l (e .rec) (accessOf (e .value))
+  unknown-kinds s e (suc (suc (suc zero))) q h g c r u l = ap (step f s) (means-write e q) ∙ write-unknown f s (e .transaction) u l (e .rec) (e .offset) (e .value)
+  unknown-kinds s e (suc (suc (suc (suc zero)))) q h g c r u l = ap (step f s) (means-read e q) ∙ read-unknown f s (e .transaction) u l (e .rec) (e .offset)
+  unknown-kinds s e (suc (suc (suc (suc (suc zero))))) q h g c r u l = ap (step f s) (means-commit e q) ∙ commit-unknown f s (e .transaction) u l (e .count)
+  unknown-kinds s e (suc (suc (suc (suc (suc (suc zero)))))) q h g c r u l = ap (step f s) (means-abort e q) ∙ abort-unknown f s (e .transaction) u l (reportOf (e .value))
+  unknown-kinds s e (suc (suc (suc (suc (suc (suc (suc zero))))))) q h g c r u l = absurd (c refl)
+  unknown-kinds s e (suc (suc (suc (suc (suc (suc (suc (suc zero)))))))) q h g c r u l = absurd (r refl)
+  unknown-kinds s e (suc (suc (suc (suc (suc (suc (suc (suc (suc zero))))))))) q h g c r u l = ap (step f s) (means-prepare e q) ∙ prepare-unknown f s (e .transaction) u l (e .count) (e .value)
+  unknown-kinds s e (suc (suc (suc (suc (suc (suc (suc (suc (suc (suc k)))))))))) q h g c r u l = absurd (omega arith)
 
-pub unknown-steps : (x : Arrays) (e : Fields) → Intact x → 1 < e .kind → e .kind < 10 → e .kind ≢ 7 → e .kind ≢ 8 → x .up ≡ 1 → live (view x) (e .transaction) ≡ false → Stepped x (meaning e) (answer 5 0) x
-unknown-steps x e I h g c r u l = unmoved x (meaning e) 5 (I .form) (unknown-kinds (view x) e (e .kind) refl h g c r (up-is x u) l)
+  pub unknown-steps : (x : Arrays) (e : Fields) → Intact f x → 1 < e .kind → e .kind < 10 → e .kind ≢ 7 → e .kind ≢ 8 → x .up ≡ 1 → live (view f x) (e .transaction) ≡ false → Stepped f x (meaning e) (answer 5 0) x
+  unknown-steps x e I h g c r u l = unmoved f x (meaning e) 5 (I .form) (unknown-kinds (view f x) e (e .kind) refl h g c r (up-is f x u) l)
 
--- a transaction with a live child names a record: 14
-waits-kinds : (s : StateOf edition1) (e : Fields) (k : ℕ) → e .kind ≡ k → 1 < k → k < 5 → s .up ≡ true → live s (e .transaction) ≡ true → hasChild s (e .transaction) ≡ true
-    → step edition1 s (meaning e) ≡ record { state = s; answer = refused 14 }
-waits-kinds s e zero q h g u l c = absurd (omega arith)
-waits-kinds s e (suc zero) q h g u l c = absurd (omega arith)
-waits-kinds s e (suc (suc zero)) q h g u l c = ap (step edition1 s) (means-lock e q) ∙ lock-waits edition1 s (e .transaction) u l (e .rec) (accessOf (e .value)) c
-waits-kinds s e (suc (suc (suc zero))) q h g u l c = ap (step edition1 s) (means-write e q) ∙ write-waits edition1 s (e .transaction) u l (e .rec) (e .offset) (e .value) c
-waits-kinds s e (suc (suc (suc (suc zero)))) q h g u l c = ap (step edition1 s) (means-read e q) ∙ read-waits edition1 s (e .transaction) u l (e .rec) (e .offset) c
-waits-kinds s e (suc (suc (suc (suc (suc k))))) q h g u l c = absurd (omega arith)
+  -- a transaction with a live child names a record: 14
+  waits-kinds : (s : StateOf f) (e : Fields) (k : ℕ) → e .kind ≡ k → 1 < k → k < 5 → s .up ≡ true → live s (e .transaction) ≡ true → hasChild s (e .transaction) ≡ true
+      → step f s (meaning e) ≡ record { state = s; answer = refused 14 }
+  waits-kinds s e zero q h g u l c = absurd (omega arith)
+  waits-kinds s e (suc zero) q h g u l c = absurd (omega arith)
+  waits-kinds s e (suc (suc zero)) q h g u l c = ap (step f s) (means-lock e q) ∙ lock-waits f s (e .transaction) u l (e .rec) (accessOf (e .value)) c
+  waits-kinds s e (suc (suc (suc zero))) q h g u l c = ap (step f s) (means-write e q) ∙ write-waits f s (e .transaction) u l (e .rec) (e .offset) (e .value) c
+  waits-kinds s e (suc (suc (suc (suc zero)))) q h g u l c = ap (step f s) (means-read e q) ∙ read-waits f s (e .transaction) u l (e .rec) (e .offset) c
+  waits-kinds s e (suc (suc (suc (suc (suc k))))) q h g u l c = absurd (omega arith)
 
--- by the code's test for a child
-module _ (x : Arrays) (t : ℕ) (b : Bool) (test : b ≡ hasChild (view x) t) where
-  pub leaf-of : b ≡ false → Ready x t → (n : ℕ) → n ≡ t → ReadyLeaf x n
-  leaf-of e R n q = subst⁻¹ (ReadyLeaf x) q (record { ready = R; childless = sym test ∙ e })
+  -- by the code's test for a child
+  module _ (x : Arrays) (t : ℕ) (b : Bool) (test : b ≡ hasChild (view f x) t) where
+    pub leaf-of : b ≡ false → Ready f x t → (n : ℕ) → n ≡ t → ReadyLeaf f x n
+    leaf-of e R n q = subst⁻¹ (ReadyLeaf f x) q (record { ready = R; childless = sym test ∙ e })
 
-  pub waits-steps : b ≡ true → (e : Fields) → e .transaction ≡ t → Intact x → 1 < e .kind → e .kind < 5 → Ready x t → Stepped x (meaning e) (answer 14 0) x
-  waits-steps c e q I h g R =
-      unmoved x (meaning e) 14 (I .form) (waits-kinds (view x) e (e .kind) refl h g (up-is x (R .up)) (rw q (live-is x t (R .live))) (rw q (sym test ∙ c)))
+    pub waits-steps : b ≡ true → (e : Fields) → e .transaction ≡ t → Intact f x → 1 < e .kind → e .kind < 5 → Ready f x t → Stepped f x (meaning e) (answer 14 0) x
+    waits-steps c e q I h g R =
+        unmoved f x (meaning e) 14 (I .form) (waits-kinds (view f x) e (e .kind) refl h g (up-is f x (R .up)) (rw q (live-is f x t (R .live))) (rw q (sym test ∙ c)))
 
 -- an event whose fields are in range fits a word
-fits-of : (k t r o c v : ℕ) → t < 32 → r < 16 → o < 32 → c < 64 → v < 256 → (e : Event) → eventOf (fieldsOf k t r o c v) ≡ some e → fits geometry1 e ≡ true
-unfolding eventOf fieldsOf fits records
-fits-of zero t r o c v ht hr ho hc hv e q = let z : true ≡ false = cc in absurd (true≢false z)
-fits-of (suc zero) t r o c v ht hr ho hc hv e q = let p : begin t ≡ e = cc in rw (← p) (lt-under t 32 ht)
-fits-of (suc (suc zero)) t r o c v ht hr ho hc hv e q = let p : lock t r (accessOf v) ≡ e = cc in rw (← p, lt-under t 32 ht, lt-under r 16 hr)
-fits-of (suc (suc (suc zero))) t r o c v ht hr ho hc hv e q = let p : write t r o v ≡ e = cc in rw (← p, lt-under t 32 ht, lt-under r 16 hr, lt-under o 32 ho, lt-under v 256 hv)
-fits-of (suc (suc (suc (suc zero)))) t r o c v ht hr ho hc hv e q = let p : read t r o ≡ e = cc in rw (← p, lt-under t 32 ht, lt-under r 16 hr, lt-under o 32 ho)
-fits-of (suc (suc (suc (suc (suc zero))))) t r o c v ht hr ho hc hv e q = let p : commit t c ≡ e = cc in rw (← p, lt-under t 32 ht, lt-under c 64 hc)
-fits-of (suc (suc (suc (suc (suc (suc zero)))))) t r o c v ht hr ho hc hv e q = let p : abort t (reportOf v) ≡ e = cc in rw (← p) (lt-under t 32 ht)
-fits-of (suc (suc (suc (suc (suc (suc (suc zero))))))) t r o c v ht hr ho hc hv e q = let p : crash ≡ e = cc in rw (← p)
-fits-of (suc (suc (suc (suc (suc (suc (suc (suc zero)))))))) t r o c v ht hr ho hc hv e q = let p : recover c ≡ e = cc in rw (← p) (lt-under c 64 hc)
-fits-of (suc (suc (suc (suc (suc (suc (suc (suc (suc zero))))))))) t r o c v ht hr ho hc hv e q = let p : prepare t c v ≡ e = cc in rw (← p, lt-under t 32 ht, lt-under c 64 hc, lt-under v 256 hv)
-fits-of (suc (suc (suc (suc (suc (suc (suc (suc (suc (suc zero)))))))))) t r o c v ht hr ho hc hv e q = let p : decide (decisionOf o) c v ≡ e = cc in rw (← p, lt-under c 64 hc, lt-under v 256 hv)
-fits-of (suc (suc (suc (suc (suc (suc (suc (suc (suc (suc (suc zero))))))))))) t r o c v ht hr ho hc hv e q = let p : query v ≡ e = cc in rw (← p, lt-under v 256 hv)
-fits-of (suc (suc (suc (suc (suc (suc (suc (suc (suc (suc (suc (suc k)))))))))))) t r o c v ht hr ho hc hv e q = let z : true ≡ false = cc in absurd (true≢false z)
+fits-of : (g : Geometry) (k t r o c v : ℕ) → t < 32 → r < records g → o < 32 → c < 2 ^ g .cutBits → v < 256 → (8 < k → g .joint ≡ true) → (e : Event) → eventOf (fieldsOf k t r o c v) ≡ some e → fits g e ≡ true
+unfolding eventOf fieldsOf fits
+fits-of g zero t r o c v ht hr ho hc hv hj e q = let z : true ≡ false = cc in absurd (true≢false z)
+fits-of g (suc zero) t r o c v ht hr ho hc hv hj e q = let p : begin t ≡ e = cc in rw (← p) (lt-under t 32 ht)
+fits-of g (suc (suc zero)) t r o c v ht hr ho hc hv hj e q = let p : lock t r (accessOf v) ≡ e = cc in rw (← p, lt-under t 32 ht, lt-under r (records g) hr)
+fits-of g (suc (suc (suc zero))) t r o c v ht hr ho hc hv hj e q = let p : write t r o v ≡ e = cc in rw (← p, lt-under t 32 ht, lt-under r (records g) hr, lt-under o 32 ho, lt-under v 256 hv)
+fits-of g (suc (suc (suc (suc zero)))) t r o c v ht hr ho hc hv hj e q = let p : read t r o ≡ e = cc in rw (← p, lt-under t 32 ht, lt-under r (records g) hr, lt-under o 32 ho)
+fits-of g (suc (suc (suc (suc (suc zero))))) t r o c v ht hr ho hc hv hj e q = let p : commit t c ≡ e = cc in rw (← p, lt-under t 32 ht, lt-under c (2 ^ g .cutBits) hc)
+fits-of g (suc (suc (suc (suc (suc (suc zero)))))) t r o c v ht hr ho hc hv hj e q = let p : abort t (reportOf v) ≡ e = cc in rw (← p) (lt-under t 32 ht)
+fits-of g (suc (suc (suc (suc (suc (suc (suc zero))))))) t r o c v ht hr ho hc hv hj e q = let p : crash ≡ e = cc in rw (← p)
+fits-of g (suc (suc (suc (suc (suc (suc (suc (suc zero)))))))) t r o c v ht hr ho hc hv hj e q = let p : recover c ≡ e = cc in rw (← p) (lt-under c (2 ^ g .cutBits) hc)
+fits-of g (suc (suc (suc (suc (suc (suc (suc (suc (suc zero))))))))) t r o c v ht hr ho hc hv hj e q = let p : prepare t c v ≡ e = cc in rw (← p, lt-under t 32 ht, lt-under c (2 ^ g .cutBits) hc, lt-under v 256 hv, hj (omega arith))
+fits-of g (suc (suc (suc (suc (suc (suc (suc (suc (suc (suc zero)))))))))) t r o c v ht hr ho hc hv hj e q = let p : decide (decisionOf o) c v ≡ e = cc in rw (← p, lt-under c (2 ^ g .cutBits) hc, lt-under v 256 hv, hj (omega arith))
+fits-of g (suc (suc (suc (suc (suc (suc (suc (suc (suc (suc (suc zero))))))))))) t r o c v ht hr ho hc hv hj e q = let p : query v ≡ e = cc in rw (← p, lt-under v 256 hv, hj (omega arith))
+fits-of g (suc (suc (suc (suc (suc (suc (suc (suc (suc (suc (suc (suc k)))))))))))) t r o c v ht hr ho hc hv hj e q = let z : true ≡ false = cc in absurd (true≢false z)
 
 -- an event of another kind than prepare and decide
 plain-of : (k t r o c v : ℕ) → k ≢ 9 → k ≢ 10 → (e : Event) → eventOf (fieldsOf k t r o c v) ≡ some e → isPlain e ≡ true
@@ -137,23 +140,32 @@ plain-of (suc (suc (suc (suc (suc (suc (suc (suc (suc (suc zero)))))))))) t r o 
 plain-of (suc (suc (suc (suc (suc (suc (suc (suc (suc (suc (suc zero))))))))))) t r o c v p d e q = let z : query v ≡ e = cc in rw (← z)
 plain-of (suc (suc (suc (suc (suc (suc (suc (suc (suc (suc (suc (suc k)))))))))))) t r o c v p d e q = let z : true ≡ false = cc in absurd (true≢false z)
 
-meaning-fits : (e : Fields) → InRange e → (f : Event) → meaning e ≡ some f → fits geometry1 f ≡ true
+meaning-fits : (g : Geometry) (e : Fields) → InWord g e → (8 < e .kind → g .joint ≡ true) → (f : Event) → meaning e ≡ some f → fits g f ≡ true
 unfolding meaning
-meaning-fits e R f q = fits-of (e .kind) (e .transaction) (e .rec) (e .offset) (e .count) (e .value) (R .transaction) (R .rec) (R .offset) (R .count) (R .value) f q
+meaning-fits g e R J f q = fits-of g (e .kind) (e .transaction) (e .rec) (e .offset) (e .count) (e .value) (R .transaction) (R .rec) (R .offset) (R .count) (R .value) J f q
 
--- every event keeps the arrays sound
-pub keeps : (x y : Arrays) (e : Fields) (a : Answer) → InRange e → Intact x → Stepped x (meaning e) a y → Stepped x (meaning e) a y × Intact y
-unfolding view
-keeps x y e a R I T = (T, record { sound = subst⁻¹ (Sound edition1) (T .is) (go (meaning e) refl); form = T .form })
-  where
-    go : (o : Option Event) → meaning e ≡ o → Sound edition1 (step edition1 (view x) o .state)
-    go none q = sound-bad edition1 laws1 (I .sound) (shaped-of (x .store) (I .form .stores))
-    go (some f) q = sound-step edition1 laws1 (I .sound) (shaped-of (x .store) (I .form .stores)) f (meaning-fits e R f q)
+module _ (k : Edition) where
+  proper : Proper (geometryOf k)
+  proper = laid k .proper
 
--- an event of another kind leaves what is prepared
-pub keeps-reserved : (x y : Arrays) (e : Fields) (a : Answer) (m i : ℕ) → e .kind ≢ 9 → e .kind ≢ 10 → Intact x → Reserves (x .store) m i → Stepped x (meaning e) a y → Reserves (y .store) m i
-unfolding meaning
-keeps-reserved x y e a m i p d I H T = reserves-kept x y (meaning e) a m i I T H (plain-of (e .kind) (e .transaction) (e .rec) (e .offset) (e .count) (e .value) p d)
+  -- every event keeps the arrays sound
+  pub keeps : (n : ℕ) (joint : Bool) → InNumbers k n joint → (x y : Arrays) (e : Fields) (a : Answer) → (8 < e .kind → joint ≡ true) → InWord (geometryOf k) e → Intact (formOf k) x → Stepped (formOf k) x (meaning e) a y → Stepped (formOf k) x (meaning e) a y × Intact (formOf k) y
+  unfolding view
+  keeps n joint N x y e a J R I T = (T, record { sound = subst⁻¹ (Sound (formOf k)) (T .is) (go (meaning e) refl); served = I .served; form = T .form })
+    where
+      laws : MediumLaws (geometryOf k) (atomicPages (geometryOf k))
+      laws = atomic-laws (geometryOf k) proper
+
+      go : (o : Option Event) → meaning e ≡ o → Sound (formOf k) (step (formOf k) (view (formOf k) x) o .state)
+      go none q = sound-bad (formOf k) laws (I .sound) (laws .shaped-from (x .store) (I .form .stores))
+      go (some f) q = sound-step (formOf k) laws (I .sound) (laws .shaped-from (x .store) (I .form .stores)) f (meaning-fits (geometryOf k) e R (λ h. N .two-phase ∙ J h) f q)
+
+  -- an event of another kind leaves what is prepared
+  pub keeps-reserved : (x y : Arrays) (e : Fields) (a : Answer) (m i : ℕ) → e .kind ≢ 9 → e .kind ≢ 10 → Intact (formOf k) x → Reserves (geometryOf k) (x .store) m i
+      → Stepped (formOf k) x (meaning e) a y → Reserves (geometryOf k) (y .store) m i
+  unfolding meaning
+  keeps-reserved x y e a m i p d I H T =
+      reserves-kept (geometryOf k) proper x y (meaning e) a m i I T H (plain-of (e .kind) (e .transaction) (e .rec) (e .offset) (e .count) (e .value) p d)
 
 -- the offset of a decision: 0 to abort, another to commit
 pub to-abort : (v : ℕ) → v ≡ 0 → decisionOf v ≡ false

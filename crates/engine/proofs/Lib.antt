@@ -1,3 +1,4 @@
--- The arguments about events in a row.
-pub mod ByKind
+-- The arguments of this crate.
 pub mod Numbers
+pub mod Lengths
+pub mod ByKind

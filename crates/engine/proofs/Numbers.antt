@@ -5,7 +5,6 @@ use Prim.Native.Nat.{ℕ, min, _<_, _≤_}
 use native.Mathlib.Omega.{arith}
 use Rattle.laws.specs.Tests.{under}
 use Rattle.laws.proofs.Tests.{Is, is?, yes′, no′, under-lt, not-under}
-use Rattle.rules.specs.Geometry.{records}
 use Rattle.numbers.specs.Named.{transactionNamed, recordNamed, transactionOf, recordOf}
 use Rattle.numbers.specs.declared.TransactionNumber.{TransactionNumber}
 use Rattle.numbers.specs.declared.TransactionNamed.the-variants as T
@@ -36,29 +35,29 @@ no-transaction n q = go (is? (under n 24))
         let z : true ≡ false = cc in absurd (true≢false z)
     go (no′ e) = not-under n 24 e
 
-pub record-is : (n : ℕ) (r : RecordNumber) → R.Number r ≡ recordNamed n → recordOf r ≡ n
-unfolding recordNamed recordOf records
-record-is n r q = go (is? (under n 16))
+pub record-is : (count n : ℕ) (r : RecordNumber) → count ≤ 64 → R.Number r ≡ recordNamed count n → (recordOf r ≡ n) × (n < count)
+unfolding recordNamed recordOf
+record-is count n r small q = go (is? (under n count))
   where
-    go : Is (under n 16) → min (r .0) 15 ≡ n
+    go : Is (under n count) → (min (r .0) 63 ≡ n) × (n < count)
     go (yes′ e) =
         let k : R.Number r ≡ R.Number (record { 0 = n }) = rw e at q in
         let z : r ≡ record { 0 = n } = cc in
         let y : r .0 ≡ n = ap (λ (r : RecordNumber). r .0) z in
-        let h = under-lt n 16 e in omega arith
+        let h = under-lt n count e in (omega arith, h)
     go (no′ e) =
         let k : R.Number r ≡ R.NoSuchRecord = rw e at q in
         let z : true ≡ false = cc in absurd (true≢false z)
 
-pub no-record : (n : ℕ) → R.NoSuchRecord ≡ recordNamed n → 16 ≤ n
-unfolding recordNamed records
-no-record n q = go (is? (under n 16))
+pub no-record : (count n : ℕ) → R.NoSuchRecord ≡ recordNamed count n → count ≤ n
+unfolding recordNamed
+no-record count n q = go (is? (under n count))
   where
-    go : Is (under n 16) → 16 ≤ n
+    go : Is (under n count) → count ≤ n
     go (yes′ e) =
         let k : R.NoSuchRecord ≡ R.Number (record { 0 = n }) = rw e at q in
         let z : true ≡ false = cc in absurd (true≢false z)
-    go (no′ e) = not-under n 16 e
+    go (no′ e) = not-under n count e
 
 -- a number is a place
 pub transaction-small : (t : TransactionNumber) → transactionOf t < 24

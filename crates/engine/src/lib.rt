@@ -1,48 +1,92 @@
-// The engine's step: one event at a time, in place.
+// The engine's step: one event at a time, in place. An edition is told by two numbers, how many records there are and whether transactions can be
+// prepared (`joint`); whoever calls `step` passes them as constants, so that the compiler makes the engine of that edition.
+//
+// The functions are cut in the order of the refusals: `step` has those that come before a transaction is looked up, 1 for a bad event and 2 while down;
+// `named_event` has 5, for a transaction that isn't live, and 14, for an event at a record of a transaction with a live child; `end_event` and
+// `record_event` have what is left, by kind.
 ghost use mathlib.Core.Path.{_≡_};
+ghost use mathlib.Core.Bool.{Bool, true};
 ghost use mathlib.Core.List.{List};
 ghost use mathlib.Core.Logic.{_≢_};
 ghost use Prim.Native.Nat.{ℕ, _+_, _*_, _<_, _≤_};
-ghost use lib.ListN.{length, getD, set};
-ghost use Rattle.rules.specs.Store.{pagesOf};
-ghost use Rattle.rules.specs.State.{down};
-ghost use Rattle.rules.specs.Editions.{workBytes};
+ghost use lib.ListN.{length, getD};
+ghost use Rattle.rules.specs.Editions.{Edition, geometryOf, formOf, InNumbers, editionOf};
 ghost use Rattle.numbers.specs.Named.{transactionOf, recordOf};
-ghost use Rattle.event.specs.Meaning.{meaning, InRange};
+ghost use Rattle.event.specs.Meaning.{meaning, InWord};
 ghost use Rattle.arrays.specs.Kin.{Kin};
-ghost use Rattle.events.specs.Whole.{Arrays, arrays, view, Intact, Stepped, ReadyLeaf, Reserves};
+ghost use Rattle.slots.specs.Parts.{Sources};
+ghost use Rattle.state.specs.Whole.{Arrays, arrays, Intact, Stepped, ReadyLeaf, Reserves};
+use event::Answer;
 use event::Event;
-use events::Answer;
 use numbers::RecordNamed;
 use numbers::RecordNumber;
 use numbers::TransactionNamed;
 use numbers::TransactionNumber;
 
+// The byte of the store where record r's home page begins: the commit page and the intention pages come before the home pages.
+fn home_at(records: usize, r: RecordNumber) -> usize
+    requires { ⌜ (recordOf r < records) × (records ≤ 64) ⌝ }
+    ensures { λ at. ⌜ (at ≡ 32 * (1 + (records + recordOf r))) × (at + 32 ≤ 32 * (1 + (records + records))) ⌝ }
+{
+    32 * (1 + records + r.index())
+}
+
 // An event at a record, of a live transaction without a live child: the tree of transactions stays as it is.
 fn record_event(
-    up: &u8,
     parent: &[u8; 24],
     depth: &[u8; 24],
     line: &[u32; 24],
-    held: &mut [u32; 32],
-    retained: &[u32; 32],
-    writers: &mut [u32; 16],
+    held: &mut [u32],
+    retained: &[u32],
+    writers: &mut [u32],
     work: &mut [u8],
     store: &[u8],
-    reserved: u16,
+    reserved: u64,
+    records: usize,
     e: Event,
     t: TransactionNumber,
     r: RecordNumber,
 ) -> Answer
-    requires { ⌜ (transactionOf t ≡ e .transaction) × (recordOf r ≡ e .rec) × (1 < e .kind) × (e .kind < 5) × InRange e × Intact (arrays (now up) (now parent) (now depth) (now line) (now held) (now retained) (now writers) (now work) (now store)) × ReadyLeaf (arrays (now up) (now parent) (now depth) (now line) (now held) (now retained) (now writers) (now work) (now store)) (transactionOf t) ⌝ }
-    ensures { λ a. ⌜ ((identity : ℕ) → let before = arrays (now (up .entry)) (now (parent .entry)) (now (depth .entry)) (now (line .entry)) (now (held .entry)) (now (retained .entry)) (now (writers .entry)) (now (work .entry)) (now (store .entry)) in let after = arrays (now (up .entry)) (now (parent .entry)) (now (depth .entry)) (now (line .entry)) (now (held .exit)) (now (retained .entry)) (now (writers .exit)) (now (work .exit)) (now (store .entry)) in Reserves (now (store .entry)) reserved identity → Stepped before (meaning e) a after) ⌝ }
+    requires { ⌜ (transactionOf t ≡ e .transaction) × (recordOf r ≡ e .rec) × (1 < e .kind) × (e .kind < 5) × (e .offset < 32) × (recordOf r < records) × (records ≤ 64)
+        × (length (now held) ≡ 2 * records) × (length (now retained) ≡ 2 * records) × (length (now writers) ≡ records) × (length (now work) ≡ 512 * records)
+        × (length (now store) ≡ 32 * (1 + (records + records))) × (0 < getD (now depth) (transactionOf t) 0) × Sources (now parent) (now depth) ⌝ }
+    ensures { λ a. ⌜ ((edition : Edition) (joint : Bool) (up identity : ℕ) →
+        let before = arrays up (now (parent .entry)) (now (depth .entry)) (now (line .entry)) (now (held .entry)) (now (retained .entry)) (now (writers .entry)) (now (work .entry)) (now (store .entry)) in
+        let after = arrays up (now (parent .entry)) (now (depth .entry)) (now (line .entry)) (now (held .exit)) (now (retained .entry)) (now (writers .exit)) (now (work .exit)) (now (store .entry)) in
+        let form = formOf edition in
+        InNumbers edition records joint → Intact form before → ReadyLeaf form before (transactionOf t)
+        → Reserves (geometryOf edition) (now (store .entry)) reserved identity → Stepped form before (meaning e) a after) ⌝ }
 {
     let o = e.offset as usize;
     let kind = e.kind;
+    // the home page is found in the arms: found before the match, it costs every event 6 to 8 % more instructions
     match kind {
-        2 => events::lock_event(line, held, retained, reserved, t, r, e.value != 0),
-        3 => events::write_event(parent, depth, held, writers, work, store, t, r, o, e.value),
-        _ => events::read_event(parent, depth, held, writers, work, store, t, r, o),
+        2 => events::lock_event(line, held, retained, reserved, records, t, r, e.value != 0),
+        3 => events::write_event(
+            parent,
+            depth,
+            held,
+            writers,
+            work,
+            store,
+            home_at(records, r),
+            t,
+            r,
+            o,
+            e.value,
+        ),
+        _ => events::read_event(
+            parent,
+            depth,
+            held,
+            writers,
+            work,
+            store,
+            home_at(records, r),
+            t,
+            r,
+            o,
+        ),
     }
 }
 
@@ -54,20 +98,31 @@ fn end_event(
     line: &mut [u32; 24],
     live: &mut u32,
     children: &mut [u32; 32],
-    held: &mut [u32; 32],
-    retained: &mut [u32; 32],
-    writers: &mut [u32; 16],
+    held: &mut [u32],
+    retained: &mut [u32],
+    writers: &mut [u32],
     work: &mut [u8],
     store: &mut [u8],
-    reserved: &mut u16,
+    reserved: &mut u64,
     identity: &mut u8,
+    records: usize,
+    joint: bool,
     e: Event,
     t: TransactionNumber,
 ) -> Answer
-    requires { ⌜ (transactionOf t ≡ e .transaction) × (4 < e .kind) × (e .kind < 10) × (e .kind ≢ 7) × (e .kind ≢ 8) × (0 < getD (now depth) (e .transaction) 0) × InRange e × Intact (arrays (now up) (now parent) (now depth) (now line) (now held) (now retained) (now writers) (now work) (now store)) × (now up ≡ 1) × Kin (now parent) (now depth) (now live) (now children) × Reserves (now store) (now reserved) (now identity) ⌝ }
-    ensures { λ a. let before = arrays (now (up .entry)) (now (parent .entry)) (now (depth .entry)) (now (line .entry)) (now (held .entry)) (now (retained .entry)) (now (writers .entry)) (now (work .entry)) (now (store .entry)) in let after = arrays (now (up .exit)) (now (parent .exit)) (now (depth .exit)) (now (line .exit)) (now (held .exit)) (now (retained .exit)) (now (writers .exit)) (now (work .exit)) (now (store .exit)) in ⌜ Stepped before (meaning e) a after ⌝ }
+    requires { let edition = editionOf records joint in
+        let here = arrays (now up) (now parent) (now depth) (now line) (now held) (now retained) (now writers) (now work) (now store) in
+        ⌜ (transactionOf t ≡ e .transaction) × (4 < e .kind) × (e .kind < 10) × (e .kind ≢ 7) × (e .kind ≢ 8) × (0 < getD (now depth) (transactionOf t) 0) × InWord (geometryOf edition) e
+        × Intact (formOf edition) here × (now up ≡ 1) × Kin (now parent) (now depth) (now live) (now children)
+        × Reserves (geometryOf edition) (now store) (now reserved) (now identity)
+        × InNumbers edition records joint × (8 < e .kind → joint ≡ true) ⌝ }
+    ensures { λ a.
+        let before = arrays (now (up .entry)) (now (parent .entry)) (now (depth .entry)) (now (line .entry)) (now (held .entry)) (now (retained .entry)) (now (writers .entry)) (now (work .entry)) (now (store .entry)) in
+        let after = arrays (now (up .exit)) (now (parent .exit)) (now (depth .exit)) (now (line .exit)) (now (held .exit)) (now (retained .exit)) (now (writers .exit)) (now (work .exit)) (now (store .exit)) in
+        let edition = editionOf records joint in
+        ⌜ Stepped (formOf edition) before (meaning e) a after ⌝ }
     ensures { λ _. ⌜ Kin (now (parent .exit)) (now (depth .exit)) (now (live .exit)) (now (children .exit)) ⌝ }
-    ensures { λ _. ⌜ Reserves (now (store .exit)) (now (reserved .exit)) (now (identity .exit)) ⌝ }
+    ensures { λ _. ⌜ Reserves (geometryOf (editionOf records joint)) (now (store .exit)) (now (reserved .exit)) (now (identity .exit)) ⌝ }
 {
     let kind = e.kind;
     if kind == 6 {
@@ -80,6 +135,7 @@ fn end_event(
             held,
             retained,
             writers,
+            records,
             t,
             e.value != 0,
         );
@@ -98,6 +154,8 @@ fn end_event(
         store,
         reserved,
         identity,
+        records,
+        joint,
         t,
         kind == 9,
         e.count,
@@ -105,7 +163,8 @@ fn end_event(
     )
 }
 
-// An event of a transaction: refused with 5 unless it is live. At a record it is refused with 14 while a child lives.
+// An event of a transaction: refused with 5 unless it is live. At a record it is refused with 14 while a child lives. The tests take the event's own
+// number, which t has checked: by `t.number()` an event takes 3 % more instructions.
 fn named_event(
     up: &mut u8,
     parent: &mut [u8; 24],
@@ -113,20 +172,31 @@ fn named_event(
     line: &mut [u32; 24],
     live: &mut u32,
     children: &mut [u32; 32],
-    held: &mut [u32; 32],
-    retained: &mut [u32; 32],
-    writers: &mut [u32; 16],
+    held: &mut [u32],
+    retained: &mut [u32],
+    writers: &mut [u32],
     work: &mut [u8],
     store: &mut [u8],
-    reserved: &mut u16,
+    reserved: &mut u64,
     identity: &mut u8,
+    records: usize,
+    joint: bool,
     e: Event,
     t: TransactionNumber,
 ) -> Answer
-    requires { ⌜ (transactionOf t ≡ e .transaction) × (1 < e .kind) × (e .kind < 10) × (e .kind ≢ 7) × (e .kind ≢ 8) × InRange e × Intact (arrays (now up) (now parent) (now depth) (now line) (now held) (now retained) (now writers) (now work) (now store)) × (now up ≡ 1) × Kin (now parent) (now depth) (now live) (now children) × Reserves (now store) (now reserved) (now identity) ⌝ }
-    ensures { λ a. let before = arrays (now (up .entry)) (now (parent .entry)) (now (depth .entry)) (now (line .entry)) (now (held .entry)) (now (retained .entry)) (now (writers .entry)) (now (work .entry)) (now (store .entry)) in let after = arrays (now (up .exit)) (now (parent .exit)) (now (depth .exit)) (now (line .exit)) (now (held .exit)) (now (retained .exit)) (now (writers .exit)) (now (work .exit)) (now (store .exit)) in ⌜ Stepped before (meaning e) a after ⌝ }
+    requires { let edition = editionOf records joint in
+        let here = arrays (now up) (now parent) (now depth) (now line) (now held) (now retained) (now writers) (now work) (now store) in
+        ⌜ (transactionOf t ≡ e .transaction) × (1 < e .kind) × (e .kind < 10) × (e .kind ≢ 7) × (e .kind ≢ 8) × InWord (geometryOf edition) e
+        × Intact (formOf edition) here × (now up ≡ 1) × Kin (now parent) (now depth) (now live) (now children)
+        × Reserves (geometryOf edition) (now store) (now reserved) (now identity)
+        × InNumbers edition records joint × (8 < e .kind → joint ≡ true) ⌝ }
+    ensures { λ a.
+        let before = arrays (now (up .entry)) (now (parent .entry)) (now (depth .entry)) (now (line .entry)) (now (held .entry)) (now (retained .entry)) (now (writers .entry)) (now (work .entry)) (now (store .entry)) in
+        let after = arrays (now (up .exit)) (now (parent .exit)) (now (depth .exit)) (now (line .exit)) (now (held .exit)) (now (retained .exit)) (now (writers .exit)) (now (work .exit)) (now (store .exit)) in
+        let edition = editionOf records joint in
+        ⌜ Stepped (formOf edition) before (meaning e) a after ⌝ }
     ensures { λ _. ⌜ Kin (now (parent .exit)) (now (depth .exit)) (now (live .exit)) (now (children .exit)) ⌝ }
-    ensures { λ _. ⌜ Reserves (now (store .exit)) (now (reserved .exit)) (now (identity .exit)) ⌝ }
+    ensures { λ _. ⌜ Reserves (geometryOf (editionOf records joint)) (now (store .exit)) (now (reserved .exit)) (now (identity .exit)) ⌝ }
 {
     let kind = e.kind;
     if depth[e.transaction as usize] == 0 {
@@ -150,6 +220,8 @@ fn named_event(
             store,
             reserved,
             identity,
+            records,
+            joint,
             e,
             t,
         );
@@ -160,9 +232,8 @@ fn named_event(
             value: 0,
         };
     }
-    match RecordNumber::checked(e.rec) {
+    match RecordNumber::checked(e.rec, records as u8) {
         RecordNamed::Number(r) => record_event(
-            up,
             parent,
             depth,
             line,
@@ -172,10 +243,12 @@ fn named_event(
             work,
             store,
             *reserved,
+            records,
             e,
             t,
             r,
         ),
+        // not reached: an event whose fields are in range names a record that there is
         RecordNamed::NoSuchRecord => Answer {
             number: 1,
             value: 0,
@@ -191,19 +264,29 @@ pub fn step(
     line: &mut [u32; 24],
     live: &mut u32,
     children: &mut [u32; 32],
-    held: &mut [u32; 32],
-    retained: &mut [u32; 32],
-    writers: &mut [u32; 16],
+    held: &mut [u32],
+    retained: &mut [u32],
+    writers: &mut [u32],
     work: &mut [u8],
     store: &mut [u8],
-    reserved: &mut u16,
+    reserved: &mut u64,
     identity: &mut u8,
+    records: usize,
+    joint: bool,
     e: Event,
 ) -> Answer
-    requires { ⌜ InRange e × Intact (arrays (now up) (now parent) (now depth) (now line) (now held) (now retained) (now writers) (now work) (now store)) × Kin (now parent) (now depth) (now live) (now children) × Reserves (now store) (now reserved) (now identity) ⌝ }
-    ensures { λ a. let before = arrays (now (up .entry)) (now (parent .entry)) (now (depth .entry)) (now (line .entry)) (now (held .entry)) (now (retained .entry)) (now (writers .entry)) (now (work .entry)) (now (store .entry)) in let after = arrays (now (up .exit)) (now (parent .exit)) (now (depth .exit)) (now (line .exit)) (now (held .exit)) (now (retained .exit)) (now (writers .exit)) (now (work .exit)) (now (store .exit)) in ⌜ Stepped before (meaning e) a after × Intact after ⌝ }
+    requires { let edition = editionOf records joint in
+        let here = arrays (now up) (now parent) (now depth) (now line) (now held) (now retained) (now writers) (now work) (now store) in
+        ⌜ InWord (geometryOf edition) e × Intact (formOf edition) here × Kin (now parent) (now depth) (now live) (now children)
+        × Reserves (geometryOf edition) (now store) (now reserved) (now identity)
+        × InNumbers edition records joint × (8 < e .kind → joint ≡ true) ⌝ }
+    ensures { λ a.
+        let before = arrays (now (up .entry)) (now (parent .entry)) (now (depth .entry)) (now (line .entry)) (now (held .entry)) (now (retained .entry)) (now (writers .entry)) (now (work .entry)) (now (store .entry)) in
+        let after = arrays (now (up .exit)) (now (parent .exit)) (now (depth .exit)) (now (line .exit)) (now (held .exit)) (now (retained .exit)) (now (writers .exit)) (now (work .exit)) (now (store .exit)) in
+        let edition = editionOf records joint in
+        ⌜ Stepped (formOf edition) before (meaning e) a after × Intact (formOf edition) after ⌝ }
     ensures { λ _. ⌜ Kin (now (parent .exit)) (now (depth .exit)) (now (live .exit)) (now (children .exit)) ⌝ }
-    ensures { λ _. ⌜ Reserves (now (store .exit)) (now (reserved .exit)) (now (identity .exit)) ⌝ }
+    ensures { λ _. ⌜ Reserves (geometryOf (editionOf records joint)) (now (store .exit)) (now (reserved .exit)) (now (identity .exit)) ⌝ }
 {
     let kind = e.kind;
     let t = e.transaction;
@@ -224,10 +307,11 @@ pub fn step(
             held,
             retained,
             writers,
+            records,
         );
     }
     if kind == 8 {
-        return crashes::recover_event(up, store, e.count);
+        return crashes::recover_event(up, store, records, joint, e.count);
     }
     if *up != 1 {
         return Answer {
@@ -254,6 +338,8 @@ pub fn step(
                     store,
                     reserved,
                     identity,
+                    records,
+                    joint,
                     false,
                     e.count,
                     e.value,
@@ -272,6 +358,8 @@ pub fn step(
                 store,
                 reserved,
                 identity,
+                records,
+                joint,
                 true,
                 e.count,
                 e.value,
@@ -294,6 +382,8 @@ pub fn step(
             store,
             reserved,
             identity,
+            records,
+            joint,
             e,
             n,
         ),

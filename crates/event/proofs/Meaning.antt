@@ -2,7 +2,9 @@
 use mathlib.Core.Path.{_≡_, refl}
 use mathlib.Core.Option.{none, some}
 use Rattle.rules.specs.Event.{eventOf, accessOf, reportOf, decisionOf, begin, lock, write, read, commit, abort, crash, recover, prepare, decide, query}
-use Rattle.event.specs.Meaning.{meaning, fieldsOf}
+use Rattle.rules.specs.Geometry.{records}
+use Rattle.rules.specs.Editions.{geometry1}
+use Rattle.event.specs.Meaning.{meaning, fieldsOf, InRange, InWord}
 use Rattle.event.specs.declared.Event.{Event}
 
 pub means-bad : (e : Event) → e .kind ≡ 0 → meaning e ≡ none
@@ -52,3 +54,12 @@ means-decide e h = rw h refl
 pub means-query : (e : Event) → e .kind ≡ 11 → meaning e ≡ some (query (e .value))
 unfolding meaning fieldsOf eventOf
 means-query e h = rw h refl
+
+-- edition 1's word
+pub in-word1 : (e : Event) → InRange e → InWord geometry1 e
+unfolding records
+in-word1 e R = record { kind = R .kind; transaction = R .transaction; rec = R .rec; offset = R .offset; count = R .count; value = R .value; joint = λ h. refl }
+
+pub in-range1 : (e : Event) → InWord geometry1 e → InRange e
+unfolding records
+in-range1 e R = record { kind = R .kind; transaction = R .transaction; rec = R .rec; offset = R .offset; count = R .count; value = R .value }

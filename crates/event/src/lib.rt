@@ -1,12 +1,31 @@
-// The event word: kind, transaction, record, offset, count and value, most significant first, and the fields that each kind uses.
+// The event word: kind, transaction, record, offset, count and value, most significant first, and the fields that each kind uses; and the answer to an event.
 ghost use mathlib.Core.Path.{_≡_};
 ghost use Prim.Native.Nat.{_+_, _*_, _/_, _%_, _<_, _≤_};
-ghost use lib.ListN.{length, take, drop};
+ghost use lib.ListN.{length, set, take, drop};
 ghost use Rattle.laws.specs.Bytes.{number};
 ghost use Rattle.rules.specs.Event.{decode, word};
 ghost use Rattle.rules.specs.Editions.{geometry1};
 ghost use Rattle.event.specs.Flags.{flags};
 ghost use Rattle.event.specs.Meaning.{meaning, InRange, Fits};
+
+
+// An answer's two bytes.
+pub struct Answer {
+    pub number: u8,
+    pub value: u8,
+}
+
+impl Answer {
+    // The answer to event k.
+    pub fn put(answers: &mut [u8], k: usize, a: Answer)
+        requires { ⌜ (k < 4096) × (2 * k + 2 ≤ length (now answers)) ⌝ }
+        ensures { λ _. ⌜ now (answers .exit) ≡ set (set (now (answers .entry)) (2 * k) (a .number)) (2 * k + 1) (a .value) ⌝ }
+    {
+        let at = 2 * k;
+        answers[at] = a.number;
+        answers[at + 1] = a.value;
+    }
+}
 
 // An event by its fields. Kind 0 is a bad event.
 pub struct Event {
@@ -160,7 +179,7 @@ impl Event {
 
     // Word k of a list of events: four bytes, most significant first.
     pub fn word_at(events: &[u8], k: usize) -> u32
-        requires { ⌜ (k < 4096) × (4 * k + 4 ≤ length (now events)) ⌝ }
+        requires { ⌜ (k < 8192) × (4 * k + 4 ≤ length (now events)) ⌝ }
         ensures { λ r. ⌜ r ≡ number (take 4 (drop (4 * k) (now (events .entry)))) ⌝ }
     {
         let at = 4 * k;

@@ -1,62 +1,50 @@
-// The events, in place. The engine's state is a few arrays, each lent to the functions that need it.
-//   up              1 while up, 0 while down
-//   parent, depth   of each transaction; 0 where the number is free; a top transaction has the parent 31
-//   line            of each transaction: the set of itself and its ancestors; empty where the number is free
-//   live            the set of live transactions
-//   children        of each parent: the set of its live children; at 31 the top transactions
-//   held, retained  of each record: at 2 * r the set of transactions that hold or retain its lock, at 2 * r + 1 of those that do so in write mode
-//   writers         of each record: the set of transactions that have a version of it
-//   work            slot r * DEPTHS + depth - 1 holds the version of record r of the writer at that depth
+// Locks, reads, writes and aborts, in place. The engine's state is a few arrays (crate state tells what each holds); each function is lent those that it
+// needs. It promises, for every edition and for any content of the other arrays, what the rules say of its event.
 ghost use mathlib.Core.Path.{_≡_};
-ghost use mathlib.Core.Bool.{false};
+ghost use mathlib.Core.Bool.{Bool};
 ghost use mathlib.Core.List.{List};
-ghost use mathlib.Core.Option.{Option, none, some};
-ghost use Prim.Native.Nat.{ℕ, _+_, _*_, _/_, _<_, _≤_};
-ghost use lib.ListN.{length, getD, set, replicate};
-ghost use Rattle.laws.specs.Bits.{bits};
-ghost use Rattle.rules.specs.Event.{begin, lock, write, read, commit, abort, crash, recover};
-ghost use Rattle.rules.specs.Step.{hasChild};
-ghost use Rattle.rules.specs.Editions.{depths, workBytes};
-ghost use Rattle.sets.specs.Sets.{sets};
+ghost use Prim.Native.Nat.{ℕ, _+_, _*_, _<_, _≤_};
+ghost use lib.ListN.{length, getD, take, drop};
+ghost use Rattle.rules.specs.Event.{lock, write, read, abort};
+ghost use Rattle.rules.specs.Editions.{Edition, geometryOf, formOf, InNumbers};
+ghost use Rattle.rules.specs.Form.{Form, Medium};
 ghost use Rattle.arrays.specs.Changes.{accessWhen};
 ghost use Rattle.arrays.specs.Kin.{Kin};
 ghost use Rattle.slots.specs.Parts.{Sources};
 ghost use Rattle.numbers.specs.Named.{transactionOf, recordOf};
-ghost use Rattle.events.specs.Whole.{Arrays, arrays, view, Intact, Stepped, Ready, ReadyLeaf, Reserves};
+ghost use Rattle.state.specs.Whole.{Arrays, arrays, Ready, ReadyLeaf, Reserves, Does};
+use event::Answer;
 use numbers::RecordNumber;
 use numbers::TransactionNumber;
 
-// An answer's two bytes.
-pub struct Answer {
-    pub number: u8,
-    pub value: u8,
-}
-
-// Each event takes the arrays that it needs. It promises, for all content of the others, what the rules say. Locks, reads and writes are those of
-// a transaction without a live child.
+// Locks, reads and writes are those of a transaction without a live child: who calls has refused the others (14).
 
 // A lock is asked for, to read beside others or to write: granted, or refused with 8, also where a prepared transaction changed the record.
+// `reserved` is the map of the records that it changed, 0 where none is prepared.
 pub fn lock_event(
     line: &[u32; 24],
-    held: &mut [u32; 32],
-    retained: &[u32; 32],
-    reserved: u16,
+    held: &mut [u32],
+    retained: &[u32],
+    reserved: u64,
+    records: usize,
     t: TransactionNumber,
     r: RecordNumber,
     reading: bool,
 ) -> Answer
-    requires { ⌜ (length (now held) ≡ 32) ⌝ }
-    ensures { λ a. ⌜ ((up identity : ℕ) (parent depth writers work store : List ℕ) → let before = arrays up parent depth (now (line .entry)) (now (held .entry)) (now (retained .entry)) writers work store in let after = arrays up parent depth (now (line .entry)) (now (held .exit)) (now (retained .entry)) writers work store in Intact before → ReadyLeaf before (transactionOf t) → Reserves store reserved identity → Stepped before (some (lock (transactionOf t) (recordOf r) (accessWhen reading))) a after) ⌝ }
+    requires { ⌜ (records ≤ 64) × (recordOf r < records) × (length (now held) ≡ 2 * records) × (length (now retained) ≡ 2 * records) ⌝ }
+    ensures { λ a. ⌜ ((k : Edition) (joint : Bool) (up identity : ℕ) (parent depth writers work store : List ℕ) →
+        let before = arrays up parent depth (now (line .entry)) (now (held .entry)) (now (retained .entry)) writers work store in
+        let after = arrays up parent depth (now (line .entry)) (now (held .exit)) (now (retained .entry)) writers work store in
+        InNumbers k records joint → Reserves (geometryOf k) store reserved identity
+        → Does (formOf k) (ReadyLeaf (formOf k)) before (transactionOf t) (lock (transactionOf t) (recordOf r) (accessWhen reading)) a after) ⌝ }
 {
-    let n = t.number();
-    let q = r.index();
-    if commitpage::names(reserved, r.number()) {
+    if commitpage::names(reserved, records as u8, r.number()) {
         return Answer {
             number: 8,
             value: 0,
         };
     }
-    let ok = locks::lock(line, held, retained, n, q, reading);
+    let ok = locks::lock(line, held, retained, t, r, reading);
     if ok {
         return Answer {
             number: 0,
@@ -69,27 +57,31 @@ pub fn lock_event(
     }
 }
 
-// A byte is read: the lock must be held by that very transaction, in any mode.
+// A byte is read: the lock must be held by that very transaction, in any mode. The record's home page begins at byte `at` of the store.
 pub fn read_event(
     parent: &[u8; 24],
     depth: &[u8; 24],
-    held: &[u32; 32],
-    writers: &[u32; 16],
+    held: &[u32],
+    writers: &[u32],
     work: &[u8],
     store: &[u8],
+    at: usize,
     t: TransactionNumber,
     r: RecordNumber,
     o: usize,
 ) -> Answer
-    requires { ⌜ (o < 32) × (length (now work) ≡ workBytes) × (length (now store) ≡ 1056) × Sources (now parent) (now depth) ⌝ }
-    ensures { λ a. ⌜ ((up : ℕ) (line retained : List ℕ) → Intact (arrays up (now (parent .entry)) (now (depth .entry)) line (now (held .entry)) retained (now (writers .entry)) (now (work .entry)) (now (store .entry))) → ReadyLeaf (arrays up (now (parent .entry)) (now (depth .entry)) line (now (held .entry)) retained (now (writers .entry)) (now (work .entry)) (now (store .entry))) (transactionOf t) → Stepped (arrays up (now (parent .entry)) (now (depth .entry)) line (now (held .entry)) retained (now (writers .entry)) (now (work .entry)) (now (store .entry))) (some (read (transactionOf t) (recordOf r) o)) a (arrays up (now (parent .entry)) (now (depth .entry)) line (now (held .entry)) retained (now (writers .entry)) (now (work .entry)) (now (store .entry)))) ⌝ }
+    requires { ⌜ (o < 32) × (recordOf r < length (now writers)) × (length (now writers) ≤ 64) × (length (now held) ≡ 2 * length (now writers))
+        × (length (now work) ≡ 512 * length (now writers)) × (at + 32 ≤ length (now store)) × Sources (now parent) (now depth) ⌝ }
+    ensures { λ a. ⌜ ((k : Edition) (up : ℕ) (line retained : List ℕ) →
+        let stored = now (store .entry) in
+        let before = arrays up (now (parent .entry)) (now (depth .entry)) line (now (held .entry)) retained (now (writers .entry)) (now (work .entry)) stored in
+        take 32 (drop at stored) ≡ formOf k .medium .home (formOf k .medium .fromBytes stored) (recordOf r)
+        → Does (formOf k) (ReadyLeaf (formOf k)) before (transactionOf t) (read (transactionOf t) (recordOf r) o) a before) ⌝ }
 {
-    let n = t.number();
-    let q = r.index();
-    if locks::holds(held, n, q) {
+    if locks::holds(held, t, r) {
         return Answer {
             number: 0,
-            value: slots::read(parent, depth, writers, work, store, n, q, o),
+            value: slots::read(parent, depth, writers, work, store, at, t, r, o),
         };
     }
     Answer {
@@ -98,26 +90,33 @@ pub fn read_event(
     }
 }
 
-// A byte is written, into the transaction's own version: the lock must be held by that very transaction, in write mode.
+// A byte is written, into the transaction's own version: the lock must be held by that very transaction, in write mode. The record's home page begins at
+// byte `at` of the store.
 pub fn write_event(
     parent: &[u8; 24],
     depth: &[u8; 24],
-    held: &[u32; 32],
-    writers: &mut [u32; 16],
+    held: &[u32],
+    writers: &mut [u32],
     work: &mut [u8],
     store: &[u8],
+    at: usize,
     t: TransactionNumber,
     r: RecordNumber,
     o: usize,
     v: u8,
 ) -> Answer
-    requires { ⌜ (o < 32) × (length (now work) ≡ workBytes) × (length (now store) ≡ 1056) × (length (now writers) ≡ 16) × (0 < getD (now depth) (transactionOf t) 0) × Sources (now parent) (now depth) ⌝ }
-    ensures { λ a. ⌜ ((up : ℕ) (line retained : List ℕ) → Intact (arrays up (now (parent .entry)) (now (depth .entry)) line (now (held .entry)) retained (now (writers .entry)) (now (work .entry)) (now (store .entry))) → ReadyLeaf (arrays up (now (parent .entry)) (now (depth .entry)) line (now (held .entry)) retained (now (writers .entry)) (now (work .entry)) (now (store .entry))) (transactionOf t) → Stepped (arrays up (now (parent .entry)) (now (depth .entry)) line (now (held .entry)) retained (now (writers .entry)) (now (work .entry)) (now (store .entry))) (some (write (transactionOf t) (recordOf r) o v)) a (arrays up (now (parent .entry)) (now (depth .entry)) line (now (held .entry)) retained (now (writers .exit)) (now (work .exit)) (now (store .entry)))) ⌝ }
+    requires { ⌜ (o < 32) × (recordOf r < length (now writers)) × (length (now writers) ≤ 64) × (length (now held) ≡ 2 * length (now writers))
+        × (length (now work) ≡ 512 * length (now writers)) × (at + 32 ≤ length (now store)) × (0 < getD (now depth) (transactionOf t) 0)
+        × Sources (now parent) (now depth) ⌝ }
+    ensures { λ a. ⌜ ((k : Edition) (up : ℕ) (line retained : List ℕ) →
+        let stored = now (store .entry) in
+        let before = arrays up (now (parent .entry)) (now (depth .entry)) line (now (held .entry)) retained (now (writers .entry)) (now (work .entry)) stored in
+        let after = arrays up (now (parent .entry)) (now (depth .entry)) line (now (held .entry)) retained (now (writers .exit)) (now (work .exit)) stored in
+        take 32 (drop at stored) ≡ formOf k .medium .home (formOf k .medium .fromBytes stored) (recordOf r)
+        → Does (formOf k) (ReadyLeaf (formOf k)) before (transactionOf t) (write (transactionOf t) (recordOf r) o v) a after) ⌝ }
 {
-    let n = t.number();
-    let i = r.index();
-    if locks::holds_writing(held, n, i) {
-        slots::write(parent, depth, writers, work, store, n, i, o, v);
+    if locks::holds_writing(held, t, r) {
+        slots::write(parent, depth, writers, work, store, at, t, r, o, v);
         return Answer {
             number: 0,
             value: 0,
@@ -136,25 +135,32 @@ pub fn abort_event(
     line: &mut [u32; 24],
     live: &mut u32,
     children: &mut [u32; 32],
-    held: &mut [u32; 32],
-    retained: &mut [u32; 32],
-    writers: &mut [u32; 16],
+    held: &mut [u32],
+    retained: &mut [u32],
+    writers: &mut [u32],
+    records: usize,
     t: TransactionNumber,
     report: bool,
 ) -> Answer
-    requires { ⌜ (length (now parent) ≡ 24) × (length (now depth) ≡ 24) × (length (now line) ≡ 24) × (length (now held) ≡ 32) × (length (now retained) ≡ 32) × (length (now writers) ≡ 16) × Sources (now parent) (now depth) × Kin (now parent) (now depth) (now live) (now children) ⌝ }
-    ensures { λ a. ⌜ ((up : ℕ) (work store : List ℕ) → Intact (arrays up (now (parent .entry)) (now (depth .entry)) (now (line .entry)) (now (held .entry)) (now (retained .entry)) (now (writers .entry)) work store) → Ready (arrays up (now (parent .entry)) (now (depth .entry)) (now (line .entry)) (now (held .entry)) (now (retained .entry)) (now (writers .entry)) work store) (transactionOf t) → Stepped (arrays up (now (parent .entry)) (now (depth .entry)) (now (line .entry)) (now (held .entry)) (now (retained .entry)) (now (writers .entry)) work store) (some (abort (transactionOf t) report)) a (arrays up (now (parent .exit)) (now (depth .exit)) (now (line .exit)) (now (held .exit)) (now (retained .exit)) (now (writers .exit)) work store)) ⌝ }
+    requires { ⌜ (length (now parent) ≡ 24) × (length (now depth) ≡ 24) × (length (now line) ≡ 24) × (records ≤ 64)
+        × (length (now held) ≡ 2 * records) × (length (now retained) ≡ 2 * records) × (length (now writers) ≡ records)
+        × Sources (now parent) (now depth) × Kin (now parent) (now depth) (now live) (now children) ⌝ }
+    ensures { λ a. ⌜ ((k : Edition) (up : ℕ) (work store : List ℕ) →
+        let before = arrays up (now (parent .entry)) (now (depth .entry)) (now (line .entry)) (now (held .entry)) (now (retained .entry)) (now (writers .entry)) work store in
+        let after = arrays up (now (parent .exit)) (now (depth .exit)) (now (line .exit)) (now (held .exit)) (now (retained .exit)) (now (writers .exit)) work store in
+        Does (formOf k) (Ready (formOf k)) before (transactionOf t) (abort (transactionOf t) report) a after) ⌝ }
     ensures { λ _. ⌜ Kin (now (parent .exit)) (now (depth .exit)) (now (live .exit)) (now (children .exit)) ⌝ }
 {
     let n = t.number();
     let i = n as usize;
     let told = report & (1 < depth[i]);
-    locks::report(held, retained, n, parent[i], told);
+    let places = 2 * records;
+    locks::report(&held[..], retained, places, n, parent[i], told);
     let gone = transactions::descendants(line, n);
-    locks::discard(held, retained, writers, gone);
+    locks::discard(held, retained, writers, records, gone);
     transactions::end(parent, depth, line, gone);
     *live = sets::minus(*live, gone);
-    locks::leave(children, gone);
+    locks::leave(&mut children[..], 32, gone);
     Answer {
         number: 0,
         value: 0,

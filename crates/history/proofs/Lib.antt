@@ -25,3 +25,4 @@ pub mod EntryTrials
 pub mod Example
 pub mod NameTrials
 pub mod Survival
+pub mod Editions

@@ -1,59 +1,77 @@
 -- The refusals by the lengths of the buffers; where none is refused, the lengths are right.
-use mathlib.Core.Path.{_≡_, refl}
+use mathlib.Core.Path.{_≡_, refl, sym, ap, _∙_}
 use mathlib.Core.Bool.{Bool, true, false, not, cond, _||_}
-use mathlib.Core.List.{List}
+use mathlib.Core.List.{List, [], _∷_}
 use mathlib.Core.Logic.{_≢_}
 use mathlib.Core.Option.{Option, none, some}
-use Prim.Native.Nat.{ℕ, _*_, _/_, _%_, _<_, _≤_}
+use Prim.Native.Nat.{ℕ, _+_, _*_, _/_, _%_, _<_, _≤_}
 use native.Mathlib.Omega.{arith}
 use lib.ListN.{length}
 use Rattle.laws.specs.Tests.{same, under}
 use Rattle.laws.proofs.Tests.{same-refl, same-eq, ne-false, lt-under, not-under, or-false-left, or-false-right}
 use Rattle.laws.proofs.Booleans.{not-false}
-use Rattle.rules.specs.Geometry.{open-geometry}
+use Rattle.rules.specs.Geometry.{Geometry, records, workSize, wordSize, longest}
+use Rattle.rules.specs.Form.{atomic}
 use Rattle.rules.specs.Step.{firstOf}
 use Rattle.rules.specs.Run.{runRefusals, eventsIn}
-use Rattle.rules.specs.Editions.{edition1, workBytes}
+use Rattle.rules.specs.Editions.{depths}
 use Rattle.rules.proofs.Cuts.{not-lt-under}
-use Rattle.lengths.specs.Lengths.{lengthsRefused, questionRefused, refusalNumber}
+use Rattle.lengths.specs.Lengths.{storeBytes, workBytes, lengthsRefused, questionRefused, refusalNumber}
+use Rattle.lengths.proofs.Sizes.{store-size, work-size}
 
-pub refused-store : (s e w a : ℕ) → s ≢ 1056 → 22 ≡ refusalNumber (lengthsRefused s e w a)
-unfolding lengthsRefused refusalNumber firstOf
-refused-store s e w a h = rw (ne-false s 1056 h)
+-- n records, words of s bytes
+module _ (n s : ℕ) where
+  pub refused-store : (b e w a : ℕ) → b ≢ storeBytes n → 22 ≡ refusalNumber (lengthsRefused n s b e w a)
+  unfolding lengthsRefused refusalNumber firstOf
+  refused-store b e w a h = rw (ne-false b (storeBytes n) h)
 
-pub refused-work : (e w a : ℕ) → w ≢ workBytes → 24 ≡ refusalNumber (lengthsRefused 1056 e w a)
-unfolding lengthsRefused refusalNumber firstOf
-refused-work e w a h = rw (same-refl 1056, ne-false w workBytes h)
+  pub refused-work : (b e w a : ℕ) → b ≡ storeBytes n → w ≢ workBytes n → 24 ≡ refusalNumber (lengthsRefused n s b e w a)
+  unfolding lengthsRefused refusalNumber firstOf
+  refused-work b e w a p h = rw (p, same-refl (storeBytes n), ne-false w (workBytes n) h)
 
-pub refused-part : (e a : ℕ) → e % 4 ≢ 0 → 20 ≡ refusalNumber (lengthsRefused 1056 e workBytes a)
-unfolding lengthsRefused refusalNumber firstOf
-refused-part e a h = rw (same-refl 1056, same-refl workBytes, ne-false (e % 4) 0 h)
+  pub refused-part : (b e w a : ℕ) → b ≡ storeBytes n → w ≡ workBytes n → e % s ≢ 0 → 20 ≡ refusalNumber (lengthsRefused n s b e w a)
+  unfolding lengthsRefused refusalNumber firstOf
+  refused-part b e w a p q h = rw (p, q, same-refl (storeBytes n), same-refl (workBytes n), ne-false (e % s) 0 h)
 
-pub refused-long : (e a : ℕ) → e % 4 ≡ 0 → 16384 < e → 20 ≡ refusalNumber (lengthsRefused 1056 e workBytes a)
-unfolding lengthsRefused refusalNumber firstOf
-refused-long e a h k = rw (same-refl 1056, same-refl workBytes, h, same-refl 0, lt-under 16384 e k)
+  pub refused-long : (b e w a : ℕ) → b ≡ storeBytes n → w ≡ workBytes n → e % s ≡ 0 → longest * s < e → 20 ≡ refusalNumber (lengthsRefused n s b e w a)
+  unfolding lengthsRefused refusalNumber firstOf
+  refused-long b e w a p q h k = rw (p, q, same-refl (storeBytes n), same-refl (workBytes n), h, same-refl 0, lt-under (longest * s) e k)
 
-pub refused-answers : (e a : ℕ) → e % 4 ≡ 0 → e ≤ 16384 → a < e / 4 * 2 → 21 ≡ refusalNumber (lengthsRefused 1056 e workBytes a)
-unfolding lengthsRefused refusalNumber firstOf
-refused-answers e a h k m = rw (same-refl 1056, same-refl workBytes, h, same-refl 0, not-lt-under 16384 e k, lt-under a (2 * (e / 4)) (omega (arith, m)))
+  pub refused-answers : (b e w a : ℕ) → b ≡ storeBytes n → w ≡ workBytes n → e % s ≡ 0 → e ≤ longest * s → a < e / s * 2 → 21 ≡ refusalNumber (lengthsRefused n s b e w a)
+  unfolding lengthsRefused refusalNumber firstOf
+  refused-answers b e w a p q h k m =
+      rw (p, q, same-refl (storeBytes n), same-refl (workBytes n), h, same-refl 0, not-lt-under (longest * s) e k, lt-under a (2 * (e / s)) (omega (arith, m)))
 
-pub refused-not : (e a : ℕ) → e % 4 ≡ 0 → e ≤ 16384 → e / 4 * 2 ≤ a → 0 ≡ refusalNumber (lengthsRefused 1056 e workBytes a)
-unfolding lengthsRefused refusalNumber firstOf
-refused-not e a h k m = rw (same-refl 1056, same-refl workBytes, h, same-refl 0, not-lt-under 16384 e k, not-lt-under a (2 * (e / 4)) (omega (arith, m)))
+  pub refused-not : (b e w a : ℕ) → b ≡ storeBytes n → w ≡ workBytes n → e % s ≡ 0 → e ≤ longest * s → e / s * 2 ≤ a → 0 ≡ refusalNumber (lengthsRefused n s b e w a)
+  unfolding lengthsRefused refusalNumber firstOf
+  refused-not b e w a p q h k m =
+      rw (p, q, same-refl (storeBytes n), same-refl (workBytes n), h, same-refl 0, not-lt-under (longest * s) e k, not-lt-under a (2 * (e / s)) (omega (arith, m)))
 
--- the lengths decide the run's refusal
-pub by-lengths : (store events work answers : List ℕ) → firstOf (runRefusals edition1 store events work answers) ≡ lengthsRefused (length store) (length events) (length work) (length answers)
-unfolding runRefusals lengthsRefused eventsIn open-geometry
-by-lengths store events work answers = refl
+  -- the lengths decide the run's refusal, in any geometry of these numbers
+  module _ (g : Geometry) (many : records g ≡ n) (wide : wordSize g ≡ s) (deep : g .depthLimit ≡ depths) where
+    pub by-lengths : (store events work answers : List ℕ)
+        → firstOf (runRefusals (atomic g) store events work answers) ≡ lengthsRefused n s (length store) (length events) (length work) (length answers)
+    unfolding runRefusals lengthsRefused eventsIn
+    by-lengths store events work answers =
+        ap (refusalsBy (wordSize g) (workSize g)) (store-size n g many) ∙ ap (λ (w : ℕ). refusalsBy (wordSize g) w (storeBytes n)) (work-size n g many deep) ∙ ap (λ (x : ℕ). refusalsBy x (workBytes n) (storeBytes n)) wide
+      where
+        refusalsBy : ℕ → ℕ → ℕ → Option ℕ
+        refusalsBy x w b =
+            firstOf (
+            (22, not (same (length store) b)) ∷
+            (24, not (same (length work) w)) ∷
+            (20, not (same (length events % x) 0) || under (longest * x) (length events)) ∷
+            (21, under (length answers) (2 * (length events / x))) ∷
+            [])
 
 -- nothing is refused exactly where the number is 0: then the buffers have their lengths
-pub record Lengths (s e w a : ℕ) : Type 0 where
-  pub none-is : lengthsRefused s e w a ≡ none
-  pub store : s ≡ 1056
-  pub work : w ≡ workBytes
-  pub whole : e % 4 ≡ 0
-  pub short : e ≤ 16384
-  pub room : e ≤ 2 * a
+pub record Lengths (n s b e w a : ℕ) : Type 0 where
+  pub none-is : lengthsRefused n s b e w a ≡ none
+  pub store : b ≡ storeBytes n
+  pub work : w ≡ workBytes n
+  pub whole : e % s ≡ 0
+  pub short : e ≤ longest * s
+  pub room : 2 * (e / s) ≤ a
 
 tests : Bool → Bool → Bool → Bool → Option ℕ
 tests b c d f = cond b (some 22) (cond c (some 24) (cond d (some 20) (cond f (some 21) none)))
@@ -69,57 +87,58 @@ pass-all false false true f e = absurd (omega (arith, e))
 pass-all false false false true e = absurd (omega (arith, e))
 pass-all false false false false e = passed refl refl refl refl
 
-pub lengths-of : (s e w a : ℕ) → refusalNumber (lengthsRefused s e w a) ≡ 0 → Lengths s e w a
+pub lengths-of : (n s b e w a : ℕ) → refusalNumber (lengthsRefused n s b e w a) ≡ 0 → Lengths n s b e w a
 unfolding lengthsRefused firstOf tests
-lengths-of s e w a z = go (pass-all (not (same s 1056)) (not (same w workBytes)) (not (same (e % 4) 0) || under 16384 e) (under a (2 * (e / 4))) z)
+lengths-of n s b e w a z = go (pass-all (not (same b (storeBytes n))) (not (same w (workBytes n))) (not (same (e % s) 0) || under (longest * s) e) (under a (2 * (e / s))) z)
   where
-    go : Passed (not (same s 1056)) (not (same w workBytes)) (not (same (e % 4) 0) || under 16384 e) (under a (2 * (e / 4))) → Lengths s e w a
+    go : Passed (not (same b (storeBytes n))) (not (same w (workBytes n))) (not (same (e % s) 0) || under (longest * s) e) (under a (2 * (e / s))) → Lengths n s b e w a
     go (passed p q r t) = record {
       none-is = rw (p, q, r, t);
-      store = same-eq s 1056 (not-false _ p);
-      work = same-eq w workBytes (not-false _ q);
-      whole = same-eq (e % 4) 0 (not-false _ (or-false-left _ _ r));
-      short = not-under 16384 e (or-false-right (not (same (e % 4) 0)) _ r);
-      room = let w : e % 4 ≡ 0 = same-eq (e % 4) 0 (not-false _ (or-false-left _ _ r)) in let m : 2 * (e / 4) ≤ a = not-under a (2 * (e / 4)) t in omega arith;
+      store = same-eq b (storeBytes n) (not-false _ p);
+      work = same-eq w (workBytes n) (not-false _ q);
+      whole = same-eq (e % s) 0 (not-false _ (or-false-left _ _ r));
+      short = not-under (longest * s) e (or-false-right (not (same (e % s) 0)) _ r);
+      room = not-under a (2 * (e / s)) t;
     }
 
 -- of a question for a page write
-pub asks-store : (s e w b : ℕ) → s ≢ 1056 → 22 ≡ refusalNumber (questionRefused s e w b)
-unfolding questionRefused refusalNumber firstOf
-asks-store s e w b h = rw (ne-false s 1056 h)
+module _ (n s : ℕ) where
+  pub asks-store : (b e w p : ℕ) → b ≢ storeBytes n → 22 ≡ refusalNumber (questionRefused n s b e w p)
+  unfolding questionRefused refusalNumber firstOf
+  asks-store b e w p h = rw (ne-false b (storeBytes n) h)
 
-pub asks-work : (e w b : ℕ) → w ≢ workBytes → 24 ≡ refusalNumber (questionRefused 1056 e w b)
-unfolding questionRefused refusalNumber firstOf
-asks-work e w b h = rw (same-refl 1056, ne-false w workBytes h)
+  pub asks-work : (b e w p : ℕ) → b ≡ storeBytes n → w ≢ workBytes n → 24 ≡ refusalNumber (questionRefused n s b e w p)
+  unfolding questionRefused refusalNumber firstOf
+  asks-work b e w p h k = rw (h, same-refl (storeBytes n), ne-false w (workBytes n) k)
 
-pub asks-event : (e b : ℕ) → e ≢ 4 → 20 ≡ refusalNumber (questionRefused 1056 e workBytes b)
-unfolding questionRefused refusalNumber firstOf
-asks-event e b h = rw (same-refl 1056, same-refl workBytes, ne-false e 4 h)
+  pub asks-event : (b e w p : ℕ) → b ≡ storeBytes n → w ≡ workBytes n → e ≢ s → 20 ≡ refusalNumber (questionRefused n s b e w p)
+  unfolding questionRefused refusalNumber firstOf
+  asks-event b e w p h k m = rw (h, k, same-refl (storeBytes n), same-refl (workBytes n), ne-false e s m)
 
-pub asks-write : (b : ℕ) → b ≢ 33 → 21 ≡ refusalNumber (questionRefused 1056 4 workBytes b)
-unfolding questionRefused refusalNumber firstOf
-asks-write b h = rw (same-refl 1056, same-refl workBytes, same-refl 4, ne-false b 33 h)
+  pub asks-write : (b e w p : ℕ) → b ≡ storeBytes n → w ≡ workBytes n → e ≡ s → p ≢ 33 → 21 ≡ refusalNumber (questionRefused n s b e w p)
+  unfolding questionRefused refusalNumber firstOf
+  asks-write b e w p h k m q = rw (h, k, m, same-refl (storeBytes n), same-refl (workBytes n), same-refl s, ne-false p 33 q)
 
-pub asks-well : 0 ≡ refusalNumber (questionRefused 1056 4 workBytes 33)
-unfolding questionRefused refusalNumber firstOf
-asks-well = rw (same-refl 1056, same-refl workBytes, same-refl 4, same-refl 33)
+  pub asks-well : (b e w p : ℕ) → b ≡ storeBytes n → w ≡ workBytes n → e ≡ s → p ≡ 33 → 0 ≡ refusalNumber (questionRefused n s b e w p)
+  unfolding questionRefused refusalNumber firstOf
+  asks-well b e w p h k m q = rw (h, k, m, q, same-refl (storeBytes n), same-refl (workBytes n), same-refl s, same-refl 33)
 
-pub record Question (s e w b : ℕ) : Type 0 where
-  pub none-is : questionRefused s e w b ≡ none
-  pub store : s ≡ 1056
-  pub work : w ≡ workBytes
-  pub event : e ≡ 4
-  pub write : b ≡ 33
+pub record Question (n s b e w p : ℕ) : Type 0 where
+  pub none-is : questionRefused n s b e w p ≡ none
+  pub store : b ≡ storeBytes n
+  pub work : w ≡ workBytes n
+  pub event : e ≡ s
+  pub write : p ≡ 33
 
-pub question-of : (s e w b : ℕ) → refusalNumber (questionRefused s e w b) ≡ 0 → Question s e w b
+pub question-of : (n s b e w p : ℕ) → refusalNumber (questionRefused n s b e w p) ≡ 0 → Question n s b e w p
 unfolding questionRefused firstOf tests
-question-of s e w b z = go (pass-all (not (same s 1056)) (not (same w workBytes)) (not (same e 4)) (not (same b 33)) z)
+question-of n s b e w p z = go (pass-all (not (same b (storeBytes n))) (not (same w (workBytes n))) (not (same e s)) (not (same p 33)) z)
   where
-    go : Passed (not (same s 1056)) (not (same w workBytes)) (not (same e 4)) (not (same b 33)) → Question s e w b
-    go (passed p q r t) = record {
-      none-is = rw (p, q, r, t);
-      store = same-eq s 1056 (not-false _ p);
-      work = same-eq w workBytes (not-false _ q);
-      event = same-eq e 4 (not-false _ r);
-      write = same-eq b 33 (not-false _ t);
+    go : Passed (not (same b (storeBytes n))) (not (same w (workBytes n))) (not (same e s)) (not (same p 33)) → Question n s b e w p
+    go (passed h q r t) = record {
+      none-is = rw (h, q, r, t);
+      store = same-eq b (storeBytes n) (not-false _ h);
+      work = same-eq w (workBytes n) (not-false _ q);
+      event = same-eq e s (not-false _ r);
+      write = same-eq p 33 (not-false _ t);
     }

@@ -1,53 +1,64 @@
-// The refusals by the lengths of the buffers: of a run or a portion before its first event, and of a question for a page write.
+// The refusals by the lengths of the buffers: of a run or a portion before its first event, and of a question for a page write. An edition is told by its
+// number of records and by the bytes of its event word.
 ghost use mathlib.Core.Path.{_≡_};
+ghost use Prim.Native.Nat.{_<_, _≤_};
 ghost use Rattle.lengths.specs.Lengths.{lengthsRefused, questionRefused, refusalNumber};
 
-const STORE: usize = 1056;
-
-const WORK: usize = page::WORK;
-
-// The bytes of the longest list: 4,096 events.
-const EVENTS: usize = 16384;
-
-// One event word.
-const EVENT: usize = 4;
+// The events of the longest list.
+const LONGEST: usize = 4096;
 
 // A page write: the page's number, and the page.
 const PAGE_WRITE: usize = 33;
 
 // The refusal before the first event, by the lengths of the buffers; 0 for none.
-pub fn refusal(store: usize, events: usize, work: usize, answers: usize) -> u8
-    ensures { λ r. ⌜ r ≡ refusalNumber (lengthsRefused store events work answers) ⌝ }
+pub fn refusal(
+    records: usize,
+    word: usize,
+    store: usize,
+    events: usize,
+    work: usize,
+    answers: usize,
+) -> u8
+    requires { ⌜ (records ≤ 64) × (0 < word) × (word ≤ 8) ⌝ }
+    ensures { λ r. ⌜ r ≡ refusalNumber (lengthsRefused records word store events work answers) ⌝ }
 {
-    if store != STORE {
+    if store != 32 * (1 + (records + records)) {
         return 22;
     }
-    if work != WORK {
+    if work != 512 * records {
         return 24;
     }
-    if events % 4 != 0 {
+    if events % word != 0 {
         return 20;
     }
-    if EVENTS < events {
+    if LONGEST * word < events {
         return 20;
     }
-    if answers < events / 4 * 2 {
+    if answers < events / word * 2 {
         return 21;
     }
     0
 }
 
 // The refusal of a question for a page write, by the lengths of the buffers; 0 for none.
-pub fn question(stored: usize, event: usize, working: usize, write: usize) -> u8
-    ensures { λ r. ⌜ r ≡ refusalNumber (questionRefused stored event working write) ⌝ }
+pub fn question(
+    records: usize,
+    word: usize,
+    stored: usize,
+    event: usize,
+    working: usize,
+    write: usize,
+) -> u8
+    requires { ⌜ records ≤ 64 ⌝ }
+    ensures { λ r. ⌜ r ≡ refusalNumber (questionRefused records word stored event working write) ⌝ }
 {
-    if stored != STORE {
+    if stored != 32 * (1 + (records + records)) {
         return 22;
     }
-    if working != WORK {
+    if working != 512 * records {
         return 24;
     }
-    if event != EVENT {
+    if event != word {
         return 20;
     }
     if write != PAGE_WRITE {

@@ -12,4 +12,4 @@ use Rattle.arrays.specs.Changes.{barring, openTo, joinedFor}
 pub record Granting (a : Access) (line : ℕ → Bool) (held retained : List ℕ) (t r : ℕ) (answer : Bool) (after : List ℕ) : Type 0 where
   pub says : answer ≡ openTo (sets held) (sets retained) line t (barring a r)
   pub does : sets after ≡ cond answer (joinedFor a t r (sets held)) (sets held)
-  pub long : length after ≡ 32
+  pub long : length after ≡ length held

@@ -1,5 +1,2 @@
 -- The arguments of this crate.
 pub mod Running
-pub mod Portions
-pub mod PageWrites
-pub mod Chained

@@ -1,35 +1,32 @@
 // The open operations: a run, a portion, the page writes of an event, a fresh store, the age of a record, the two ends of a two-phase commit, the report
 // on transactions that wait for each other, the list of a job sheet, and the audit of a run. Any bytes may come in; each refuses or does what the rules say.
 ghost use mathlib.Core.Path.{_≡_};
-ghost use Prim.Native.Nat.{ℕ};
-ghost use mathlib.Core.List.{List};
-ghost use lib.ListN.{length, replicate};
 ghost use Rattle.rules.specs.Run.{layFresh};
 ghost use Rattle.rules.specs.Age.{ageOf};
-ghost use Rattle.rules.specs.Editions.{edition1, workBytes};
+ghost use Rattle.rules.specs.Editions.{edition1};
 ghost use Rattle.history.specs.Demand3.{Demand-3};
 ghost use Rattle.serial.specs.OneAtATime.{One-run-at-a-time};
 ghost use Rattle.records.specs.Ages.{ageNumber, ageLeft};
-ghost use Rattle.nekahuiro.specs.Running.{Ran};
-ghost use Rattle.nekahuiro.specs.Portions.{Kept, kept, Portioned-as};
-ghost use Rattle.nekahuiro.specs.PageWrites.{Told-as};
-ghost use Rattle.events.specs.Whole.{Intact};
-ghost use Rattle.portions.specs.Portion.{whole};
-ghost use Rattle.clauses.specs.Decides.{Decides};
+ghost use Rattle.running.specs.Running.{Ran};
+ghost use Rattle.lent.specs.Portions.{kept, Portioned-as};
+ghost use Rattle.lent.specs.PageWrites.{Told-as};
 ghost use Rattle.audit.specs.Audit.{audit1};
 ghost use Rattle.verdict.specs.Codes.{numberIn, placeIn};
 ghost use Rattle.messages.specs.Codes.{left};
 ghost use Rattle.messages.specs.Votes.{voteOn};
-ghost use Rattle.waitreport.specs.Reported.{Sound-aside, Reported, Reported-copied};
+ghost use Rattle.waitreport.specs.Reported.{Reported};
 ghost use Rattle.sheets.specs.Made.{Made};
-use event::Event;
 use portions::Engine;
-use waitreport::Report;
 use waitreport::Ring;
 use waitrows::Row;
-use waitrows::Rows;
 
-const STORE: usize = 1056;
+const RECORDS: usize = 16;
+
+// The bytes of an event word.
+const WORD: usize = 4;
+
+// Transactions can be prepared.
+const JOINT: bool = true;
 
 pub const WORK: usize = page::WORK;
 
@@ -38,11 +35,7 @@ pub const WORK: usize = page::WORK;
 pub extern "C" fn nekahuiro_fresh(store: &mut [u8]) -> u8
     ensures { λ r. ⌜ (r ≡ layFresh edition1 (now (store .entry)) .answer) × (now (store .exit) ≡ layFresh edition1 (now (store .entry)) .store) ⌝ }
 {
-    if store.len() != STORE {
-        return 22;
-    }
-    records::lay(store);
-    0
+    records::lay_fresh(store, RECORDS)
 }
 
 // Tells the age of a record: 0 live, 1 ahead, 2 stale, with the age in minutes left at `age`; or refused with 22, 23 or 4, and `age` stays.
@@ -56,16 +49,7 @@ pub extern "C" fn nekahuiro_age(
 ) -> u8
     ensures { λ r. ⌜ (r ≡ ageNumber (ageOf edition1 (now (store .entry)) number clock limit)) × (now (age .exit) ≡ ageLeft (ageOf edition1 (now (store .entry)) number clock limit) (now (age .entry))) ⌝ }
 {
-    let told = records::age_of(
-        store,
-        number,
-        age::Reading::new(clock),
-        age::Limit::new(limit),
-    );
-    match told {
-        records::Told::Judged(j) => records::leave(j, age),
-        records::Told::Refused(n) => n,
-    }
+    records::tell(store, RECORDS, JOINT, number, clock, limit, age)
 }
 
 // Runs a list of events on a store, with an answer of two bytes for each. 0, or a refusal's number: 22, 24, 20 or 21, in this order, and then
@@ -78,92 +62,23 @@ pub extern "C" fn nekahuiro_run(
     work: &mut [u8],
     answers: &mut [u8],
 ) -> u8
-    ensures { λ r. ⌜ Ran (now (store .entry)) (now (events .entry)) (now (work .entry)) (now (answers .entry)) r (now (store .exit)) (now (work .exit)) (now (answers .exit)) ⌝ }
+    ensures { λ r. ⌜ Ran edition1 (now (store .entry)) (now (events .entry)) (now (work .entry)) (now (answers .entry)) r (now (store .exit)) (now (work .exit)) (now (answers .exit)) ⌝ }
     ensures { λ r. ⌜ (r ≡ 0 → Demand-3 edition1 (now (store .entry)) (now (events .entry)) (now (work .entry)) (now (answers .entry))) ⌝ }
     ensures { λ r. ⌜ (r ≡ 0 → One-run-at-a-time edition1 (now (store .entry)) (now (events .entry)) (now (work .entry)) (now (answers .entry))) ⌝ }
 {
-    let n = lengths::refusal(store.len(), events.len(), work.len(), answers.len());
+    let n = lengths::refusal(
+        RECORDS,
+        WORD,
+        store.len(),
+        events.len(),
+        work.len(),
+        answers.len(),
+    );
     if n != 0 {
         return n;
     }
     portions::portion(portions::start(), store, events, work, answers);
     0
-}
-
-// The spare bytes are zeros.
-fn is_bare(spare: [u8; 3]) -> bool
-    ensures { λ r. ⌜ Decides r (spare ≡ replicate 3 0) ⌝ }
-{
-    let a = spare[0] == 0;
-    let b = spare[1] == 0;
-    let c = spare[2] == 0;
-    a & b & c
-}
-
-// What is lent as a state is one, and sound.
-fn is_state(e: Engine, store: &[u8]) -> bool
-    requires { ⌜ length (now store) ≡ 1056 ⌝ }
-    ensures { λ r. ⌜ ((work : List ℕ) → length work ≡ workBytes → Decides r (Intact (whole e work (now (store .entry))) × (e .spare ≡ replicate 3 0))) ⌝ }
-{
-    let parent = e.parent;
-    let depth = e.depth;
-    let line = e.line;
-    let held = e.held;
-    let retained = e.retained;
-    let writers = e.writers;
-    let spare = e.spare;
-    let sound = soundness::is_sound(
-        e.up,
-        &parent,
-        &depth,
-        &line,
-        &held,
-        &retained,
-        &writers,
-        store,
-    );
-    let bare = is_bare(spare);
-    sound & bare
-}
-
-// A portion's answer, and the state after it.
-pub struct Portioned {
-    pub engine: Engine,
-    pub number: u8,
-}
-
-// A refused portion: the state stays.
-fn refused(e: Engine, n: u8) -> Portioned
-    ensures { λ r. ⌜ (r .engine ≡ e) × (r .number ≡ n) ⌝ }
-{
-    Portioned {
-        engine: e,
-        number: n,
-    }
-}
-
-// A portion by value.
-fn portion_of(
-    e: Engine,
-    store: &mut [u8],
-    events: &[u8],
-    work: &mut [u8],
-    answers: &mut [u8],
-) -> Portioned
-    ensures { λ r. ⌜ Portioned-as (kept e (now (work .entry)) (now (store .entry))) (now (events .entry)) (now (answers .entry)) (r .number) (kept (r .engine) (now (work .exit)) (now (store .exit))) (now (answers .exit)) ⌝ }
-{
-    let m = lengths::refusal(store.len(), events.len(), work.len(), answers.len());
-    if m != 0 {
-        return refused(e, m);
-    }
-    if is_state(e, &store[..]) {
-        let after = portions::portion(e, store, events, work, answers);
-        return Portioned {
-            engine: after,
-            number: 0,
-        };
-    }
-    refused(e, 25)
 }
 
 // Plays a portion of events on a state that is lent and changed in place, with the store and the working buffer that the last portion left. 0, or a
@@ -179,46 +94,10 @@ pub extern "C" fn nekahuiro_portion(
     ensures { λ r. ⌜ Portioned-as (kept (now (state .entry)) (now (work .entry)) (now (store .entry))) (now (events .entry)) (now (answers .entry)) r (kept (now (state .exit)) (now (work .exit)) (now (store .exit))) (now (answers .exit)) ⌝ }
 {
     let before = *state;
-    let done = portion_of(before, store, events, work, answers);
+    let done = lent::portion_of(before, store, events, work, answers);
     let after = done.engine;
     *state = after;
     done.number
-}
-
-// A page write of an event, by value.
-fn page_write_of(
-    e: Engine,
-    store: &[u8],
-    event: &[u8],
-    work: &[u8],
-    index: u8,
-    write: &mut [u8],
-) -> u8
-    ensures { λ r. ⌜ Told-as (kept e (now (work .entry)) (now (store .entry))) (now (event .entry)) (now (write .entry)) index r (now (write .exit)) ⌝ }
-{
-    let wrong = lengths::question(store.len(), event.len(), work.len(), write.len());
-    if wrong != 0 {
-        return wrong;
-    }
-    if !is_state(e, store) {
-        return 25;
-    }
-    let parent = e.parent;
-    let depth = e.depth;
-    let writers = e.writers;
-    let table = Event::table();
-    let word = Event::word_at(event, 0);
-    pagewrites::page_write(
-        e.up,
-        &parent,
-        &depth,
-        &writers,
-        work,
-        store,
-        Event::of_word(&table, word),
-        index,
-        write,
-    )
 }
 
 // Says the page write number `index`, from 0, that an event makes on this state, store and working buffer if nothing cuts it: 0, with the page's number
@@ -236,7 +115,7 @@ pub extern "C" fn nekahuiro_page_write(
     ensures { λ r. ⌜ Told-as (kept (now (state .entry)) (now (work .entry)) (now (store .entry))) (now (event .entry)) (now (write .entry)) index r (now (write .exit)) ⌝ }
 {
     let held = *state;
-    page_write_of(held, store, event, work, index, write)
+    lent::page_write_of(held, store, event, work, index, write)
 }
 
 // The depot's turn for an identity, by its state (0 idle, 1 asked, 2 committed, 3 aborted) and a message (0 start, 1 yes, 2 no, 3 give-up): 0, with the
@@ -256,25 +135,6 @@ pub extern "C" fn nekahuiro_vote(kind: u8, number: u8, value: u8) -> u8
     messages::vote(kind, number, value)
 }
 
-// What is lent as a state is one, and sound, its store aside: over a fresh one.
-fn is_state_aside(e: Engine) -> bool
-    ensures { λ r. ⌜ Decides r (Sound-aside e) ⌝ }
-{
-    let mut store = [0u8; STORE];
-    records::lay(&mut store);
-    is_state(e, &store)
-}
-
-// The report by value.
-fn report_of(e: Engine, list: Rows, ring: Ring) -> Report
-    ensures { λ r. ⌜ Reported-copied e list ring (r .number) (r .ring) ⌝ }
-{
-    if is_state_aside(e) {
-        return waitreport::report_sound(e, list, ring);
-    }
-    waitreport::refused(ring, 25)
-}
-
 // Reports on transactions that wait for each other: 0, with a cycle of pointings left at `ring`, or none; or a refusal's number, 25, 26, then row by
 // row 5, 23, 1, in this order, and then `ring` stays.
 #[no_mangle]
@@ -284,7 +144,7 @@ pub extern "C" fn nekahuiro_waiting(state: &Engine, rows: &[Row], ring: &mut Rin
     let e = *state;
     let list = waitrows::copied(rows);
     let before = *ring;
-    let told = report_of(e, list, before);
+    let told = lent::report_of(e, list, before);
     let after = told.ring;
     *ring = after;
     told.number

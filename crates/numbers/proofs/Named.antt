@@ -3,11 +3,11 @@ use mathlib.Core.Path.{_≡_, sym, ap}
 use mathlib.Core.Bool.{Bool, true, false, cond}
 use Prim.Native.Nat.{ℕ, _<_, _≤_}
 use native.Mathlib.Nat.{min-eq-left, le-of-suc-le-suc}
+use native.Mathlib.Omega.{arith}
 use borrow.Author.Tests.{lt-ltb, le-ltb}
 use Rattle.laws.specs.Tests.{under}
 use Rattle.laws.proofs.Tests.{Is, is?, yes′, no′, under-lt}
-use Rattle.rules.specs.Geometry.{transactions, records}
-use Rattle.rules.specs.Editions.{geometry1}
+use Rattle.rules.specs.Geometry.{transactions}
 use Rattle.numbers.specs.Named.{transactionNamed, recordNamed, transactionOf, recordOf}
 use Rattle.numbers.specs.declared.TransactionNumber.{TransactionNumber}
 use Rattle.numbers.specs.declared.TransactionNamed.{TransactionNamed}
@@ -25,13 +25,13 @@ pub transaction-past : (n : ℕ) → 24 ≤ n → T.NoSuchTransaction ≡ transa
 unfolding transactionNamed under
 transaction-past n h = sym (ap (λ (b : Bool). cond b (T.Number (record { 0 = n })) T.NoSuchTransaction) (le-ltb n 24 h))
 
-pub record-below : (n : ℕ) → n < 16 → R.Number (record { 0 = n }) ≡ recordNamed n
-unfolding recordNamed under records
-record-below n h = sym (ap (λ (b : Bool). cond b (R.Number (record { 0 = n })) R.NoSuchRecord) (lt-ltb n 16 h))
+pub record-below : (count n : ℕ) → n < count → R.Number (record { 0 = n }) ≡ recordNamed count n
+unfolding recordNamed under
+record-below count n h = sym (ap (λ (b : Bool). cond b (R.Number (record { 0 = n })) R.NoSuchRecord) (lt-ltb n count h))
 
-pub record-past : (n : ℕ) → 16 ≤ n → R.NoSuchRecord ≡ recordNamed n
-unfolding recordNamed under records
-record-past n h = sym (ap (λ (b : Bool). cond b (R.Number (record { 0 = n })) R.NoSuchRecord) (le-ltb n 16 h))
+pub record-past : (count n : ℕ) → count ≤ n → R.NoSuchRecord ≡ recordNamed count n
+unfolding recordNamed under
+record-past count n h = sym (ap (λ (b : Bool). cond b (R.Number (record { 0 = n })) R.NoSuchRecord) (le-ltb n count h))
 
 -- a transaction with a name: its number, which is below 24, or none, and the name is 24 or above
 pub data NamedAs (n : ℕ) : TransactionNamed → Type 0 where
@@ -46,14 +46,14 @@ transaction-named n = go (is? (under n transactions))
     go (yes′ e) = let h = under-lt n 24 e in rw e (number (record { 0 = n }) (min-eq-left (le-of-suc-le-suc h)) e)
     go (no′ e) = rw e (noSuch e)
 
-pub data RecordAs (n : ℕ) : RecordNamed → Type 0 where
-  number : (r : RecordNumber) → recordOf r ≡ n → under n (records geometry1) ≡ true → RecordAs n (R.Number r)
-  noSuch : under n (records geometry1) ≡ false → RecordAs n R.NoSuchRecord
+pub data RecordAs (count n : ℕ) : RecordNamed → Type 0 where
+  number : (r : RecordNumber) → recordOf r ≡ n → under n count ≡ true → RecordAs count n (R.Number r)
+  noSuch : under n count ≡ false → RecordAs count n R.NoSuchRecord
 
-pub record-named : (n : ℕ) → RecordAs n (recordNamed n)
-unfolding recordNamed recordOf records
-record-named n = go (is? (under n 16))
+pub record-named : (count n : ℕ) → count ≤ 64 → RecordAs count n (recordNamed count n)
+unfolding recordNamed recordOf
+record-named count n k = go (is? (under n count))
   where
-    go : Is (under n 16) → RecordAs n (recordNamed n)
-    go (yes′ e) = let h = under-lt n 16 e in rw e (number (record { 0 = n }) (min-eq-left (le-of-suc-le-suc h)) e)
+    go : Is (under n count) → RecordAs count n (recordNamed count n)
+    go (yes′ e) = let h = under-lt n count e in let m : n ≤ 63 = omega arith in rw e (number (record { 0 = n }) (min-eq-left m) e)
     go (no′ e) = rw e (noSuch e)

@@ -46,44 +46,45 @@ impl TransactionNumber {
     }
 }
 
-// The number of a record, 0 to 15.
+// The number of a record: below 64, the most records that an edition has.
 pub struct RecordNumber(u8);
 
-// What a byte names.
+// What a byte names among some number of records.
 pub enum RecordNamed {
     Number(RecordNumber),
     NoSuchRecord,
 }
 
 impl RecordNumber {
-    pub const COUNT: u8 = 16;
+    // The most records that an edition has.
+    pub const MOST: u8 = 64;
 
-    // The one way to a record number.
-    pub fn checked(n: u8) -> RecordNamed
-        ensures { λ r. ⌜ r ≡ recordNamed n ⌝ }
+    // The one way to a record number, where there are `count` records.
+    pub fn checked(n: u8, count: u8) -> RecordNamed
+        ensures { λ r. ⌜ r ≡ recordNamed count n ⌝ }
     {
-        if n < Self::COUNT {
+        if n < count {
             RecordNamed::Number(RecordNumber(n))
         } else {
             RecordNamed::NoSuchRecord
         }
     }
 
-    // The number as a place in an array of 16.
+    // The number as a place in an array with a place for each record.
     pub fn index(self) -> usize
-        ensures { λ r. ⌜ (r ≡ recordOf self) × (r < 16) ⌝ }
+        ensures { λ r. ⌜ (r ≡ recordOf self) × (r < 64) ⌝ }
     {
-        if self.0 < Self::COUNT {
+        if self.0 < Self::MOST {
             self.0 as usize
         } else {
-            15
+            63
         }
     }
 
     // The number as a byte.
     pub fn number(self) -> u8
-        ensures { λ r. ⌜ (r ≡ recordOf self) × (r < 16) ⌝ }
+        ensures { λ r. ⌜ (r ≡ recordOf self) × (r < 64) ⌝ }
     {
-        if self.0 < Self::COUNT { self.0 } else { 15 }
+        if self.0 < Self::MOST { self.0 } else { 63 }
     }
 }

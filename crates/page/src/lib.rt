@@ -69,6 +69,23 @@ pub fn copy_across(bytes: &mut [u8], to: usize, source: &[u8], from: usize)
     put_page(bytes, to, copied);
 }
 
+// The page that begins at byte `at` of the store is copied to page `to` of the working buffer.
+pub fn bring(bytes: &mut [u8], to: usize, source: &[u8], at: usize)
+    requires { ⌜ (to < 4096) × (32 * to + 32 ≤ length (now bytes)) × (at + 32 ≤ length (now source)) ⌝ }
+    ensures { λ _. ⌜ pagesOf (now (bytes .exit)) ≡ updated to (take 32 (drop at (now (source .entry)))) (pagesOf (now (bytes .entry))) ⌝ }
+{
+    let brought = read_page(source, at);
+    put_page(bytes, to, brought);
+}
+
+// The byte at an offset of the page that begins at byte `at` of the store.
+pub fn byte_at(source: &[u8], at: usize, offset: usize) -> u8
+    requires { ⌜ (offset < 32) × (at + 32 ≤ length (now source)) ⌝ }
+    ensures { λ r. ⌜ r ≡ getD (take 32 (drop at (now (source .entry)))) offset 0 ⌝ }
+{
+    source[at + offset]
+}
+
 // The byte of page n at an offset.
 pub fn get_byte(bytes: &[u8], n: usize, offset: usize) -> u8
     requires { ⌜ (n < 4096) × (offset < 32) × (32 * n + 32 ≤ length (now bytes)) ⌝ }

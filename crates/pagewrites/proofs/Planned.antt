@@ -27,6 +27,7 @@ use Rattle.device.specs.Asked.{told, planFor}
 use Rattle.device.proofs.Plan.{refused-plan, accepted-plan}
 use Rattle.commitpage.specs.Heard.{prepared, understood}
 use Rattle.commitpage.specs.declared.CommitMap.{CommitMap}
+use Rattle.commitpage.proofs.Places.{layout1}
 use Rattle.commit.specs.Phase.{sweep, copies, topSlot, versionsIn}
 use Rattle.commit.proofs.Plans.{slots-are, commit-is, commit-nothing, recovery-is, recover-nothing}
 use Rattle.commit.proofs.Prepares.{prepare-is, prepare-nothing, decision-is}
@@ -35,13 +36,13 @@ use Rattle.arrays.proofs.View.{child-is}
 use Rattle.event.specs.Meaning.{meaning, fieldsOf}
 use Rattle.event.specs.declared.Event.{Event as Fields}
 use Rattle.engine.proofs.ByKind.{means-settling}
-use Rattle.events.specs.Whole.{Arrays, view, Intact, saying, Stepped, Ready, Reserves}
-use Rattle.events.specs.declared.Answer.{Answer}
-use Rattle.events.proofs.Rules.{commit-down, prepare-down, decide-down, commit-unknown, prepare-unknown, recover-done}
-use Rattle.events.proofs.Steps.{answer, up-is, down-is, not-live, not-live-past}
-use Rattle.events.proofs.Parents.{top-line}
-use Rattle.events.proofs.Reserves.{top-is}
-use Rattle.events.proofs.Tops.{top-versions}
+use Rattle.state.specs.Whole.{Arrays, view, Intact, saying, Stepped, Ready, Reserves}
+use Rattle.event.specs.declared.Answer.{Answer}
+use Rattle.state.proofs.Rules.{commit-down, prepare-down, decide-down, commit-unknown, prepare-unknown, recover-done}
+use Rattle.state.proofs.Steps.{answer, up-is, down-is, not-live, not-live-past}
+use Rattle.state.proofs.Parents.{top-line}
+use Rattle.state.proofs.Reserves.{top-is}
+use Rattle.commits.proofs.Tops.{top-versions}
 use Rattle.crashes.proofs.Falls.{whole-is, map-is, recover-refuses-3, recover-refuses-4}
 use Rattle.commits.specs.Settling.{settling}
 use Rattle.commits.proofs.Commits.{settling-refuses, settling-13, settling-27, settling-ends}
@@ -54,50 +55,50 @@ unfolding writesOf when
 nothing-writes work store = refl
 
 -- no page write
-pub plans-none : (x : Arrays) (e : Option Event) (p : Plan) → p ≡ nothing → planFor geometry1 (view x) e ≡ [] → Plans x e p
+pub plans-none : (x : Arrays) (e : Option Event) (p : Plan) → p ≡ nothing → planFor geometry1 (view edition1 x) e ≡ [] → Plans x e p
 plans-none x e p q h = record { writes = ap (λ (p : Plan). writesOf p (x .work) (x .store)) q ∙ nothing-writes (x .work) (x .store) ∙ sym h }
 
 -- THE PLANS OF TOP TRANSACTIONS, RECOVERIES AND DECISIONS, as phases
 module _ (m : ℕ) (work store : List ℕ) where
-  commit-writes : m < 2 ^ 16 → (i : ℕ) → commitPlan geometry1 (versionsIn m work) ≡ writesOf (ofTop m false i) work store
+  commit-writes : m < 2 ^ 16 → (i : ℕ) → commitPlan geometry1 (versionsIn geometry1 m work) ≡ writesOf (ofTop m false i) work store
   unfolding ofTop writesOf when sourceOf marks
   commit-writes small i = go (same? m 0)
     where
-      go : Same m 0 → commitPlan geometry1 (versionsIn m work) ≡ writesOf (ofTop m false i) work store
-      go (is e q _) = rw q (commit-nothing m (versionsIn m work) (topSlot work) (slots-are m work) e)
+      go : Same m 0 → commitPlan geometry1 (versionsIn geometry1 m work) ≡ writesOf (ofTop m false i) work store
+      go (is e q _) = rw q (commit-nothing geometry1 16 (layout1 .many) m (versionsIn geometry1 m work) (topSlot work) (slots-are geometry1 16 (layout1 .many) m work) e)
       go (isnt e q _) = rw q (
-          commit-is m (versionsIn m work) (topSlot work) (slots-are m work) small e
+          commit-is geometry1 16 (layout1 .many) m (versionsIn geometry1 m work) (topSlot work) (slots-are geometry1 16 (layout1 .many) m work) small e
           ∙ append-assoc (sweep (named geometry1 m) (copies 1 (topSlot work)) 16) (marks geometry1 m ∷ sweep (named geometry1 m) (copies 17 (topSlot work)) 16) (marks geometry1 0 ∷ []))
 
-  prepare-writes : m < 2 ^ 16 → (i : ℕ) → preparePlan geometry1 (versionsIn m work) i ≡ writesOf (ofTop m true i) work store
+  prepare-writes : m < 2 ^ 16 → (i : ℕ) → preparePlan geometry1 (versionsIn geometry1 m work) i ≡ writesOf (ofTop m true i) work store
   unfolding ofTop writesOf when sourceOf
   prepare-writes small i = go (same? m 0)
     where
-      go : Same m 0 → preparePlan geometry1 (versionsIn m work) i ≡ writesOf (ofTop m true i) work store
-      go (is e q _) = rw q (prepare-nothing m work i e)
-      go (isnt e q _) = rw q (prepare-is m work i small e)
+      go : Same m 0 → preparePlan geometry1 (versionsIn geometry1 m work) i ≡ writesOf (ofTop m true i) work store
+      go (is e q _) = rw q (prepare-nothing geometry1 16 (layout1 .many) m work i e)
+      go (isnt e q _) = rw q (prepare-is geometry1 16 (layout1 .many) m work i small e)
 
-  recover-writes : m < 2 ^ 16 → mapIn (readCommit geometry1 (pagesOf store 0)) ≡ m → recoverPlan geometry1 (pagesOf store) ≡ writesOf (ofRecovery m) work store
+  recover-writes : mapIn (readCommit geometry1 (pagesOf store 0)) ≡ m → recoverPlan geometry1 (pagesOf store) ≡ writesOf (ofRecovery m) work store
   unfolding ofRecovery writesOf when sourceOf marks
-  recover-writes small says = go (same? m 0)
+  recover-writes says = go (same? m 0)
     where
       go : Same m 0 → recoverPlan geometry1 (pagesOf store) ≡ writesOf (ofRecovery m) work store
-      go (is e q _) = rw q (recover-nothing m 0 (pagesOf store) says e)
-      go (isnt e q _) = rw q (recovery-is m 0 (pagesOf store) says small e)
+      go (is e q _) = rw q (recover-nothing geometry1 16 (layout1 .many) m 0 (pagesOf store) says e)
+      go (isnt e q _) = rw q (recovery-is geometry1 16 (layout1 .many) m 0 (pagesOf store) says e)
 
   decide-writes : (d : Bool) (i : ℕ) → readPrepared geometry1 (pagesOf store 0) ≡ some (prepared m i) → decidePlan geometry1 (pagesOf store) d ≡ writesOf (ofDecision m d) work store
   unfolding writesOf when sourceOf marks decideWrites
-  decide-writes true i says = decision-is m i 0 (pagesOf store) says (λ r. pagesOf store (1 + r)) (λ j. refl)
+  decide-writes true i says = decision-is geometry1 16 (layout1 .many) m i 0 (pagesOf store) says (λ r. pagesOf store (1 + r)) (λ j. refl)
   decide-writes false i says = refl
 
 -- WHAT IS REFUSED writes nothing
-refused-of : (x : Arrays) (e : Event) (n : ℕ) → n ≢ 0 → n ≢ 11 → Stepped x (some e) (answer n 0) x → planOf geometry1 (view x) e ≡ []
+refused-of : (x : Arrays) (e : Event) (n : ℕ) → n ≢ 0 → n ≢ 11 → Stepped edition1 x (some e) (answer n 0) x → planOf geometry1 (view edition1 x) e ≡ []
 unfolding saying numberOf
-refused-of x e n h g T = go (step edition1 (view x) (some e) .answer) refl (ap (λ (a : Answer). a .number) (T .says))
+refused-of x e n h g T = go (step edition1 (view edition1 x) (some e) .answer) refl (ap (λ (a : Answer). a .number) (T .says))
   where
-    go : (b : rules.Answer) → step edition1 (view x) (some e) .answer ≡ b → n ≡ numberOf b → planOf geometry1 (view x) e ≡ []
+    go : (b : rules.Answer) → step edition1 (view edition1 x) (some e) .answer ≡ b → n ≡ numberOf b → planOf geometry1 (view edition1 x) e ≡ []
     go (done v) q z = absurd (h z)
-    go (refused m) q z = refused-plan geometry1 (view x) e m q
+    go (refused m) q z = refused-plan geometry1 (view edition1 x) e m q
     go (cut v) q z = absurd (g z)
 
 refused-by : (s : StateOf edition1) (e : Event) (n : ℕ) → step edition1 s (some e) ≡ record { state = s; answer = refused n } → planOf geometry1 s e ≡ []
@@ -136,32 +137,32 @@ still-kinds s (suc (suc (suc (suc (suc (suc (suc (suc (suc (suc (suc zero)))))))
 still-kinds s (suc (suc (suc (suc (suc (suc (suc (suc (suc (suc (suc (suc k)))))))))))) t r o c v h₅ h₈ h₉ h₁₀ = refl
 
 -- A COMMIT OR A PREPARE, by the code's tests
-module _ (x : Arrays) (I : Intact x) (b : Bool) (t k i : ℕ) where
+module _ (x : Arrays) (I : Intact edition1 x) (b : Bool) (t k i : ℕ) where
   abbrev event : Event
   event = settling b t k i
 
-  down-plans : x .up ≢ 1 → planOf geometry1 (view x) event ≡ []
+  down-plans : x .up ≢ 1 → planOf geometry1 (view edition1 x) event ≡ []
   unfolding settling
   down-plans h = go b
     where
-      go : (b : Bool) → planOf geometry1 (view x) (settling b t k i) ≡ []
-      go false = refused-by (view x) (commit t k) 2 (commit-down edition1 (view x) (down-is x h) t k)
-      go true = refused-by (view x) (prepare t k i) 2 (prepare-down edition1 (view x) (down-is x h) t k i)
+      go : (b : Bool) → planOf geometry1 (view edition1 x) (settling b t k i) ≡ []
+      go false = refused-by (view edition1 x) (commit t k) 2 (commit-down edition1 (view edition1 x) (down-is edition1 x h) t k)
+      go true = refused-by (view edition1 x) (prepare t k i) 2 (prepare-down edition1 (view edition1 x) (down-is edition1 x h) t k i)
 
-  unknown-plans : x .up ≡ 1 → live (view x) t ≡ false → planOf geometry1 (view x) event ≡ []
+  unknown-plans : x .up ≡ 1 → live (view edition1 x) t ≡ false → planOf geometry1 (view edition1 x) event ≡ []
   unfolding settling
   unknown-plans u l = go b
     where
-      go : (b : Bool) → planOf geometry1 (view x) (settling b t k i) ≡ []
-      go false = refused-by (view x) (commit t k) 5 (commit-unknown edition1 (view x) t (up-is x u) l k)
-      go true = refused-by (view x) (prepare t k i) 5 (prepare-unknown edition1 (view x) t (up-is x u) l k i)
+      go : (b : Bool) → planOf geometry1 (view edition1 x) (settling b t k i) ≡ []
+      go false = refused-by (view edition1 x) (commit t k) 5 (commit-unknown edition1 (view edition1 x) t (up-is edition1 x u) l k)
+      go true = refused-by (view edition1 x) (prepare t k i) 5 (prepare-unknown edition1 (view edition1 x) t (up-is edition1 x u) l k i)
 
   -- 24 and above are no transaction
-  pub no-such : 24 ≤ t → planOf geometry1 (view x) event ≡ []
+  pub no-such : 24 ≤ t → planOf geometry1 (view edition1 x) event ≡ []
   no-such h = go (same? (x .up) 1)
     where
-      go : Same (x .up) 1 → planOf geometry1 (view x) event ≡ []
-      go (is u _ _) = unknown-plans u (not-live-past x t (I .form) h)
+      go : Same (x .up) 1 → planOf geometry1 (view edition1 x) event ≡ []
+      go (is u _ _) = unknown-plans u (not-live-past edition1 x t (I .form) h)
       go (isnt n _ _) = down-plans n
 
   pub top-down : (p : Plan) → p ≡ nothing → x .up ≢ 1 → Plans x (some event) p
@@ -170,14 +171,14 @@ module _ (x : Arrays) (I : Intact x) (b : Bool) (t k i : ℕ) where
 
   pub top-unknown : (p : Plan) → p ≡ nothing → x .up ≡ 1 → getD (x .depth) t 0 ≡ 0 → Plans x (some event) p
   unfolding planFor
-  top-unknown p q u l = plans-none x (some event) p q (unknown-plans u (not-live x t l))
+  top-unknown p q u l = plans-none x (some event) p q (unknown-plans u (not-live edition1 x t l))
 
-  module _ (R : Ready x t) where
-    pub top-parent : (p : Plan) → p ≡ nothing → hasChild (view x) t ≡ true → Plans x (some event) p
+  module _ (R : Ready edition1 x t) where
+    pub top-parent : (p : Plan) → p ≡ nothing → hasChild (view edition1 x) t ≡ true → Plans x (some event) p
     unfolding planFor
-    top-parent p q h = plans-none x (some event) p q (refused-of x event 10 (λ z. omega arith) (λ z. omega arith) (settling-refuses x I b t k i R h))
+    top-parent p q h = plans-none x (some event) p q (refused-of x event 10 (λ z. omega arith) (λ z. omega arith) (settling-refuses geometry1 x I b t k i R h))
 
-    module _ (childless : hasChild (view x) t ≡ false) (n j : ℕ) (H : Reserves (x .store) n j) where
+    module _ (childless : hasChild (view edition1 x) t ≡ false) (n j : ℕ) (H : Reserves geometry1 (x .store) n j) where
       abbrev m : ℕ
       m = mapOf geometry1 (λ r. setsIn (x .writers) r t)
 
@@ -188,14 +189,14 @@ module _ (x : Arrays) (I : Intact x) (b : Bool) (t k i : ℕ) where
       line-none v (a ∷ []) e = absurd (true≢false e)
       line-none v (a ∷ y ∷ l) e = refl
 
-      beneath-plans : getD (x .depth) t 0 ≢ 1 → planOf geometry1 (view x) event ≡ []
+      beneath-plans : getD (x .depth) t 0 ≢ 1 → planOf geometry1 (view edition1 x) event ≡ []
       unfolding settling acceptedPlan
       beneath-plans h = go b (is? (not (same m 0) && not (same n 0)))
         where
-          go : (b : Bool) → Is (not (same m 0) && not (same n 0)) → planOf geometry1 (view x) (settling b t k i) ≡ []
-          go false q = idle-plan (view x) (commit t k) (line-none (view x .version t) (lineOf (view x .bearer) t) (top-is x t (R .live) ∙ ne-false (getD (x .depth) t 0) 1 h))
-          go true (yes′ q) = refused-of x (prepare t k i) 13 (λ z. omega arith) (λ z. omega arith) (settling-13 x I t R childless m n j refl H true k i (λ z. absurd (true≢false z)) q)
-          go true (no′ q) = refused-of x (prepare t k i) 27 (λ z. omega arith) (λ z. omega arith) (settling-27 x I t R childless m n j refl H true k i (λ z. absurd (true≢false z)) q h)
+          go : (b : Bool) → Is (not (same m 0) && not (same n 0)) → planOf geometry1 (view edition1 x) (settling b t k i) ≡ []
+          go false q = idle-plan (view edition1 x) (commit t k) (line-none (view edition1 x .version t) (lineOf (view edition1 x .bearer) t) (top-is geometry1 x t (R .live) ∙ ne-false (getD (x .depth) t 0) 1 h))
+          go true (yes′ q) = refused-of x (prepare t k i) 13 (λ z. omega arith) (λ z. omega arith) (settling-13 geometry1 x I t R childless m n j refl H true k i (λ z. absurd (true≢false z)) q)
+          go true (no′ q) = refused-of x (prepare t k i) 27 (λ z. omega arith) (λ z. omega arith) (settling-27 geometry1 x I t R childless m n j refl H true k i (λ z. absurd (true≢false z)) q h)
 
       pub top-beneath : (p : Plan) → p ≡ nothing → getD (x .depth) t 0 ≢ 1 → Plans x (some event) p
       unfolding planFor
@@ -204,73 +205,73 @@ module _ (x : Arrays) (I : Intact x) (b : Bool) (t k i : ℕ) where
       module _ (map : ℕ) (mapped : map ≡ mapOf geometry1 (λ r. setsIn (x .writers) r t)) (top : getD (x .depth) t 0 ≡ 1) where
         pub top-busy : (p : Plan) → p ≡ nothing → (not (same map 0) && not (same n 0)) ≡ true → Plans x (some event) p
         unfolding planFor
-        top-busy p q h = plans-none x (some event) p q (refused-of x event 13 (λ z. omega arith) (λ z. omega arith) (settling-13 x I t R childless map n j mapped H b k i (λ z. top) h))
+        top-busy p q h = plans-none x (some event) p q (refused-of x event 13 (λ z. omega arith) (λ z. omega arith) (settling-13 geometry1 x I t R childless map n j mapped H b k i (λ z. top) h))
 
         small : map < 2 ^ 16
         unfolding records
         small = rw mapped (mapOf-lt geometry1 (λ r. setsIn (x .writers) r t))
 
-        taken : (not (same map 0) && not (same n 0)) ≡ false → planOf geometry1 (view x) event ≡ acceptedPlan geometry1 (view x) event
+        taken : (not (same map 0) && not (same n 0)) ≡ false → planOf geometry1 (view edition1 x) event ≡ acceptedPlan geometry1 (view edition1 x) event
         unfolding commitsTop
-        taken h = accepted-plan geometry1 (view x) event (λ n′ e. concludes _ _ _ n′ (sym (ap (λ (o : Outcome Pages). o .answer) (settling-ends x I t R childless map n j mapped H b k i h top)) ∙ e))
+        taken h = accepted-plan geometry1 (view edition1 x) event (λ n′ e. concludes _ _ _ n′ (sym (ap (λ (o : Outcome Pages). o .answer) (settling-ends geometry1 x I t R childless map n j mapped H b k i h top)) ∙ e))
 
-        accepted-is : acceptedPlan geometry1 (view x) event ≡ writesOf (ofTop map b i) (x .work) (x .store)
+        accepted-is : acceptedPlan geometry1 (view edition1 x) event ≡ writesOf (ofTop map b i) (x .work) (x .store)
         unfolding settling acceptedPlan view linePlan
         accepted-is = go b
           where
-            go : (b : Bool) → acceptedPlan geometry1 (view x) (settling b t k i) ≡ writesOf (ofTop map b i) (x .work) (x .store)
+            go : (b : Bool) → acceptedPlan geometry1 (view edition1 x) (settling b t k i) ≡ writesOf (ofTop map b i) (x .work) (x .store)
             go false =
-                ap (linePlan geometry1 (view x .version t)) (top-line x I t top) ∙ ap (commitPlan geometry1) (top-versions x (I .form) t map mapped top)
+                ap (linePlan geometry1 (view edition1 x .version t)) (top-line edition1 x I t top) ∙ ap (commitPlan geometry1) (top-versions geometry1 x (I .form) t map mapped top)
                 ∙ commit-writes map (x .work) (x .store) small i
-            go true = ap (λ (v : ℕ → Option Page). preparePlan geometry1 v i) (top-versions x (I .form) t map mapped top) ∙ prepare-writes map (x .work) (x .store) small i
+            go true = ap (λ (v : ℕ → Option Page). preparePlan geometry1 v i) (top-versions geometry1 x (I .form) t map mapped top) ∙ prepare-writes map (x .work) (x .store) small i
 
         pub top-plans : (p : Plan) → p ≡ ofTop map b i → (not (same map 0) && not (same n 0)) ≡ false → Plans x (some event) p
         unfolding planFor
         top-plans p q h = record { writes = ap (λ (p : Plan). writesOf p (x .work) (x .store)) q ∙ sym (taken h ∙ accepted-is) }
 
 -- A RECOVERY
-module _ (x : Arrays) (I : Intact x) (k : ℕ) where
+module _ (x : Arrays) (I : Intact edition1 x) (k : ℕ) where
   pub recovery-up : (p : Plan) → p ≡ nothing → x .up ≡ 1 → Plans x (some (recover k)) p
   unfolding planFor
-  recovery-up p q h = plans-none x (some (recover k)) p q (refused-of x (recover k) 3 (λ z. omega arith) (λ z. omega arith) (recover-refuses-3 x I k h))
+  recovery-up p q h = plans-none x (some (recover k)) p q (refused-of x (recover k) 3 (λ z. omega arith) (λ z. omega arith) (recover-refuses-3 geometry1 x I k h))
 
-  module _ (n : x .up ≢ 1) (c : CommitMap) (h : c ≡ understood (pagesOf (x .store) 0)) where
+  module _ (n : x .up ≢ 1) (c : CommitMap) (h : c ≡ understood geometry1 (pagesOf (x .store) 0)) where
     pub recovery-damaged : (p : Plan) → p ≡ nothing → c .good ≡ false → Plans x (some (recover k)) p
     unfolding planFor
-    recovery-damaged p q e = plans-none x (some (recover k)) p q (refused-of x (recover k) 4 (λ z. omega arith) (λ z. omega arith) (recover-refuses-4 x I k n c h e))
+    recovery-damaged p q e = plans-none x (some (recover k)) p q (refused-of x (recover k) 4 (λ z. omega arith) (λ z. omega arith) (recover-refuses-4 geometry1 x I k n c h e))
 
-    pub recovery-plans : (p : Plan) → (p ≡ ofRecovery (c .map)) × (c .map < 65536) → c .good ≡ true → Plans x (some (recover k)) p
+    pub recovery-plans : (p : Plan) → p ≡ ofRecovery (c .map) → c .good ≡ true → Plans x (some (recover k)) p
     unfolding planFor acceptedPlan view recovers
     recovery-plans p q e = record {
       writes =
-          ap (λ (p : Plan). writesOf p (x .work) (x .store)) (q .0)
-          ∙ sym (accepted-plan geometry1 (view x) (recover k) (λ n′ z. concludes _ _ _ n′ (sym (ap (λ (o : Outcome Pages). o .answer) (recover-done edition1 (view x) k (down-is x n) (whole-is (x .store) c h e))) ∙ z))
-          ∙ recover-writes (c .map) (x .work) (x .store) (q .1) (map-is (x .store) c h));
+          ap (λ (p : Plan). writesOf p (x .work) (x .store)) q
+          ∙ sym (accepted-plan geometry1 (view edition1 x) (recover k) (λ n′ z. concludes _ _ _ n′ (sym (ap (λ (o : Outcome Pages). o .answer) (recover-done edition1 (view edition1 x) k (down-is edition1 x n) (whole-is geometry1 (x .store) c h e))) ∙ z))
+          ∙ recover-writes (c .map) (x .work) (x .store) (map-is geometry1 (x .store) c h));
     }
 
 -- A DECISION
-module _ (x : Arrays) (I : Intact x) (d : Bool) (k i : ℕ) where
+module _ (x : Arrays) (I : Intact edition1 x) (d : Bool) (k i : ℕ) where
   pub decision-down : (p : Plan) → p ≡ nothing → x .up ≢ 1 → Plans x (some (decide d k i)) p
   unfolding planFor
-  decision-down p q h = plans-none x (some (decide d k i)) p q (refused-by (view x) (decide d k i) 2 (decide-down edition1 (view x) (down-is x h) d k i))
+  decision-down p q h = plans-none x (some (decide d k i)) p q (refused-by (view edition1 x) (decide d k i) 2 (decide-down edition1 (view edition1 x) (down-is edition1 x h) d k i))
 
-  module _ (up : x .up ≡ 1) (m n : ℕ) (H : Reserves (x .store) m n) (b : Bool) (test : b ≡ (not (same m 0) && same n i)) where
-    accepted-as : acceptedPlan geometry1 (view x) (decide d k i) ≡ decisionPlan geometry1 (pagesOf (x .store)) d b
+  module _ (up : x .up ≡ 1) (m n : ℕ) (H : Reserves geometry1 (x .store) m n) (b : Bool) (test : b ≡ (not (same m 0) && same n i)) where
+    accepted-as : acceptedPlan geometry1 (view edition1 x) (decide d k i) ≡ decisionPlan geometry1 (pagesOf (x .store)) d b
     unfolding acceptedPlan view
-    accepted-as = ap (decisionPlan geometry1 (pagesOf (x .store)) d) (for-is x I up m n i H b test)
+    accepted-as = ap (decisionPlan geometry1 (pagesOf (x .store)) d) (for-is geometry1 x I up m n i H b test)
 
     pub decision-other : (p : Plan) → p ≡ nothing → b ≡ false → Plans x (some (decide d k i)) p
     unfolding planFor decisionPlan
-    decision-other p q e = plans-none x (some (decide d k i)) p q (idle-plan (view x) (decide d k i) (accepted-as ∙ ap (decisionPlan geometry1 (pagesOf (x .store)) d) e))
+    decision-other p q e = plans-none x (some (decide d k i)) p q (idle-plan (view edition1 x) (decide d k i) (accepted-as ∙ ap (decisionPlan geometry1 (pagesOf (x .store)) d) e))
 
     pub decision-plans : (p : Plan) → p ≡ ofDecision m d → b ≡ true → Plans x (some (decide d k i)) p
     unfolding planFor decisionPlan planOf planBy refusal refusals firstOf
     decision-plans p q e = record {
       writes =
           ap (λ (p : Plan). writesOf p (x .work) (x .store)) q
-          ∙ sym (ap (λ (u : Bool). planBy geometry1 (view x) (decide d k i) (cond (not u) (some 2) none)) (up-is x up)
+          ∙ sym (ap (λ (u : Bool). planBy geometry1 (view edition1 x) (decide d k i) (cond (not u) (some 2) none)) (up-is edition1 x up)
           ∙ accepted-as ∙ ap (decisionPlan geometry1 (pagesOf (x .store)) d) e
-          ∙ decide-writes m (x .work) (x .store) d n (for-prepared (x .store) m n i b H test e));
+          ∙ decide-writes m (x .work) (x .store) d n (for-prepared geometry1 (x .store) m n i b H test e));
     }
 
 -- the plans by the code's test of the map
@@ -290,6 +291,29 @@ pub some-top : (m : ℕ) (b : Bool) (i : ℕ) → m ≢ 0 → plan m i true (not
 unfolding ofTop
 some-top m b i h = rw (ne-false m 0 h)
 
+-- the map of a plan is below 2 ^ 16
+pub nothing-small : (p : Plan) → p ≡ nothing → p .map < 65536
+nothing-small p q = subst⁻¹ (λ (p : Plan). p .map < 65536) q (omega arith)
+
+pub top-small : (m : ℕ) (b : Bool) (i : ℕ) (p : Plan) → p ≡ ofTop m b i → m < 65536 → p .map < 65536
+unfolding ofTop
+top-small m b i p q h = subst⁻¹ (λ (p : Plan). p .map < 65536) q (go (same m 0))
+  where
+    go : (z : Bool) → (cond z nothing (plan m i true (not b) b (not b) (not b) false)) .map < 65536
+    go true = omega arith
+    go false = h
+
+pub recovery-small : (m : ℕ) (p : Plan) → p ≡ ofRecovery m → m < 65536 → p .map < 65536
+unfolding ofRecovery
+recovery-small m p q h = subst⁻¹ (λ (p : Plan). p .map < 65536) q (go (same m 0))
+  where
+    go : (z : Bool) → (cond z nothing (plan m 0 false false false true true true)) .map < 65536
+    go true = omega arith
+    go false = h
+
+pub decision-small : (m : ℕ) (d : Bool) (p : Plan) → p ≡ ofDecision m d → m < 65536 → p .map < 65536
+decision-small m d p q h = subst⁻¹ (λ (p : Plan). p .map < 65536) q h
+
 -- BETWEEN THE CODE AND THE RULES
 pub plans-as : (x : Arrays) (e f : Option Event) (p : Plan) → f ≡ e → Plans x e p → Plans x f p
 plans-as x e f p q P = subst⁻¹ (λ (e : Option Event). Plans x e p) q P
@@ -301,7 +325,7 @@ pub above-zero : (n : ℕ) → n ≢ 0 → 0 < n
 above-zero n h = omega (arith, h)
 
 -- the sets of children, by the code's test
-pub child-found : (x : Arrays) (children : List ℕ) (t : ℕ) (b : Bool) → t < 24 → ((p : ℕ) → p < 32 → setsIn children p ≡ childIn (x .parent) (x .depth) p) → b ≡ any 24 (setsIn children t) → b ≡ hasChild (view x) t
+pub child-found : (x : Arrays) (children : List ℕ) (t : ℕ) (b : Bool) → t < 24 → ((p : ℕ) → p < 32 → setsIn children p ≡ childIn (x .parent) (x .depth) p) → b ≡ any 24 (setsIn children t) → b ≡ hasChild (view edition1 x) t
 unfolding view hasChild live
 child-found x children t b h under e = e ∙ ap (any 24) (under t (omega arith) ∙ fun-ext (λ u. child-is (x .parent) (x .depth) t u))
 
@@ -329,10 +353,10 @@ settles-not e h = (
 pub still-plans : (x : Arrays) (e : Fields) (p : Plan) → p ≡ nothing → e .kind ≢ 8 → e .kind ≢ 10 → (same (e .kind) 5 || same (e .kind) 9) ≡ false → Plans x (meaning e) p
 unfolding meaning
 still-plans x e p q h₈ h₁₀ h = let n = settles-not e h in
-    plans-none x (meaning e) p q (still-kinds (view x) (e .kind) (e .transaction) (e .rec) (e .offset) (e .count) (e .value) (n .0) h₈ (n .1) h₁₀)
+    plans-none x (meaning e) p q (still-kinds (view edition1 x) (e .kind) (e .transaction) (e .rec) (e .offset) (e .count) (e .value) (n .0) h₈ (n .1) h₁₀)
 
 -- a number that names no transaction
-pub unnamed-plans : (x : Arrays) → Intact x → (e : Fields) (p : Plan) → p ≡ nothing → (same (e .kind) 5 || same (e .kind) 9) ≡ true → 24 ≤ e .transaction → Plans x (meaning e) p
+pub unnamed-plans : (x : Arrays) → Intact edition1 x → (e : Fields) (p : Plan) → p ≡ nothing → (same (e .kind) 5 || same (e .kind) 9) ≡ true → 24 ≤ e .transaction → Plans x (meaning e) p
 unfolding planFor
 unnamed-plans x I e p q h t = plans-as x (some (settling (same (e .kind) 9) (e .transaction) (e .count) (e .value))) (meaning e) p (settles e h)
     (plans-none x (some (settling (same (e .kind) 9) (e .transaction) (e .count) (e .value))) p q (no-such x I (same (e .kind) 9) (e .transaction) (e .count) (e .value) t))

@@ -8,11 +8,11 @@ use Rattle.laws.specs.Tests.{same}
 use Rattle.rules.specs.Store.{Page, pagesOf, named, commitPage, preparedPage}
 use Rattle.rules.specs.Event.{Event}
 use Rattle.rules.specs.Commit.{PageWrite, sets}
-use Rattle.rules.specs.Editions.{geometry1}
+use Rattle.rules.specs.Editions.{geometry1, edition1}
 use Rattle.device.specs.Asked.{planFor}
 use Rattle.commitpage.specs.Heard.{prepared}
 use Rattle.commit.specs.Phase.{sweep, copies, topSlot}
-use Rattle.events.specs.Whole.{Arrays, view}
+use Rattle.state.specs.Whole.{Arrays, view}
 use Rattle.pagewrites.specs.declared.Plan.{Plan}
 
 abbrev pub plan : ℕ → ℕ → Bool → Bool → Bool → Bool → Bool → Bool → Plan
@@ -50,7 +50,7 @@ writesOf p work store =
 
 -- a plan's page writes are those that the rules plan for an event, or for a bad one
 pub record Plans (x : Arrays) (e : Option Event) (p : Plan) : Type 0 where
-  pub writes : writesOf p (x .work) (x .store) ≡ planFor geometry1 (view x) e
+  pub writes : writesOf p (x .work) (x .store) ≡ planFor geometry1 (view edition1 x) e
 
 -- opens the definitions of this module: for what is proved by computing
 unfoldable pub open-phases : Unit {0}

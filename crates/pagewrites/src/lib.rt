@@ -8,13 +8,13 @@ ghost use lib.ListN.{length, getD};
 ghost use Rattle.laws.specs.Counting.{those};
 ghost use Rattle.rules.specs.Store.{named};
 ghost use Rattle.rules.specs.Event.{recover, decide};
-ghost use Rattle.rules.specs.Editions.{geometry1, workBytes};
+ghost use Rattle.rules.specs.Editions.{geometry1, edition1, workBytes};
 ghost use Rattle.device.specs.Plan.{writeAt};
 ghost use Rattle.device.specs.Asked.{told, planFor};
 ghost use Rattle.commits.specs.Settling.{settling};
 ghost use Rattle.numbers.specs.Named.{transactionOf};
 ghost use Rattle.event.specs.Meaning.{meaning, InRange};
-ghost use Rattle.events.specs.Whole.{arrays, view, Intact, Reserves};
+ghost use Rattle.state.specs.Whole.{arrays, view, Intact, Reserves};
 ghost use Rattle.pagewrites.specs.Phases.{nothing, ofTop, ofRecovery, ofDecision, sourceOf, writesOf, Plans};
 use event::Event;
 use numbers::TransactionNamed;
@@ -23,7 +23,7 @@ use numbers::TransactionNumber;
 // The page writes of an event, by phases: the intention pages of the records of a map, the commit page as committed, as prepared, the home pages of
 // the records, the commit page as empty. The pages are the store's intention pages where `stored`, else versions in the working buffer.
 pub struct Plan {
-    pub map: u16,
+    pub map: u64,
     pub identity: u8,
     pub intentions: bool,
     pub committed: bool,
@@ -50,7 +50,7 @@ fn none() -> Plan
 }
 
 // Of a top transaction that has versions of the records of a map: its commit, or its prepare with an identity.
-fn of_top(map: u16, prepares: bool, identity: u8) -> Plan
+fn of_top(map: u64, prepares: bool, identity: u8) -> Plan
     ensures { λ p. ⌜ p ≡ ofTop map prepares identity ⌝ }
 {
     if map == 0 {
@@ -69,8 +69,8 @@ fn of_top(map: u16, prepares: bool, identity: u8) -> Plan
 }
 
 // Of a recovery over a commit page with this map.
-fn of_recovery(map: u16) -> Plan
-    ensures { λ p. ⌜ (p ≡ ofRecovery map) × (map < 65536) ⌝ }
+fn of_recovery(map: u64) -> Plan
+    ensures { λ p. ⌜ p ≡ ofRecovery map ⌝ }
 {
     if map == 0 {
         return none();
@@ -88,7 +88,7 @@ fn of_recovery(map: u16) -> Plan
 }
 
 // Of the decision on what is prepared with this map: to commit, or to abort.
-fn of_decision(map: u16, commits: bool) -> Plan
+fn of_decision(map: u64, commits: bool) -> Plan
     ensures { λ p. ⌜ p ≡ ofDecision map commits ⌝ }
 {
     Plan {
@@ -126,13 +126,13 @@ fn record_if(old: u8, yes: bool, r: u8) -> u8
 }
 
 // The record with number n, from 0, among those that a map names; 16 where there is none.
-fn record_at(map: u16, n: u8) -> u8
+fn record_at(map: u64, n: u8) -> u8
     ensures { λ r. ⌜ r ≡ getD (those 16 (named geometry1 map)) n 16 ⌝ }
 {
     let mut at = 16u8;
     let mut seen = 0u8;
     for r in 0..16u8 {
-        let named = commitpage::names(map, r);
+        let named = commitpage::names(map, 16, r);
         at = record_if(at, named & (seen == n), r);
         seen = one_more_if(seen, named);
     }
@@ -162,8 +162,10 @@ fn page_for(p: Plan, r: u8, work: &[u8], store: &[u8]) -> [u8; 32]
 
 // The page write number `index` of a plan: 0, or 12 where there is none.
 fn put_numbered(p: Plan, work: &[u8], store: &[u8], index: u8, write: &mut [u8]) -> u8
-    requires { ⌜ (length (now work) ≡ workBytes) × (length (now store) ≡ 1056) × (length (now write) ≡ 33) ⌝ }
-    ensures { λ r. let said = told (writeAt index (writesOf p (now (work .entry)) (now (store .entry)))) (now (write .entry)) in ⌜ (r ≡ said .answer) × (now (write .exit) ≡ said .write) ⌝ }
+    requires { ⌜ (p .map < 65536) × (length (now work) ≡ workBytes) × (length (now store) ≡ 1056) × (length (now write) ≡ 33) ⌝ }
+    ensures { λ r.
+        let said = told (writeAt index (writesOf p (now (work .entry)) (now (store .entry)))) (now (write .entry)) in
+        ⌜ (r ≡ said .answer) × (now (write .exit) ≡ said .write) ⌝ }
 {
     let m = commitpage::ones(p.map);
     let a = length_if(p.intentions, m);
@@ -177,7 +179,7 @@ fn put_numbered(p: Plan, work: &[u8], store: &[u8], index: u8, write: &mut [u8])
         return 0;
     }
     if index < b {
-        put_write(write, 0, commitpage::commit_page(p.map));
+        put_write(write, 0, commitpage::commit_page(p.map, 16));
         return 0;
     }
     if index < c {
@@ -190,7 +192,7 @@ fn put_numbered(p: Plan, work: &[u8], store: &[u8], index: u8, write: &mut [u8])
         return 0;
     }
     if index < e {
-        put_write(write, 0, commitpage::commit_page(0));
+        put_write(write, 0, commitpage::commit_page(0, 16));
         return 0;
     }
     12
@@ -202,13 +204,16 @@ fn top_plan(
     parent: &[u8; 24],
     depth: &[u8; 24],
     writers: &[u32; 16],
-    reserved: u16,
+    reserved: u64,
     t: TransactionNumber,
     prepares: bool,
     identity: u8,
 ) -> Plan
     requires { ⌜ (length (now parent) ≡ 24) × (length (now depth) ≡ 24) × (length (now writers) ≡ 16) × ((u : ℕ) → getD (now parent) u 0 < 32) ⌝ }
-    ensures { λ p. ⌜ ((line held retained work store : List ℕ) (k i : ℕ) → let x = arrays up (now (parent .entry)) (now (depth .entry)) line held retained (now (writers .entry)) work store in Intact x → Reserves store reserved i → Plans x (some (settling prepares (transactionOf t) k identity)) p) ⌝ }
+    ensures { λ p. ⌜ ((line held retained work store : List ℕ) (k i : ℕ) →
+        let x = arrays up (now (parent .entry)) (now (depth .entry)) line held retained (now (writers .entry)) work store in
+        Intact edition1 x → Reserves geometry1 store reserved i → Plans x (some (settling prepares (transactionOf t) k identity)) p) ⌝ }
+    ensures { λ p. ⌜ p .map < 65536 ⌝ }
 {
     let n = t.number();
     if up != 1 {
@@ -225,7 +230,7 @@ fn top_plan(
     if d != 1 {
         return none();
     }
-    let map = commitpage::map_of(writers, n);
+    let map = commitpage::map_of(&writers[..], 16, n);
     if (map != 0) & (reserved != 0) {
         return none();
     }
@@ -235,12 +240,15 @@ fn top_plan(
 // Of a recovery: none where it is refused.
 fn recovery_plan(up: u8, store: &[u8]) -> Plan
     requires { ⌜ length (now store) ≡ 1056 ⌝ }
-    ensures { λ p. ⌜ ((parent depth line held retained writers work : List ℕ) (k : ℕ) → let x = arrays up parent depth line held retained writers work (now (store .entry)) in Intact x → Plans x (some (recover k)) p) ⌝ }
+    ensures { λ p. ⌜ ((parent depth line held retained writers work : List ℕ) (k : ℕ) →
+        let x = arrays up parent depth line held retained writers work (now (store .entry)) in
+        Intact edition1 x → Plans x (some (recover k)) p) ⌝ }
+    ensures { λ p. ⌜ p .map < 65536 ⌝ }
 {
     if up == 1 {
         return none();
     }
-    let c = commit::read_map(store);
+    let c = commit::read_map(store, 16, true);
     let map = c.map;
     if !c.good {
         return none();
@@ -249,8 +257,12 @@ fn recovery_plan(up: u8, store: &[u8]) -> Plan
 }
 
 // Of the decision on identity i: none while down, and none on another than the prepared one.
-fn decision_plan(up: u8, reserved: u16, identity: u8, commits: bool, i: u8) -> Plan
-    ensures { λ p. ⌜ ((parent depth line held retained writers work store : List ℕ) (k : ℕ) → let x = arrays up parent depth line held retained writers work store in Intact x → Reserves store reserved identity → Plans x (some (decide commits k i)) p) ⌝ }
+fn decision_plan(up: u8, reserved: u64, identity: u8, commits: bool, i: u8) -> Plan
+    requires { ⌜ reserved < 65536 ⌝ }
+    ensures { λ p. ⌜ ((parent depth line held retained writers work store : List ℕ) (k : ℕ) →
+        let x = arrays up parent depth line held retained writers work store in
+        Intact edition1 x → Reserves geometry1 store reserved identity → Plans x (some (decide commits k i)) p) ⌝ }
+    ensures { λ p. ⌜ p .map < 65536 ⌝ }
 {
     if up != 1 {
         return none();
@@ -270,11 +282,15 @@ fn plan_of(
     store: &[u8],
     e: Event,
 ) -> Plan
-    requires { ⌜ (length (now parent) ≡ 24) × (length (now depth) ≡ 24) × (length (now writers) ≡ 16) × (length (now store) ≡ 1056) × ((u : ℕ) → getD (now parent) u 0 < 32) × InRange e ⌝ }
-    ensures { λ p. ⌜ ((line held retained work : List ℕ) → let x = arrays up (now (parent .entry)) (now (depth .entry)) line held retained (now (writers .entry)) work (now (store .entry)) in Intact x → Plans x (meaning e) p) ⌝ }
+    requires { ⌜ (length (now parent) ≡ 24) × (length (now depth) ≡ 24) × (length (now writers) ≡ 16) × (length (now store) ≡ 1056)
+        × ((u : ℕ) → getD (now parent) u 0 < 32) × InRange e ⌝ }
+    ensures { λ p. ⌜ ((line held retained work : List ℕ) →
+        let x = arrays up (now (parent .entry)) (now (depth .entry)) line held retained (now (writers .entry)) work (now (store .entry)) in
+        Intact edition1 x → Plans x (meaning e) p) ⌝ }
+    ensures { λ p. ⌜ p .map < 65536 ⌝ }
 {
     let kind = e.kind;
-    let held = commit::read_held(store);
+    let held = commit::read_held(store, 16, true);
     if kind == 8 {
         return recovery_plan(up, store);
     }
@@ -312,8 +328,12 @@ pub fn page_write(
     index: u8,
     write: &mut [u8],
 ) -> u8
-    requires { ⌜ (length (now parent) ≡ 24) × (length (now depth) ≡ 24) × (length (now writers) ≡ 16) × (length (now work) ≡ workBytes) × (length (now store) ≡ 1056) × (length (now write) ≡ 33) × ((u : ℕ) → getD (now parent) u 0 < 32) × InRange e ⌝ }
-    ensures { λ r. ⌜ ((line held retained : List ℕ) → let x = arrays up (now (parent .entry)) (now (depth .entry)) line held retained (now (writers .entry)) (now (work .entry)) (now (store .entry)) in let said = told (writeAt index (planFor geometry1 (view x) (meaning e))) (now (write .entry)) in Intact x → (r ≡ said .answer) × (now (write .exit) ≡ said .write)) ⌝ }
+    requires { ⌜ (length (now parent) ≡ 24) × (length (now depth) ≡ 24) × (length (now writers) ≡ 16) × (length (now work) ≡ workBytes)
+        × (length (now store) ≡ 1056) × (length (now write) ≡ 33) × ((u : ℕ) → getD (now parent) u 0 < 32) × InRange e ⌝ }
+    ensures { λ r. ⌜ ((line held retained : List ℕ) →
+        let x = arrays up (now (parent .entry)) (now (depth .entry)) line held retained (now (writers .entry)) (now (work .entry)) (now (store .entry)) in
+        let said = told (writeAt index (planFor geometry1 (view edition1 x) (meaning e))) (now (write .entry)) in
+        Intact edition1 x → (r ≡ said .answer) × (now (write .exit) ≡ said .write)) ⌝ }
 {
     let p = plan_of(up, parent, depth, writers, store, e);
     put_numbered(p, work, store, index, write)

@@ -19,7 +19,7 @@ fn is_idle(depth: &[u8; 24]) -> bool
 }
 
 // Nobody has a lock of the records that a map names.
-fn are_unlocked(map: u16, held: &[u32; 32], retained: &[u32; 32]) -> bool
+fn are_unlocked(map: u64, held: &[u32; 32], retained: &[u32; 32]) -> bool
     requires { ⌜ (length (now held) ≡ 32) × (length (now retained) ≡ 32) ⌝ }
     ensures { λ b. ⌜ Decides b (Unlocked map (now (held .entry)) (now (retained .entry))) ⌝ }
 {
@@ -30,7 +30,7 @@ fn are_unlocked(map: u16, held: &[u32; 32], retained: &[u32; 32]) -> bool
     for r in 0..16u8 {
         let any = 2 * (r as usize);
         let unlocked = (held[any] | retained[any]) == 0;
-        ok = ok & (!commitpage::names(map, r) | unlocked);
+        ok = ok & (!commitpage::names(map, 16, r) | unlocked);
     }
     ok
 }
@@ -49,8 +49,8 @@ pub fn is_phase(
 {
     let idle = is_idle(depth);
     let page = page::get_page(store, 0);
-    let c = commitpage::read_commit(page);
-    let p = commitpage::read_prepared(page);
+    let c = commitpage::read_commit(page, 16);
+    let p = commitpage::read_prepared(page, 16, true);
     let map = p.map;
     let unlocked = are_unlocked(map, held, retained);
     let good = c.good;

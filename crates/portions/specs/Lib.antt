@@ -1,2 +1,2 @@
--- What a portion of events does.
+-- What is lent as a state.
 pub mod Portion

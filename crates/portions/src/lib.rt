@@ -1,25 +1,16 @@
 // A portion, a list of events over the engine with an answer each; the state between two portions; and the start.
 ghost use mathlib.Core.Path.{_≡_};
 ghost use mathlib.Core.List.{List};
-ghost use Prim.Native.Nat.{ℕ, _+_, _*_, _<_, _≤_};
-ghost use lib.ListN.{length, set};
+ghost use Prim.Native.Nat.{ℕ, _*_, _/_, _≤_};
+ghost use lib.ListN.{length};
 ghost use Rattle.rules.specs.Store.{pagesOf};
 ghost use Rattle.rules.specs.State.{down};
-ghost use Rattle.rules.specs.Editions.{workBytes};
-ghost use Rattle.events.specs.Whole.{view, Intact};
-ghost use Rattle.portions.specs.Portion.{whole, Portion};
+ghost use Rattle.rules.specs.Editions.{edition1, workBytes};
+ghost use Rattle.state.specs.Whole.{view, Intact};
+ghost use Rattle.state.specs.Portion.{Portion};
+ghost use Rattle.portions.specs.Portion.{whole};
+use event::Answer;
 use event::Event;
-use events::Answer;
-
-// The answer to event k.
-fn put_answer(answers: &mut [u8], k: usize, a: Answer)
-    requires { ⌜ (k < 4096) × (2 * k + 2 ≤ length (now answers)) ⌝ }
-    ensures { λ _. ⌜ now (answers .exit) ≡ set (set (now (answers .entry)) (2 * k) (a .number)) (2 * k + 1) (a .value) ⌝ }
-{
-    let at = 2 * k;
-    answers[at] = a.number;
-    answers[at + 1] = a.value;
-}
 
 // The engine's state between two portions, 468 bytes with no padding; all zeros is the start. A caller keeps it and lends it: the order of the fields
 // is final.
@@ -45,8 +36,11 @@ pub fn portion(
     work: &mut [u8],
     answers: &mut [u8],
 ) -> Engine
-    requires { ⌜ Intact (whole e (now work) (now store)) × (length (now events) ≤ 16384) × (length (now events) ≤ 2 * length (now answers)) ⌝ }
-    ensures { λ r. ⌜ Portion (whole e (now (work .entry)) (now (store .entry))) (now (events .entry)) (now (answers .entry)) (whole r (now (work .exit)) (now (store .exit))) (now (answers .exit)) ⌝ }
+    requires { ⌜ Intact edition1 (whole e (now work) (now store)) × (length (now events) ≤ 16384) × (2 * (length (now events) / 4) ≤ length (now answers)) ⌝ }
+    ensures { λ r.
+        let before = whole e (now (work .entry)) (now (store .entry)) in
+        let after = whole r (now (work .exit)) (now (store .exit)) in
+        ⌜ Portion edition1 before (now (events .entry)) (now (answers .entry)) after (now (answers .exit)) ⌝ }
     ensures { λ r. ⌜ r .spare ≡ e .spare ⌝ }
 {
     let mut up = e.up;
@@ -58,7 +52,7 @@ pub fn portion(
     let mut writers = e.writers;
     let mut live = transactions::live_set(&depth);
     let mut children = transactions::children_of(&parent, &depth);
-    let p = commit::read_held(&store[..]);
+    let p = commit::read_held(&store[..], 16, true);
     let mut reserved = p.map;
     let mut identity = p.identity;
     let table = Event::table();
@@ -71,16 +65,18 @@ pub fn portion(
             &mut line,
             &mut live,
             &mut children,
-            &mut held,
-            &mut retained,
-            &mut writers,
+            &mut held[..],
+            &mut retained[..],
+            &mut writers[..],
             work,
             store,
             &mut reserved,
             &mut identity,
+            16,
+            true,
             Event::of_word(&table, Event::word_at(events, k)),
         );
-        put_answer(answers, k, a);
+        Answer::put(answers, k, a);
     }
     let spare = e.spare;
     Engine {
@@ -97,7 +93,7 @@ pub fn portion(
 
 // The start: down, and nothing live, held, retained or written. All zeros.
 pub fn start() -> Engine
-    ensures { λ e. ⌜ ((work store : List ℕ) → length work ≡ workBytes → length store ≡ 1056 → Intact (whole e work store) × (view (whole e work store) ≡ down (pagesOf store))) ⌝ }
+    ensures { λ e. ⌜ ((work store : List ℕ) → length work ≡ workBytes → length store ≡ 1056 → Intact edition1 (whole e work store) × (view edition1 (whole e work store) ≡ down (pagesOf store))) ⌝ }
 {
     Engine {
         line: [0; 24],

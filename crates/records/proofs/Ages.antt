@@ -1,28 +1,31 @@
 -- The stamp and the settled page are those of the rules; the cases of an age's answer.
-use mathlib.Core.Path.{_≡_, refl, sym, ap, _∙_}
+use mathlib.Core.Path.{_≡_, refl, sym, ap, subst⁻¹, _∙_}
 use mathlib.Core.Bool.{Bool, true, false, not, cond, _&&_, true≢false, false≢true}
 use mathlib.Core.List.{List}
+use mathlib.Core.Logic.{_≢_}
 use mathlib.Core.Option.{Option, none, some}
-use Prim.Native.Nat.{ℕ, zero, suc, _+_, _*_, _<_, min}
+use Prim.Native.Nat.{ℕ, zero, suc, _+_, _*_, _<_, _≤_, min}
 use native.Mathlib.Omega.{arith}
 use lib.IntN.{ℤ, subℕ}
 use lib.ListN.{length, take, drop}
 use lib.Seq.{take-take}
 use Rattle.laws.specs.Tests.{same, under}
 use Rattle.laws.specs.Bytes.{number}
-use Rattle.laws.proofs.Tests.{lt-under, under-lt}
+use Rattle.laws.proofs.Tests.{lt-under, under-lt, ne-false, same-refl}
 use Rattle.laws.proofs.Booleans.{not-false, not-true}
-use Rattle.rules.specs.Geometry.{records, pageCount, open-geometry}
+use Rattle.rules.specs.Geometry.{Geometry, records, pageCount, pageSize}
 use Rattle.rules.specs.Store.{Page, pagesOf, named, readCommit, mapIn, isDamaged, damaged, isNamed, intention, home, settled}
 use Rattle.rules.specs.Step.{firstOf}
 use Rattle.rules.specs.Age.{Age, refused, judged, stamp, ageRefusals, ageBy, ageOf}
-use Rattle.rules.specs.Editions.{geometry1, edition1}
+use Rattle.rules.specs.Form.{Medium, atomic}
 use denote.Enum.Declared.{tagOf}
 use Rattle.numbers.proofs.RecordNamed.{the-type}
 use Rattle.numbers.specs.Named.{recordNamed, recordOf}
 use Rattle.numbers.specs.declared.RecordNamed.{RecordNamed}
 use Rattle.numbers.specs.declared.RecordNamed.the-variants as R
 use Rattle.numbers.specs.declared.RecordNumber.{RecordNumber}
+use Rattle.lengths.specs.Lengths.{storeBytes}
+use Rattle.lengths.proofs.Sizes.{store-size}
 use Rattle.commitpage.specs.Heard.{understood}
 use Rattle.commitpage.specs.declared.CommitMap.{CommitMap}
 use Rattle.age.specs.Meaning.{meaning}
@@ -37,74 +40,81 @@ stamp-is bs n =
     let e : 4 * (8 * n) ≡ 32 * n = omega arith in
     ap number (ap (λ (k : ℕ). take 4 (drop k bs)) e ∙ sym (take-take 4 32 (drop (32 * n) bs) (omega arith)))
 
--- the page of the settled value, where this map is in force
-pub settled-is : (bs : List ℕ) (map r : ℕ) → mapIn (readCommit geometry1 (pagesOf bs 0)) ≡ map → r < 16
-    → settled geometry1 (pagesOf bs) r ≡ pagesOf bs (cond (named geometry1 map r) (1 + r) (17 + r))
-unfolding settled isNamed intention home open-geometry
-settled-is bs map r e h = rw (e, lt-under r 16 h) (go (named geometry1 map r))
-  where
-    go : (b : Bool) → cond b (pagesOf bs (1 + r)) (pagesOf bs (1 + (16 + r))) ≡ pagesOf bs (cond b (1 + r) (17 + r))
-    go true = refl
-    go false = let q : 1 + (16 + r) ≡ 17 + r = omega arith in ap (pagesOf bs) q
+module _ (g : Geometry) (n : ℕ) (many : records g ≡ n) where
+  -- the page of the settled value, where this map is in force
+  settled-is : (bs : List ℕ) (map r : ℕ) → mapIn (readCommit g (pagesOf bs 0)) ≡ map → r < n
+      → settled g (pagesOf bs) r ≡ pagesOf bs (cond (named g map r) (1 + r) (1 + n + r))
+  unfolding settled isNamed intention home
+  settled-is bs map r e h = rw (e, lt-under r (records g) (let m = many in omega (arith, h))) (go (named g map r))
+    where
+      go : (b : Bool) → cond b (pagesOf bs (1 + r)) (pagesOf bs (1 + (records g + r))) ≡ pagesOf bs (cond b (1 + r) (1 + n + r))
+      go true = refl
+      go false = let q : 1 + (records g + r) ≡ 1 + n + r = omega (arith, many) in ap (pagesOf bs) q
 
-pub age-damaged : (bs : List ℕ) (r clock limit : ℕ) → damaged geometry1 (pagesOf bs) ≡ true → refused 4 ≡ ageIn bs r clock limit
-unfolding ageIn
-age-damaged bs r clock limit e = rw e
+  age-damaged : (bs : List ℕ) (r clock limit : ℕ) → damaged g (pagesOf bs) ≡ true → refused 4 ≡ ageIn g bs r clock limit
+  unfolding ageIn
+  age-damaged bs r clock limit e = rw e
 
-pub age-judged : (bs : List ℕ) (map r clock limit : ℕ) → damaged geometry1 (pagesOf bs) ≡ false → mapIn (readCommit geometry1 (pagesOf bs 0)) ≡ map → r < 16
-    → judged (subℕ clock (number (take 4 (pagesOf bs (cond (named geometry1 map r) (1 + r) (17 + r)))))) limit ≡ ageIn bs r clock limit
-unfolding ageIn
-age-judged bs map r clock limit d e h = rw (settled-is bs map r e h, d)
+  age-judged : (bs : List ℕ) (map r clock limit : ℕ) → damaged g (pagesOf bs) ≡ false → mapIn (readCommit g (pagesOf bs 0)) ≡ map → r < n
+      → judged (subℕ clock (number (take 4 (pagesOf bs (cond (named g map r) (1 + r) (1 + n + r)))))) limit ≡ ageIn g bs r clock limit
+  unfolding ageIn
+  age-judged bs map r clock limit d e h = rw (settled-is bs map r e h, d)
 
-pub age-short : (bs : List ℕ) (r clock limit : ℕ) → same (length bs) 1056 ≡ false → refused 22 ≡ ageOf edition1 bs r clock limit
-unfolding ageOf ageBy ageRefusals firstOf open-geometry
-age-short bs r clock limit e = rw e
+  pub age-short : (bs : List ℕ) (r clock limit : ℕ) → length bs ≢ storeBytes n → refused 22 ≡ ageOf (atomic g) bs r clock limit
+  unfolding ageOf ageBy ageRefusals firstOf
+  age-short bs r clock limit h = rw (ne-false (length bs) (pageCount g * pageSize) (λ e. h (e ∙ store-size n g many)))
 
-pub age-no-record : (bs : List ℕ) (r clock limit : ℕ) → same (length bs) 1056 ≡ true → under r 16 ≡ false → refused 23 ≡ ageOf edition1 bs r clock limit
-unfolding ageOf ageBy ageRefusals firstOf open-geometry
-age-no-record bs r clock limit e h = rw (e, h)
+  right-size : (bs : List ℕ) → length bs ≡ storeBytes n → same (length bs) (pageCount g * pageSize) ≡ true
+  right-size bs e = ap (λ (k : ℕ). same k (pageCount g * pageSize)) (e ∙ sym (store-size n g many)) ∙ same-refl (pageCount g * pageSize)
 
-pub age-in : (bs : List ℕ) (r clock limit : ℕ) → same (length bs) 1056 ≡ true → under r 16 ≡ true → ageIn bs r clock limit ≡ ageOf edition1 bs r clock limit
-unfolding ageIn ageOf ageBy ageRefusals stamp firstOf open-geometry
-age-in bs r clock limit e h = rw (e, h) (go (damaged geometry1 (pagesOf bs)))
-  where
-    go : (b : Bool) → cond b (refused 4) (judged (subℕ clock (number (take 4 (settled geometry1 (pagesOf bs) r)))) limit)
-        ≡ ageBy edition1 bs r clock limit (cond b (some 4) none)
-    go true = refl
-    go false = refl
+  below : (r : ℕ) (b : Bool) → under r n ≡ b → under r (records g) ≡ b
+  below r b h = ap (under r) many ∙ h
 
--- what is read of the commit page, and what follows of the age
-pub told-good : (bs : List ℕ) (page : Page) (o : CommitMap) (r clock limit n stamp : ℕ) (age : ℤ) (a : Age) → page ≡ pagesOf bs 0 → o ≡ understood page → o .good ≡ true → r < 16
-    → n ≡ cond (named geometry1 (o .map) r) (1 + r) (17 + r) → stamp ≡ number (take 4 (pagesOf bs n)) → age ≡ subℕ clock stamp → a ≡ judged age limit → a ≡ ageIn bs r clock limit
-unfolding understood damaged
-told-good bs page o r clock limit n stamp age a p q g h en es ea e =
-    e ∙ ap (λ (z : ℤ). judged z limit) (ea ∙ ap (subℕ clock) (es ∙ ap (λ (k : ℕ). number (take 4 (pagesOf bs k))) en))
-    ∙ age-judged bs (o .map) r clock limit (not-true _ (ap (λ (x : Page). understood x .good) (sym p) ∙ ap (λ (c : CommitMap). c .good) (sym q) ∙ g))
-    (ap (λ (x : Page). understood x .map) (sym p) ∙ ap (λ (c : CommitMap). c .map) (sym q)) h
+  pub age-no-record : (bs : List ℕ) (r clock limit : ℕ) → length bs ≡ storeBytes n → under r n ≡ false → refused 23 ≡ ageOf (atomic g) bs r clock limit
+  unfolding ageOf ageBy ageRefusals firstOf
+  age-no-record bs r clock limit e h = rw (right-size bs e, below r false h)
 
-pub told-bad : (bs : List ℕ) (page : Page) (o : CommitMap) (r clock limit : ℕ) → page ≡ pagesOf bs 0 → o ≡ understood page → o .good ≡ false → refused 4 ≡ ageIn bs r clock limit
-unfolding understood damaged
-told-bad bs page o r clock limit p q g = age-damaged bs r clock limit (not-false _ (ap (λ (x : Page). understood x .good) (sym p) ∙ ap (λ (c : CommitMap). c .good) (sym q) ∙ g))
+  pub age-in : (bs : List ℕ) (r clock limit : ℕ) → length bs ≡ storeBytes n → under r n ≡ true → ageIn g bs r clock limit ≡ ageOf (atomic g) bs r clock limit
+  unfolding ageIn ageOf ageBy ageRefusals stamp firstOf
+  age-in bs r clock limit e h = rw (right-size bs e, below r true h) (go (damaged g (pagesOf bs)))
+    where
+      go : (b : Bool) → cond b (refused 4) (judged (subℕ clock (number (take 4 (settled g (pagesOf bs) r)))) limit)
+          ≡ ageBy (atomic g) bs r clock limit (cond b (some 4) none)
+      go true = refl
+      go false = refl
 
-pub record-small : (r : RecordNumber) → recordOf r < 16
-unfolding recordOf
-record-small r = omega arith
+  -- what is read of the commit page, and what follows of the age
+  pub told-good : (bs : List ℕ) (page : Page) (o : CommitMap) (r clock limit p stamp : ℕ) (age : ℤ) (a : Age) → page ≡ pagesOf bs 0 → o ≡ understood g page → o .good ≡ true → r < n
+      → p ≡ cond (named g (o .map) r) (1 + r) (1 + n + r) → stamp ≡ number (take 4 (pagesOf bs p)) → age ≡ subℕ clock stamp → a ≡ judged age limit → a ≡ ageIn g bs r clock limit
+  unfolding understood damaged
+  told-good bs page o r clock limit p stamp age a q u good h en es ea e =
+      e ∙ ap (λ (z : ℤ). judged z limit) (ea ∙ ap (subℕ clock) (es ∙ ap (λ (k : ℕ). number (take 4 (pagesOf bs k))) en))
+      ∙ age-judged bs (o .map) r clock limit (not-true _ (ap (λ (x : Page). understood g x .good) (sym q) ∙ ap (λ (c : CommitMap). c .good) (sym u) ∙ good))
+      (ap (λ (x : Page). understood g x .map) (sym q) ∙ ap (λ (c : CommitMap). c .map) (sym u)) h
+
+  pub told-bad : (bs : List ℕ) (page : Page) (o : CommitMap) (r clock limit : ℕ) → page ≡ pagesOf bs 0 → o ≡ understood g page → o .good ≡ false → refused 4 ≡ ageIn g bs r clock limit
+  unfolding understood damaged
+  told-bad bs page o r clock limit q u good = age-damaged bs r clock limit (not-false _ (ap (λ (x : Page). understood g x .good) (sym q) ∙ ap (λ (c : CommitMap). c .good) (sym u) ∙ good))
 
 -- what the check of a record's number answers
-pub named-small : (n : ℕ) (r : RecordNumber) → recordNamed n ≡ R.Number r → (under n 16 ≡ true) × (recordOf r ≡ n)
-unfolding recordNamed recordOf open-geometry
-named-small n r e = go (under n 16) refl e
-  where
-    go : (b : Bool) → under n 16 ≡ b → cond b (R.Number (record { 0 = n })) R.NoSuchRecord ≡ R.Number r → (under n 16 ≡ true) × (min (r .0) 15 ≡ n)
-    go true u q =
-        let s : n ≡ r .0 = ap (λ (x : RecordNamed). elim x [ R.Number y ↦ y .0 | R.NoSuchRecord ↦ n ]) q in
-        let l : n < 16 = under-lt n 16 u in
-        (u, omega arith)
-    go false u q = absurd (false≢true (ap (λ (x : RecordNamed). elim x [ R.Number y ↦ true | R.NoSuchRecord ↦ false ]) q))
+module _ (m : ℕ) (few : m ≤ 64) where
+  pub named-small : (n : ℕ) (r : RecordNumber) → recordNamed m n ≡ R.Number r → (under n m ≡ true) × (recordOf r ≡ n)
+  unfolding recordNamed recordOf
+  named-small n r e = go (under n m) refl e
+    where
+      go : (b : Bool) → under n m ≡ b → cond b (R.Number (record { 0 = n })) R.NoSuchRecord ≡ R.Number r → (under n m ≡ true) × (min (r .0) 63 ≡ n)
+      go true u q =
+          let s : n ≡ r .0 = ap (λ (x : RecordNamed). elim x [ R.Number y ↦ y .0 | R.NoSuchRecord ↦ n ]) q in
+          let l : n < m = under-lt n m u in
+          (u, let k = few in omega arith)
+      go false u q = absurd (false≢true (ap (λ (x : RecordNamed). elim x [ R.Number y ↦ true | R.NoSuchRecord ↦ false ]) q))
 
-pub named-none : (n : ℕ) → recordNamed n ≡ R.NoSuchRecord → under n 16 ≡ false
-unfolding recordNamed open-geometry
-named-none n e = go (under n 16) e
+  pub named-below : (n : ℕ) (r : RecordNumber) → recordNamed m n ≡ R.Number r → recordOf r < m
+  named-below n r e = let k = named-small n r e in subst⁻¹ (λ (i : ℕ). i < m) (k .1) (under-lt n m (k .0))
+
+pub named-none : (m n : ℕ) → recordNamed m n ≡ R.NoSuchRecord → under n m ≡ false
+unfolding recordNamed
+named-none m n e = go (under n m) e
   where
     go : (b : Bool) → cond b (R.Number (record { 0 = n })) R.NoSuchRecord ≡ R.NoSuchRecord → b ≡ false
     go true q = absurd (true≢false (ap (λ (x : RecordNamed). elim x [ R.Number y ↦ true | R.NoSuchRecord ↦ false ]) q))

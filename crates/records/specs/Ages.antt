@@ -5,9 +5,9 @@ use mathlib.Core.List.{List}
 use lib.IntN.{ℤ, subℕ}
 use lib.ListN.{take}
 use Rattle.laws.specs.Bytes.{number}
+use Rattle.rules.specs.Geometry.{Geometry}
 use Rattle.rules.specs.Store.{pagesOf, damaged, settled}
 use Rattle.rules.specs.Age.{Age, ahead, live, stale, refused, judged}
-use Rattle.rules.specs.Editions.{geometry1}
 use Rattle.age.specs.Meaning.{meaning}
 use Rattle.records.specs.declared.Told.{Told}
 use Rattle.records.specs.declared.Told.the-variants as T
@@ -32,6 +32,6 @@ ageLeft (stale a) old = a
 ageLeft (refused n) old = old
 
 -- the age of record r in a store of the right size, unless its commit page is damaged
-unfoldable pub ageIn : List ℕ → ℕ → ℕ → ℕ → Age
-ageIn store r clock limit =
-    cond (damaged geometry1 (pagesOf store)) (refused 4) (judged (subℕ clock (number (take 4 (settled geometry1 (pagesOf store) r)))) limit)
+unfoldable pub ageIn : Geometry → List ℕ → ℕ → ℕ → ℕ → Age
+ageIn g store r clock limit =
+    cond (damaged g (pagesOf store)) (refused 4) (judged (subℕ clock (number (take 4 (settled g (pagesOf store) r)))) limit)

@@ -1,38 +1,56 @@
 // A fresh store, laid page by page; the age of a record, told from its settled page's stamp.
 ghost use mathlib.Core.Path.{_≡_};
-ghost use mathlib.Core.Bool.{Bool, cond};
-ghost use Prim.Native.Nat.{ℕ, _+_, _<_};
+ghost use mathlib.Core.Bool.{Bool, true, cond};
+ghost use Prim.Native.Nat.{ℕ, _+_, _*_, _<_, _≤_};
 ghost use lib.IntN.{ℤ};
 ghost use lib.ListN.{length, take};
 ghost use Rattle.laws.specs.Bytes.{number as spelled};
+ghost use Rattle.rules.specs.Geometry.{Geometry, records};
 ghost use Rattle.rules.specs.Store.{pagesOf, named, fresh};
+ghost use Rattle.rules.specs.Form.{atomic};
+ghost use Rattle.rules.specs.Run.{layFresh};
 ghost use Rattle.rules.specs.Age.{ageOf};
-ghost use Rattle.rules.specs.Editions.{geometry1, edition1};
+ghost use Rattle.commitpage.specs.Layout.{Known, Layout};
+ghost use Rattle.lengths.specs.Lengths.{storeBytes};
 ghost use Rattle.numbers.specs.Named.{recordOf};
 ghost use Rattle.records.specs.Ages.{toldAs, ageIn, ageNumber, ageLeft};
 ghost use Rattle.records.specs.Laying.{LaidTo};
 ghost use Rattle.age.specs.Meaning.{meaning};
 
-const STORE: usize = 1056;
-
-// Page n of a fresh store.
-fn fresh_page(n: usize) -> [u8; 32]
-    ensures { λ r. ⌜ r ≡ fresh geometry1 n ⌝ }
+// Page p of a fresh store of n records.
+fn fresh_page(p: usize, n: usize) -> [u8; 32]
+    requires { ⌜ Known n ⌝ }
+    ensures { λ r. ⌜ ((g : Geometry) → Layout g n → r ≡ fresh g p) ⌝ }
 {
-    if n == 0 {
-        return commitpage::commit_page(0);
+    if p == 0 {
+        return commitpage::commit_page(0, n);
     }
     [0; 32]
 }
 
-// Every page becomes that of a fresh store.
-pub fn lay(store: &mut [u8])
-    requires { ⌜ length (now store) ≡ 1056 ⌝ }
-    ensures { λ _. ⌜ LaidTo 33 (now (store .exit)) ⌝ }
+// Every page becomes that of a fresh store of n records.
+pub fn lay(store: &mut [u8], n: usize)
+    requires { ⌜ Known n × (length (now store) ≡ storeBytes n) ⌝ }
+    ensures { λ _. ⌜ ((g : Geometry) → Layout g n → LaidTo g (1 + (n + n)) (now (store .exit))) ⌝ }
 {
-    for n in 0..33 {
-        page::put_page(store, n, fresh_page(n));
+    let pages = 1 + (n + n);
+    for p in 0..pages {
+        page::put_page(store, p, fresh_page(p, n));
     }
+}
+
+// Lays down a fresh store of n records: 0, or 22 where it hasn't the size of a store, and then writes nothing.
+pub fn lay_fresh(store: &mut [u8], n: usize) -> u8
+    requires { ⌜ Known n ⌝ }
+    ensures { λ r.
+        let before = now (store .entry) in
+        ⌜ ((g : Geometry) → Layout g n → (r ≡ layFresh (atomic g) before .answer) × (now (store .exit) ≡ layFresh (atomic g) before .store)) ⌝ }
+{
+    if store.len() != 32 * (1 + (n + n)) {
+        return 22;
+    }
+    lay(store, n);
+    0
 }
 
 // What telling an age answers: the judgement, or a refusal's number.
@@ -41,48 +59,64 @@ pub enum Told {
     Refused(u8),
 }
 
-// The stamp that a page begins with: four bytes, as an event word has.
-fn stamp_on(store: &[u8], n: usize) -> u32
-    requires { ⌜ (n < 33) × (length (now store) ≡ 1056) ⌝ }
-    ensures { λ r. ⌜ r ≡ spelled (take 4 (pagesOf (now (store .entry)) n)) ⌝ }
+// The stamp that a page begins with: four bytes, as an event word of edition 1 has.
+fn stamp_on(store: &[u8], p: usize) -> u32
+    requires { ⌜ (p < 1024) × (32 * p + 32 ≤ length (now store)) ⌝ }
+    ensures { λ r. ⌜ r ≡ spelled (take 4 (pagesOf (now (store .entry)) p)) ⌝ }
 {
-    event::Event::word_at(store, 8 * n)
+    event::Event::word_at(store, 8 * p)
 }
 
-// The page that has the settled value of record r under a commit page with this map.
-fn settled_page(map: u16, r: numbers::RecordNumber) -> usize
-    ensures { λ n. ⌜ (n ≡ cond (named geometry1 map (recordOf r)) (1 + recordOf r) (17 + recordOf r)) × (n < 33) ⌝ }
+// The page that has the settled value of record r, of n, under a commit page with this map.
+fn settled_page(map: u64, n: usize, r: numbers::RecordNumber) -> usize
+    requires { ⌜ (n ≤ 64) × (recordOf r < n) ⌝ }
+    ensures { λ p. ⌜ ((g : Geometry) → records g ≡ n → p ≡ cond (named g map (recordOf r)) (1 + recordOf r) (1 + n + recordOf r)) × (p < 1 + (n + n)) ⌝ }
 {
     let at = r.index();
-    if commitpage::names(map, r.number()) {
+    if commitpage::names(map, n as u8, r.number()) {
         return 1 + at;
     }
-    17 + at
+    1 + n + at
 }
 
 // The age of record r of a store of the right size, unless its commit page is damaged.
-fn age_in(store: &[u8], r: numbers::RecordNumber, clock: age::Reading, limit: age::Limit) -> Told
-    requires { ⌜ length (now store) ≡ 1056 ⌝ }
-    ensures { λ t. ⌜ toldAs t ≡ ageIn (now (store .entry)) (recordOf r) (clock .0) (limit .0) ⌝ }
+fn age_in(
+    store: &[u8],
+    n: usize,
+    joint: bool,
+    r: numbers::RecordNumber,
+    clock: age::Reading,
+    limit: age::Limit,
+) -> Told
+    requires { ⌜ Known n × (joint ≡ true → n ≡ 16) × (length (now store) ≡ storeBytes n) × (recordOf r < n) ⌝ }
+    ensures { λ t. ⌜ ((g : Geometry) → Layout g n → g .joint ≡ joint → toldAs t ≡ ageIn g (now (store .entry)) (recordOf r) (clock .0) (limit .0)) ⌝ }
 {
-    let c = commitpage::read_page(page::get_page(store, 0));
+    let c = commitpage::read_page(page::get_page(store, 0), n, joint);
     if c.good {
-        let stamp = age::Reading::new(stamp_on(store, settled_page(c.map, r)));
+        let stamp = age::Reading::new(stamp_on(store, settled_page(c.map, n, r)));
         return Told::Judged(clock.since(stamp).judged_by(limit));
     }
     Told::Refused(4)
 }
 
-// The age of a record: refused with 22, 23 or 4, in this order, or judged.
-pub fn age_of(store: &[u8], number: u8, clock: age::Reading, limit: age::Limit) -> Told
-    ensures { λ t. ⌜ toldAs t ≡ ageOf edition1 (now (store .entry)) number (clock .0) (limit .0) ⌝ }
+// The age of a record, of n: refused with 22, 23 or 4, in this order, or judged.
+pub fn age_of(
+    store: &[u8],
+    n: usize,
+    joint: bool,
+    number: u8,
+    clock: age::Reading,
+    limit: age::Limit,
+) -> Told
+    requires { ⌜ Known n × (joint ≡ true → n ≡ 16) ⌝ }
+    ensures { λ t. ⌜ ((g : Geometry) → Layout g n → g .joint ≡ joint → toldAs t ≡ ageOf (atomic g) (now (store .entry)) number (clock .0) (limit .0)) ⌝ }
 {
-    if store.len() != STORE {
+    if store.len() != 32 * (1 + (n + n)) {
         return Told::Refused(22);
     }
-    let named = numbers::RecordNumber::checked(number);
+    let named = numbers::RecordNumber::checked(number, n as u8);
     match named {
-        numbers::RecordNamed::Number(r) => age_in(store, r, clock, limit),
+        numbers::RecordNamed::Number(r) => age_in(store, n, joint, r, clock, limit),
         numbers::RecordNamed::NoSuchRecord => Told::Refused(23),
     }
 }
@@ -104,5 +138,35 @@ pub fn leave(judged: age::Judged, age: &mut i64) -> u8
             *age = m.value();
             2
         }
+    }
+}
+
+// Tells the age of a record, of n: 0 live, 1 ahead, 2 stale, with the age in minutes left at `age`; or refused with 22, 23 or 4, and `age` stays.
+pub fn tell(
+    store: &[u8],
+    n: usize,
+    joint: bool,
+    number: u8,
+    clock: u32,
+    limit: u32,
+    age: &mut i64,
+) -> u8
+    requires { ⌜ Known n × (joint ≡ true → n ≡ 16) ⌝ }
+    ensures { λ r.
+        let before = now (store .entry) in
+        ⌜ ((g : Geometry) → Layout g n → g .joint ≡ joint
+        → (r ≡ ageNumber (ageOf (atomic g) before number clock limit)) × (now (age .exit) ≡ ageLeft (ageOf (atomic g) before number clock limit) (now (age .entry)))) ⌝ }
+{
+    let told = age_of(
+        store,
+        n,
+        joint,
+        number,
+        age::Reading::new(clock),
+        age::Limit::new(limit),
+    );
+    match told {
+        Told::Judged(j) => leave(j, age),
+        Told::Refused(m) => m,
     }
 }

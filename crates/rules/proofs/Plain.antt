@@ -3,16 +3,31 @@
 use mathlib.Core.Path.{_≡_, refl, sym, ap, _∙_}
 use mathlib.Core.Bool.{Bool, true, false, not, cond, _&&_, false≢true, and-false}
 use mathlib.Core.Option.{Option, none, some}
-use Prim.Native.Nat.{ℕ, _^_}
+use Prim.Native.Nat.{ℕ, suc, _-_, _^_, _<_}
+use native.Mathlib.Omega.{arith}
 use Rattle.laws.specs.Tests.{under}
 use Rattle.laws.proofs.Booleans.{and-right, clash}
 use Rattle.rules.specs.Geometry.{Geometry}
 use Rattle.rules.specs.Store.{Page, Pages, readCommit, Prepared, readPrepared, isPrepared, isDamaged, damaged, pending}
-use Rattle.rules.specs.Event.{Event, prepare, decide, query, decode, fits}
+use Rattle.rules.specs.Event.{Event, prepare, decide, query, Fields, fields, usesOf, wellFormed, decode, fits}
+use Rattle.rules.proofs.JointKinds.{plain-kinds}
 use Rattle.rules.proofs.Event.{decode-fits}
 use Rattle.rules.proofs.Prepares.{pending-free}
 
+-- fields of a kind that isn't known are no event's
+unknown-bad : (g : Geometry) (x : Fields) → usesOf g (x .kind) .known ≡ false → wellFormed g x ≡ false
+unfolding wellFormed
+unknown-bad g x e = rw e
+
 module _ (g : Geometry) (plain : g .joint ≡ false) where
+  -- the kinds above 8 are bad events, whatever the other fields
+  pub no-kind : (w : ℕ) → 8 < fields g w .kind → decode g w ≡ none
+  unfolding decode
+  no-kind w h = rw (unknown-bad g (fields g w) (unknown (fields g w .kind) h))
+    where
+      unknown : (k : ℕ) → 8 < k → usesOf g k .known ≡ false
+      unknown k h = let e : k ≡ suc (suc (suc (suc (suc (suc (suc (suc (suc (k - 9))))))))) = omega (arith, h) in ap (λ (j : ℕ). usesOf g j .known) e ∙ plain-kinds g plain (k - 9)
+
   pub no-prepare : (w t k i : ℕ) → decode g w ≡ some (prepare t k i) → ⊥
   unfolding fits
   no-prepare w t k i e = clash (and-right (under t 32 && under k (2 ^ g .cutBits) && under i 256) (g .joint) (decode-fits g w (prepare t k i) e)) plain

@@ -1,7 +1,8 @@
 -- While a child of a transaction is live, the transaction neither locks, writes nor reads: that is refused with 14, whatever it holds, and
 -- changes nothing. A live child does not stop an abort.
 use mathlib.Core.Path.{_≡_, refl, ap}
-use mathlib.Core.Bool.{Bool, true, false}
+use mathlib.Core.Bool.{Bool, true, false, not}
+use mathlib.Core.List.{List, _∷_}
 use mathlib.Core.Option.{none, some}
 use Prim.Native.Nat.{ℕ}
 use Rattle.rules.specs.Event.{Access, Event, lock, write, read, abort}
@@ -19,17 +20,22 @@ module _ (f : Form) (s : StateOf f) where
   refuse e n q = ap (judged f s e) q
 
 module _ (f : Form) (s : StateOf f) (t : ℕ) (up : s .up ≡ true) (alive : live s t ≡ true) where
+  -- the tests of all three begin alike, whatever comes after 14
+  waits : (rest : List (ℕ × Bool)) → hasChild s t ≡ true → firstOf ((2, not (s .up)) ∷ (5, not (live s t)) ∷ (14, hasChild s t) ∷ rest) ≡ some 14
+  unfolding firstOf
+  waits rest child = rw (alive, child, up) refl
+
   pub lock-waits : (r : ℕ) (a : Access) → hasChild s t ≡ true → Refused f s (lock t r a) 14
-  unfolding refusal refusals firstOf
-  lock-waits r a child = refuse f s (lock t r a) 14 (rw (alive, child, up))
+  unfolding refusal refusals
+  lock-waits r a child = refuse f s (lock t r a) 14 (waits _ child)
 
   pub write-waits : (r o v : ℕ) → hasChild s t ≡ true → Refused f s (write t r o v) 14
-  unfolding refusal refusals firstOf
-  write-waits r o v child = refuse f s (write t r o v) 14 (rw (alive, child, up))
+  unfolding refusal refusals
+  write-waits r o v child = refuse f s (write t r o v) 14 (waits _ child)
 
   pub read-waits : (r o : ℕ) → hasChild s t ≡ true → Refused f s (read t r o) 14
-  unfolding refusal refusals firstOf
-  read-waits r o child = refuse f s (read t r o) 14 (rw (alive, child, up))
+  unfolding refusal refusals
+  read-waits r o child = refuse f s (read t r o) 14 (waits _ child)
 
   passes : (w : Bool) → refusal f s (abort t w) ≡ none
   unfolding refusal refusals firstOf

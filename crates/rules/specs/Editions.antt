@@ -1,7 +1,8 @@
 -- The editions and forms that there are.
-use mathlib.Core.Bool.{true}
+use mathlib.Core.Path.{_≡_}
+use mathlib.Core.Bool.{Bool, true, false}
 use Prim.Native.Nat.{ℕ, _*_}
-use Rattle.rules.specs.Geometry.{Geometry, pageSize}
+use Rattle.rules.specs.Geometry.{Geometry, pageSize, records}
 use Rattle.rules.specs.Form.{Form, atomic}
 
 -- sixteen records, event words of four bytes, a store of 33 pages
@@ -10,6 +11,35 @@ geometry1 = record { edition = 1; recordBits = 4; cutBits = 6; spareBits = 0; on
 
 abbrev pub edition1 : Form
 edition1 = atomic geometry1
+
+-- Document 02, L7: sixty-four records, event words of eight bytes (the six fields at 4, 5, 6, 5, 8 and 8 bits, then 28 zero bits), a store of 129 pages. "L5's
+-- form and edition 2 keep kinds 9 to 11 bad and state 3 damaged" (L9).
+abbrev pub geometry2 : Geometry
+geometry2 = record { edition = 2; recordBits = 6; cutBits = 8; spareBits = 28; onesBits = 7; depthLimit = 16; joint = false }
+
+abbrev pub edition2 : Form
+edition2 = atomic geometry2
+
+-- The editions by name. (A form holds a type, so that a contract can't speak of all forms; it can speak of all of these.)
+pub data Edition : Type 0 where
+  first second : Edition
+
+abbrev pub geometryOf : Edition → Geometry
+geometryOf first = geometry1
+geometryOf second = geometry2
+
+abbrev pub formOf : Edition → Form
+formOf k = atomic (geometryOf k)
+
+-- An edition in the numbers that the code gets: how many records there are, and whether transactions can be prepared and decided.
+pub record InNumbers (k : Edition) (n : ℕ) (joint : Bool) : Type 0 where
+  pub many : records (geometryOf k) ≡ n
+  pub two-phase : geometryOf k .joint ≡ joint
+
+-- the edition that these numbers tell
+abbrev pub editionOf : ℕ → Bool → Edition
+editionOf n true = first
+editionOf n false = second
 
 -- Edition 1's numbers that follow from its depth limit, as numbers that compute: how deep transactions nest, the pages of the working buffer, and its
 -- bytes (`workSize geometry1`).

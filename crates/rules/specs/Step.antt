@@ -164,25 +164,30 @@ module _ (f : Form) where
   unfoldable pub reserved : StateOf → ℕ → Bool
   reserved s r = isSome (f .medium .pending (s .store) r)
 
+  -- What kinds of events share: 2 while down; of a transaction, 5 where it isn't live; at a record, 14 while it has a live child.
+  abbrev whileUp : StateOf → List (ℕ × Bool) → List (ℕ × Bool)
+  whileUp s rest = (2, not (s .up)) ∷ rest
+
+  abbrev ofLive : StateOf → ℕ → List (ℕ × Bool) → List (ℕ × Bool)
+  ofLive s t rest = whileUp s ((5, not (live s t)) ∷ rest)
+
+  abbrev atRecord : StateOf → ℕ → List (ℕ × Bool) → List (ℕ × Bool)
+  atRecord s t rest = ofLive s t ((14, hasChild s t) ∷ rest)
+
   -- The refusals of each kind of event, in the order in which they are tried. (A bad event is refused before these, with 1.)
   unfoldable pub refusals : StateOf → Event → List (ℕ × Bool)
   refusals s (begin p) =
-      (2, not (s .up)) ∷ (5, not (same p nobody || live s p)) ∷
-      (6, same (depthIn (s .bearer p)) (f .geometry .depthLimit)) ∷ (7, all transactions (live s)) ∷ []
-  refusals s (lock t r a) =
-      (2, not (s .up)) ∷ (5, not (live s t)) ∷
-      (14, hasChild s t) ∷ (8, reserved s r || not (grantable a (s .held) (s .retained) (lineOf (s .bearer) t) t r)) ∷ []
-  refusals s (write t r o v) = (2, not (s .up)) ∷ (5, not (live s t)) ∷ (14, hasChild s t) ∷ (9, not (holdsWriting s r t)) ∷ []
-  refusals s (read t r o) = (2, not (s .up)) ∷ (5, not (live s t)) ∷ (14, hasChild s t) ∷ (9, not (holds s r t)) ∷ []
-  refusals s (commit t k) =
-      (2, not (s .up)) ∷ (5, not (live s t)) ∷ (10, hasChild s t) ∷ (13, isTop (lineOf (s .bearer) t) && (changes s t && busy s)) ∷ []
-  refusals s (abort t w) = (2, not (s .up)) ∷ (5, not (live s t)) ∷ []
+      whileUp s ((5, not (same p nobody || live s p)) ∷ (6, same (depthIn (s .bearer p)) (f .geometry .depthLimit)) ∷ (7, all transactions (live s)) ∷ [])
+  refusals s (lock t r a) = atRecord s t ((8, reserved s r || not (grantable a (s .held) (s .retained) (lineOf (s .bearer) t) t r)) ∷ [])
+  refusals s (write t r o v) = atRecord s t ((9, not (holdsWriting s r t)) ∷ [])
+  refusals s (read t r o) = atRecord s t ((9, not (holds s r t)) ∷ [])
+  refusals s (commit t k) = ofLive s t ((10, hasChild s t) ∷ (13, isTop (lineOf (s .bearer) t) && (changes s t && busy s)) ∷ [])
+  refusals s (abort t w) = ofLive s t []
   refusals s crash = []
   refusals s (recover k) = (3, s .up) ∷ (4, f .medium .damaged (s .store)) ∷ []
-  refusals s (prepare t k i) =
-      (2, not (s .up)) ∷ (5, not (live s t)) ∷ (10, hasChild s t) ∷ (13, changes s t && busy s) ∷ (27, not (isTop (lineOf (s .bearer) t))) ∷ []
-  refusals s (decide d k i) = (2, not (s .up)) ∷ []
-  refusals s (query i) = (2, not (s .up)) ∷ []
+  refusals s (prepare t k i) = ofLive s t ((10, hasChild s t) ∷ (13, changes s t && busy s) ∷ (27, not (isTop (lineOf (s .bearer) t))) ∷ [])
+  refusals s (decide d k i) = whileUp s []
+  refusals s (query i) = whileUp s []
 
   unfoldable pub refusal : StateOf → Event → Option ℕ
   refusal s e = firstOf (refusals s e)

@@ -10,7 +10,7 @@ use Rattle.laws.specs.Functions.{updated}
 use Rattle.laws.proofs.Tests.{same-refl, ne-false}
 use Rattle.laws.proofs.Updated.{updated-same, updated-other}
 use Rattle.rules.specs.Store.{Page}
-use Rattle.rules.specs.Editions.{depths, slotCount}
+use Rattle.rules.specs.Editions.{depths}
 use Rattle.arrays.specs.View.{Owners, slot}
 use Rattle.arrays.proofs.Sweep.{Swept}
 use Rattle.slots.specs.Parts.{lifted}
@@ -63,5 +63,5 @@ module _ (w : Owners) (t d : ℕ) (p : ℕ → Page) (big : 1 < d) (small : d �
     above = λ n le. ap (λ (g : ℕ → Page). g n) q ∙ S .above n (omega arith);
   }
 
-  pub lifts-past : (k : ℕ) → ((r : ℕ) → 16 ≤ r → w r t ≡ false) → slotCount ≤ k → p k ≡ lifted w t d p k
-  lifts-past k past h = sym (miss-row k (k / depths) refl (past (k / depths) (omega arith)))
+  pub lifts-past : (n k : ℕ) → ((r : ℕ) → n ≤ r → w r t ≡ false) → n * depths ≤ k → p k ≡ lifted w t d p k
+  lifts-past n k past h = sym (miss-row k (k / depths) refl (past (k / depths) (omega arith)))

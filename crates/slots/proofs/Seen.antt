@@ -1,5 +1,5 @@
 -- What a transaction sees of a record, in the slots of the working buffer or on the home page.
-use mathlib.Core.Path.{_≡_, refl, sym, ap, _∙_}
+use mathlib.Core.Path.{_≡_, refl, sym, ap, _∙_, subst}
 use mathlib.Core.Bool.{Bool, true, false, cond}
 use mathlib.Core.List.{List, [], _∷_}
 use mathlib.Core.Logic.{_⊎_, inl, inr}
@@ -10,59 +10,54 @@ use lib.ListN.{length, getD, set}
 use Rattle.laws.specs.Functions.{updated}
 use Rattle.laws.specs.Bits.{bits}
 use Rattle.laws.proofs.Updated.{updated-same, updated-again}
-use Rattle.rules.specs.Geometry.{records}
-use Rattle.rules.specs.Store.{Page, pagesOf, home}
+use Rattle.rules.specs.Store.{Page, pagesOf}
 use Rattle.rules.specs.State.{Bearers, parentIn, depthIn, chain, lineOf}
 use Rattle.rules.specs.Versions.{else, nearest}
-use Rattle.rules.specs.Editions.{geometry1}
 use Rattle.sets.specs.Sets.{sets}
 use Rattle.arrays.specs.View.{bearersOf, slot, versionsOf, seen}
 use Rattle.arrays.proofs.View.{depth-is, some-is}
 use Rattle.slots.specs.Parts.{Climbed, Written}
 use Rattle.slots.specs.declared.Climb.{Climb}
 
-module _ (parent depth writers work store : List ℕ) (t r : ℕ) where
+module _ (parent depth writers work : List ℕ) (base : Page) (t r : ℕ) where
   abbrev b : Bearers
   b = bearersOf parent depth
 
   module _ (c : Climb) (C : Climbed parent depth (getD writers r 0) t c) where
-    start : seen parent depth writers work store t r
-        ≡ nearest (versionsOf depth writers work) (pagesOf store (home geometry1 r)) r (chain b (c .left) (c .at))
+    start : seen parent depth writers work base t r
+        ≡ nearest (versionsOf depth writers work) base r (chain b (c .left) (c .at))
     unfolding seen sets
-    start = C .reads (versionsOf depth writers work) (pagesOf store (home geometry1 r)) r (λ j. some-is depth writers work j r)
+    start = C .reads (versionsOf depth writers work) base r (λ j. some-is depth writers work j r)
 
-    pub seen-home : c .left ≡ 0 → seen parent depth writers work store t r ≡ pagesOf store (17 + r)
-    unfolding home records nearest chain
-    seen-home e = start ∙ ap (λ (n : ℕ). nearest (versionsOf depth writers work) (pagesOf store (home geometry1 r)) r (chain b n (c .at))) e ∙ ap (pagesOf store) far
-      where
-        far : 1 + (16 + r) ≡ 17 + r
-        far = omega arith
+    pub seen-home : c .left ≡ 0 → seen parent depth writers work base t r ≡ base
+    unfolding nearest chain
+    seen-home e = start ∙ ap (λ (n : ℕ). nearest (versionsOf depth writers work) base r (chain b n (c .at))) e
 
-    first : (n : ℕ) → c .left ≡ suc n → bits (getD writers r 0) (c .at) ≡ true → seen parent depth writers work store t r ≡ pagesOf work (slot r (c .left))
+    first : (n : ℕ) → c .left ≡ suc n → bits (getD writers r 0) (c .at) ≡ true → seen parent depth writers work base t r ≡ pagesOf work (slot r (c .left))
     unfolding versionsOf sets nearest chain else
     first n e f =
-        start ∙ ap (λ (n : ℕ). nearest (versionsOf depth writers work) (pagesOf store (home geometry1 r)) r (chain b n (c .at))) e
-        ∙ ap (λ (x : Bool). else (cond x (some (pagesOf work (slot r (getD depth (c .at) 0)))) none) (nearest (versionsOf depth writers work) (pagesOf store (home geometry1 r)) r (chain b n (parentIn (b (c .at)))))) f
+        start ∙ ap (λ (n : ℕ). nearest (versionsOf depth writers work) base r (chain b n (c .at))) e
+        ∙ ap (λ (x : Bool). else (cond x (some (pagesOf work (slot r (getD depth (c .at) 0)))) none) (nearest (versionsOf depth writers work) base r (chain b n (parentIn (b (c .at)))))) f
         ∙ ap (λ (d : ℕ). pagesOf work (slot r d)) (C .level)
 
-    pub seen-slot : 0 < c .left → seen parent depth writers work store t r ≡ pagesOf work (slot r (c .left))
+    pub seen-slot : 0 < c .left → seen parent depth writers work base t r ≡ pagesOf work (slot r (c .left))
     seen-slot h = go (c .left) refl (C .stops)
       where
-        go : (n : ℕ) → c .left ≡ n → (c .left ≡ 0) ⊎ (bits (getD writers r 0) (c .at) ≡ true) → seen parent depth writers work store t r ≡ pagesOf work (slot r (c .left))
+        go : (n : ℕ) → c .left ≡ n → (c .left ≡ 0) ⊎ (bits (getD writers r 0) (c .at) ≡ true) → seen parent depth writers work base t r ≡ pagesOf work (slot r (c .left))
         go n e (inl z) = absurd (omega arith)
         go zero e (inr f) = absurd (omega arith)
         go (suc n) e (inr f) = first n e f
 
   -- a writer sees its own version
-  pub seen-own : sets writers r t ≡ true → 0 < getD depth t 0 → seen parent depth writers work store t r ≡ pagesOf work (slot r (getD depth t 0))
+  pub seen-own : sets writers r t ≡ true → 0 < getD depth t 0 → seen parent depth writers work base t r ≡ pagesOf work (slot r (getD depth t 0))
   unfolding seen versionsOf lineOf nearest chain else
   seen-own e h = go (getD depth t 0) refl
     where
-      go : (n : ℕ) → getD depth t 0 ≡ n → nearest (versionsOf depth writers work) (pagesOf store (home geometry1 r)) r (chain b (depthIn (b t)) t) ≡ pagesOf work (slot r (getD depth t 0))
+      go : (n : ℕ) → getD depth t 0 ≡ n → nearest (versionsOf depth writers work) base r (chain b (depthIn (b t)) t) ≡ pagesOf work (slot r (getD depth t 0))
       go zero f = absurd (omega arith)
       go (suc n) f =
-          ap (λ (n : ℕ). nearest (versionsOf depth writers work) (pagesOf store (home geometry1 r)) r (chain b n t)) (depth-is parent depth t ∙ f)
-          ∙ ap (λ (x : Bool). else (cond x (some (pagesOf work (slot r (getD depth t 0)))) none) (nearest (versionsOf depth writers work) (pagesOf store (home geometry1 r)) r (chain b n (parentIn (b t))))) e
+          ap (λ (n : ℕ). nearest (versionsOf depth writers work) base r (chain b n t)) (depth-is parent depth t ∙ f)
+          ∙ ap (λ (x : Bool). else (cond x (some (pagesOf work (slot r (getD depth t 0)))) none) (nearest (versionsOf depth writers work) base r (chain b n (parentIn (b t))))) e
 
 -- a byte of a version that has been made is written
 pub written-byte : (n m t r o v : ℕ) (p : Page) (writers work writers′ work′ work″ : List ℕ) → Written n t r p writers work writers′ work′ → m ≡ n
@@ -75,3 +70,9 @@ written-byte n m t r o v p writers work writers′ work′ work″ W e f = recor
       ∙ updated-again n p (set p o v) (pagesOf work);
   long = W .long;
 }
+
+-- the number of a record, as the code has it, is the one that the checked number stands for
+pub written-as : (shown : ℕ → Page) (d : ℕ) {t i r : ℕ} {writers work writers′ work′ : List ℕ} → i ≡ r
+    → Written (slot i d) t i (shown i) writers work writers′ work′ → Written (slot r d) t r (shown r) writers work writers′ work′
+written-as shown d {t} {i} {r} {writers} {work} {writers′} {work′} e W =
+    subst (λ (r : ℕ). Written (slot r d) t r (shown r) writers work writers′ work′) e W

@@ -43,7 +43,7 @@ pub record Climbed (parent depth : List ℕ) (w t : ℕ) (c : Climb) : Type 0 wh
 pub record Written (n t r : ℕ) (p : Page) (writers work writers′ work′ : List ℕ) : Type 0 where
   pub has : sets writers′ ≡ joined t r (sets writers)
   pub page : pagesOf work′ ≡ updated n p (pagesOf work)
-  pub long : length writers′ ≡ 16
+  pub long : length writers′ ≡ length writers
 
 -- the versions of t at depth d, in the slots one up
 unfoldable pub lifted : Owners → ℕ → ℕ → (ℕ → Page) → ℕ → Page

@@ -1,16 +1,20 @@
-// Versions of records in the working buffer: slot r * DEPTHS + d - 1 holds the version of record r of the writer at depth d.
+// Versions of records in the working buffer: slot r * DEPTHS + d - 1 holds the version of record r of the writer at depth d. A record's home page is given
+// by `at`, the byte of the store where it begins.
 ghost use mathlib.Core.Path.{_≡_};
 ghost use mathlib.Core.Bool.{Bool, true, false, cond};
 ghost use Prim.Native.Nat.{ℕ, _+_, _*_, _-_, _<_, _≤_};
-ghost use lib.ListN.{length, getD, set};
+ghost use lib.ListN.{length, getD, set, take, drop};
 ghost use Rattle.laws.specs.Functions.{updated};
 ghost use Rattle.laws.specs.Bits.{bits};
 ghost use Rattle.rules.specs.Store.{pagesOf};
-ghost use Rattle.rules.specs.Editions.{depths, slotCount, workBytes};
+ghost use Rattle.rules.specs.Editions.{depths};
 ghost use Rattle.sets.specs.Sets.{sets};
 ghost use Rattle.arrays.specs.View.{slot, seen};
 ghost use Rattle.arrays.specs.Changes.{handed, Rows};
+ghost use Rattle.numbers.specs.Named.{transactionOf, recordOf};
 ghost use Rattle.slots.specs.Parts.{Sources, Climbing, Climbed, Written, lifted};
+use numbers::RecordNumber;
+use numbers::TransactionNumber;
 
 // A walk up from a transaction: where it stands, and how many there are from there up.
 pub struct Climb {
@@ -18,7 +22,7 @@ pub struct Climb {
     pub left: u8,
 }
 
-// One step up, unless nobody is left or who stands there is in w.
+// One step up from a transaction to its parent, unless nobody is left or the transaction is in w.
 fn one_up(parent: &[u8; 24], w: u32, c: Climb) -> Climb
     requires { ⌜ ((0 < c .left) → c .at < 24) ⌝ }
     ensures { λ d. ⌜ Climbing (now (parent .entry)) w c d ⌝ }
@@ -37,17 +41,18 @@ fn one_up(parent: &[u8; 24], w: u32, c: Climb) -> Climb
     }
 }
 
-// The nearest of t and its ancestors that is in w; nobody is left where there is none, as where w is empty.
-fn source(parent: &[u8; 24], depth: &[u8; 24], w: u32, t: u8) -> Climb
-    requires { ⌜ (t < 24) × Sources (now parent) (now depth) ⌝ }
-    ensures { λ c. ⌜ Climbed (now (parent .entry)) (now (depth .entry)) w t c ⌝ }
+// The nearest of t and its ancestors that is in w, with how many there are from it up; `left` is 0 where none of them is in w.
+fn source(parent: &[u8; 24], depth: &[u8; 24], w: u32, t: TransactionNumber) -> Climb
+    requires { ⌜ Sources (now parent) (now depth) ⌝ }
+    ensures { λ c. ⌜ Climbed (now (parent .entry)) (now (depth .entry)) w (transactionOf t) c ⌝ }
 {
     if w == 0 {
         return Climb { at: 31, left: 0 };
     }
+    let start = t.number();
     let mut c = Climb {
-        at: t,
-        left: depth[t as usize],
+        at: start,
+        left: depth[t.index()],
     };
     for n in 0..page::DEPTHS {
         c = one_up(parent, w, c);
@@ -56,14 +61,15 @@ fn source(parent: &[u8; 24], depth: &[u8; 24], w: u32, t: u8) -> Climb
 }
 
 // The same, without a walk where t itself is in w.
-fn nearest(parent: &[u8; 24], depth: &[u8; 24], w: u32, t: u8) -> Climb
-    requires { ⌜ (t < 24) × Sources (now parent) (now depth) ⌝ }
-    ensures { λ c. ⌜ Climbed (now (parent .entry)) (now (depth .entry)) w t c ⌝ }
+fn nearest(parent: &[u8; 24], depth: &[u8; 24], w: u32, t: TransactionNumber) -> Climb
+    requires { ⌜ Sources (now parent) (now depth) ⌝ }
+    ensures { λ c. ⌜ Climbed (now (parent .entry)) (now (depth .entry)) w (transactionOf t) c ⌝ }
 {
-    if sets::contains(w, t) {
+    let n = t.number();
+    if sets::contains(w, n) {
         return Climb {
-            at: t,
-            left: depth[t as usize],
+            at: n,
+            left: depth[t.index()],
         };
     }
     source(parent, depth, w, t)
@@ -71,8 +77,8 @@ fn nearest(parent: &[u8; 24], depth: &[u8; 24], w: u32, t: u8) -> Climb
 
 // The slot of record r at depth d.
 fn slot_of(r: usize, d: u8) -> usize
-    requires { ⌜ (r < 16) × (0 < d) × (d ≤ depths) ⌝ }
-    ensures { λ n. ⌜ (n ≡ slot r d) × (n < slotCount) ⌝ }
+    requires { ⌜ (r < 64) × (0 < d) × (d ≤ depths) ⌝ }
+    ensures { λ n. ⌜ (n ≡ slot r d) × (n < r * depths + depths) ⌝ }
 {
     r * page::DEPTHS + ((d - 1) as usize)
 }
@@ -81,75 +87,100 @@ fn slot_of(r: usize, d: u8) -> usize
 pub fn read(
     parent: &[u8; 24],
     depth: &[u8; 24],
-    writers: &[u32; 16],
+    writers: &[u32],
     work: &[u8],
     store: &[u8],
-    t: u8,
-    r: usize,
+    at: usize,
+    t: TransactionNumber,
+    r: RecordNumber,
     o: usize,
 ) -> u8
-    requires { ⌜ (t < 24) × (r < 16) × (o < 32) × (length (now work) ≡ workBytes) × (length (now store) ≡ 1056) × Sources (now parent) (now depth) ⌝ }
-    ensures { λ v. ⌜ v ≡ getD (seen (now (parent .entry)) (now (depth .entry)) (now (writers .entry)) (now (work .entry)) (now (store .entry)) t r) o 0 ⌝ }
+    requires { ⌜ (recordOf r < length (now writers)) × (length (now writers) ≤ 64) × (o < 32) × (length (now work) ≡ 512 * length (now writers))
+        × (at + 32 ≤ length (now store)) × Sources (now parent) (now depth) ⌝ }
+    ensures { λ v.
+        let homePage = take 32 (drop at (now (store .entry))) in
+        let shown = seen (now (parent .entry)) (now (depth .entry)) (now (writers .entry)) (now (work .entry)) homePage (transactionOf t) (recordOf r) in
+        ⌜ v ≡ getD shown o 0 ⌝ }
 {
-    let c = nearest(parent, depth, writers[r], t);
+    let i = r.index();
+    let c = nearest(parent, depth, writers[i], t);
     let level = c.left;
     if level == 0 {
-        return page::get_byte(store, 17 + r, o);
+        return page::byte_at(store, at, o);
     }
-    page::get_byte(work, slot_of(r, level), o)
+    page::get_byte(work, slot_of(i, level), o)
 }
 
-// The slot at t's depth takes the page that t sees, unless it has t's version already.
+// Gives t a version of record r, unless it has one: the slot at t's depth takes the page that t sees, and t counts as a writer.
 fn make_version(
     parent: &[u8; 24],
     depth: &[u8; 24],
-    writers: &mut [u32; 16],
+    writers: &mut [u32],
     work: &mut [u8],
     store: &[u8],
-    t: u8,
-    r: usize,
+    at: usize,
+    t: TransactionNumber,
+    r: RecordNumber,
 )
-    requires { ⌜ (t < 24) × (r < 16) × (length (now work) ≡ workBytes) × (length (now store) ≡ 1056) × (length (now writers) ≡ 16) × (0 < getD (now depth) t 0) × Sources (now parent) (now depth) ⌝ }
-    ensures { λ _. ⌜ Written (slot r (getD (now (depth .entry)) t 0)) t r (seen (now (parent .entry)) (now (depth .entry)) (now (writers .entry)) (now (work .entry)) (now (store .entry)) t r) (now (writers .entry)) (now (work .entry)) (now (writers .exit)) (now (work .exit)) ⌝ }
+    requires { ⌜ (recordOf r < length (now writers)) × (length (now writers) ≤ 64) × (length (now work) ≡ 512 * length (now writers))
+        × (at + 32 ≤ length (now store)) × (0 < getD (now depth) (transactionOf t) 0) × Sources (now parent) (now depth) ⌝ }
+    ensures { λ _.
+        let homePage = take 32 (drop at (now (store .entry))) in
+        let shown = seen (now (parent .entry)) (now (depth .entry)) (now (writers .entry)) (now (work .entry)) homePage (transactionOf t) (recordOf r) in
+        let own = slot (recordOf r) (getD (now (depth .entry)) (transactionOf t) 0) in
+        ⌜ Written own (transactionOf t) (recordOf r) shown (now (writers .entry)) (now (work .entry)) (now (writers .exit)) (now (work .exit)) ⌝ }
 {
-    let w = writers[r];
-    if sets::contains(w, t) {
+    let n = t.number();
+    let i = r.index();
+    let w = writers[i];
+    if sets::contains(w, n) {
         return;
     }
     let c = source(parent, depth, w, t);
     let left = c.left;
-    let to = slot_of(r, depth[t as usize]);
-    writers[r] = sets::with(w, t);
+    let to = slot_of(i, depth[t.index()]);
+    writers[i] = sets::with(w, n);
     if left == 0 {
-        page::copy_across(work, to, store, 17 + r);
+        page::bring(work, to, store, at);
         return;
     }
-    page::copy_page(work, slot_of(r, left), to);
+    page::copy_page(work, slot_of(i, left), to);
 }
 
-// t writes a byte of record r.
+// t writes a byte of record r, into its own version.
 pub fn write(
     parent: &[u8; 24],
     depth: &[u8; 24],
-    writers: &mut [u32; 16],
+    writers: &mut [u32],
     work: &mut [u8],
     store: &[u8],
-    t: u8,
-    r: usize,
+    at: usize,
+    t: TransactionNumber,
+    r: RecordNumber,
     o: usize,
     v: u8,
 )
-    requires { ⌜ (t < 24) × (r < 16) × (o < 32) × (length (now work) ≡ workBytes) × (length (now store) ≡ 1056) × (length (now writers) ≡ 16) × (0 < getD (now depth) t 0) × Sources (now parent) (now depth) ⌝ }
-    ensures { λ _. ⌜ Written (slot r (getD (now (depth .entry)) t 0)) t r (set (seen (now (parent .entry)) (now (depth .entry)) (now (writers .entry)) (now (work .entry)) (now (store .entry)) t r) o v) (now (writers .entry)) (now (work .entry)) (now (writers .exit)) (now (work .exit)) ⌝ }
+    requires { ⌜ (recordOf r < length (now writers)) × (length (now writers) ≤ 64) × (o < 32) × (length (now work) ≡ 512 * length (now writers))
+        × (at + 32 ≤ length (now store)) × (0 < getD (now depth) (transactionOf t) 0) × Sources (now parent) (now depth) ⌝ }
+    ensures { λ _.
+        let homePage = take 32 (drop at (now (store .entry))) in
+        let shown = seen (now (parent .entry)) (now (depth .entry)) (now (writers .entry)) (now (work .entry)) homePage (transactionOf t) (recordOf r) in
+        let own = slot (recordOf r) (getD (now (depth .entry)) (transactionOf t) 0) in
+        ⌜ Written own (transactionOf t) (recordOf r) (set shown o v) (now (writers .entry)) (now (work .entry)) (now (writers .exit)) (now (work .exit)) ⌝ }
 {
-    make_version(parent, depth, writers, work, store, t, r);
-    page::put_byte(work, slot_of(r, depth[t as usize]), o, v);
+    make_version(parent, depth, writers, work, store, at, t, r);
+    page::put_byte(work, slot_of(r.index(), depth[t.index()]), o, v);
 }
 
-// The version of record r at depth d, if t has one, takes the place of that one up, and p is its writer in t's place.
-fn lift_row(writers: &mut [u32; 16], work: &mut [u8], t: u8, p: u8, d: u8, r: usize)
-    requires { ⌜ (t < 24) × (p < 24) × (1 < d) × (d ≤ depths) × (r < 16) × (length (now work) ≡ workBytes) × (length (now writers) ≡ 16) ⌝ }
-    ensures { λ _. ⌜ (pagesOf (now (work .exit)) ≡ cond (sets (now (writers .entry)) r t) (updated (slot r (d - 1)) (pagesOf (now (work .entry)) (slot r d)) (pagesOf (now (work .entry)))) (pagesOf (now (work .entry)))) × Rows 16 (updated r (handed t p (sets (now (writers .entry))) r) (sets (now (writers .entry)))) (now (writers .exit)) ⌝ }
+// If t has a version of record r, copies it from the slot at depth d to the parent's slot at depth d - 1, and notes p as its writer instead of t.
+fn lift_row(writers: &mut [u32], work: &mut [u8], t: u8, p: u8, d: u8, r: usize)
+    requires { ⌜ (t < 24) × (p < 24) × (1 < d) × (d ≤ depths) × (r < length (now writers)) × (length (now writers) ≤ 64)
+        × (length (now work) ≡ 512 * length (now writers)) ⌝ }
+    ensures { λ _.
+        let pages = pagesOf (now (work .entry)) in
+        let wrote = sets (now (writers .entry)) in
+        ⌜ (pagesOf (now (work .exit)) ≡ cond (wrote r t) (updated (slot r (d - 1)) (pages (slot r d)) pages) pages)
+        × Rows (length (now (writers .entry))) (updated r (handed t p wrote r) wrote) (now (writers .exit)) ⌝ }
 {
     let w = writers[r];
     if sets::contains(w, t) {
@@ -158,12 +189,14 @@ fn lift_row(writers: &mut [u32; 16], work: &mut [u8], t: u8, p: u8, d: u8, r: us
     }
 }
 
-// The same for all records.
-pub fn lift(writers: &mut [u32; 16], work: &mut [u8], t: u8, p: u8, d: u8)
-    requires { ⌜ (t < 24) × (p < 24) × (1 < d) × (d ≤ depths) × (length (now work) ≡ workBytes) × (length (now writers) ≡ 16) ⌝ }
-    ensures { λ _. ⌜ (pagesOf (now (work .exit)) ≡ lifted (sets (now (writers .entry))) t d (pagesOf (now (work .entry)))) × Rows 16 (handed t p (sets (now (writers .entry)))) (now (writers .exit)) ⌝ }
+// The same for each of the n records.
+pub fn lift(writers: &mut [u32], work: &mut [u8], n: usize, t: u8, p: u8, d: u8)
+    requires { ⌜ (t < 24) × (p < 24) × (1 < d) × (d ≤ depths) × (n ≤ 64) × (length (now writers) ≡ n) × (length (now work) ≡ 512 * n) ⌝ }
+    ensures { λ _.
+        let wrote = sets (now (writers .entry)) in
+        ⌜ (pagesOf (now (work .exit)) ≡ lifted wrote t d (pagesOf (now (work .entry)))) × Rows n (handed t p wrote) (now (writers .exit)) ⌝ }
 {
-    for r in 0..16 {
+    for r in 0..n {
         lift_row(writers, work, t, p, d, r);
     }
 }

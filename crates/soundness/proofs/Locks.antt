@@ -19,7 +19,7 @@ use Rattle.arrays.specs.View.{bearersOf, anyMode, writeMode, Nested}
 use Rattle.arrays.proofs.View.{free-is, deep-is, some-is}
 use Rattle.arrays.proofs.Modes.{lock-is, writing-is}
 use Rattle.clauses.specs.Clauses.{Entry, Locks, ShareOf, Shares, sharing, Lined}
-use Rattle.soundness.specs.Encoded.{stateOf}
+use Rattle.state.specs.Whole.{arrays, view}
 
 -- a set that isn't empty is one of the array's
 pub in-range : (words : List ℕ) (k t : ℕ) → sets words k t ≡ true → k < length words
@@ -160,10 +160,10 @@ locks-of parent depth held retained writers low L r k = record {
         (λ f. or-cases (writeMode (sets held) r u) (writeMode (sets retained) r u) (L .by-lock u r f) (held-live u) (retained-live u))
 
 -- the locks of a sound state
-pub locked-of : (up : ℕ) (parent depth held retained writers work store : List ℕ) → Nested (sets held) → Nested (sets retained)
-    → Sound edition1 (stateOf up parent depth held retained writers work store) → Locked parent depth held retained writers
-unfolding live holds retains holdsWriting retainsWriting
-locked-of up parent depth held retained writers work store H M S =
+pub locked-of : (up : ℕ) (parent depth line held retained writers work store : List ℕ) → Nested (sets held) → Nested (sets retained)
+    → Sound edition1 (view edition1 (arrays up parent depth line held retained writers work store)) → Locked parent depth held retained writers
+unfolding live holds retains holdsWriting retainsWriting view
+locked-of up parent depth line held retained writers work store H M S =
     let h = lock-is (sets held) H in
     let m = lock-is (sets retained) M in
     let v = writing-is (sets held) in

@@ -18,7 +18,7 @@ use Rattle.sets.specs.Sets.{sets}
 use Rattle.arrays.specs.View.{bearerAt, bearersOf}
 use Rattle.arrays.proofs.View.{depth-is, active-is, deep-is}
 use Rattle.clauses.specs.Clauses.{Entry, Entries}
-use Rattle.soundness.specs.Encoded.{stateOf}
+use Rattle.state.specs.Whole.{arrays, view}
 use Rattle.clauses.proofs.Words.{no-bits}
 
 active-at : (q c p d : ℕ) → bearerAt q c ≡ active p d → (q ≡ p) × (c ≡ d) × (0 < c)
@@ -106,11 +106,11 @@ module _ (parent depth line : List ℕ) (long : length depth ≡ 24) (E : (t : �
 
 -- and back
 module _ (up : ℕ) (parent depth line held retained writers work store : List ℕ)
-    (S : Sound edition1 (stateOf up parent depth held retained writers work store))
+    (S : Sound edition1 (view edition1 (arrays up parent depth line held retained writers work store)))
     (lines : sets line ≡ (λ t u. mem u (lineOf (bearersOf parent depth) t)))
     (tidy : (t : ℕ) → getD depth t 0 ≡ 0 → getD parent t 0 ≡ 0) where
   pub entry-of : (t : ℕ) → Entry parent depth line t
-  unfolding live
+  unfolding live view
   entry-of t = record {
     vacant = λ e. record { parentless = tidy t e; lineless = ap (λ (f : ℕ → ℕ → Bool). f t) lines ∙ fun-ext (λ u. free-line parent depth t u e) };
     seated = λ h. let q = borne parent depth t h in record {

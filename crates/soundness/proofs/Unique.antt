@@ -20,7 +20,8 @@ use Rattle.sets.specs.Sets.{sets}
 use Rattle.arrays.specs.View.{bearersOf, anyMode, writeMode, modesOf, Nested}
 use Rattle.arrays.proofs.View.{depth-is, parent-is, some-is}
 use Rattle.arrays.proofs.Modes.{lock-is, writing-is}
-use Rattle.soundness.specs.Encoded.{stateOf, Encoded, Sized, Alike}
+use Rattle.state.specs.Whole.{arrays, view, lineIn, Intact}
+use Rattle.soundness.specs.Sizes.{Alike}
 use Rattle.clauses.proofs.Words.{bits-same}
 
 same-sets : (l m : List ℕ) → length l ≡ length m → sets l ≡ sets m → l ≡ m
@@ -54,33 +55,35 @@ same-flag a b h k e = go (same? a 1) (same? b 1)
 
 module _ (up : ℕ) (parent depth line held retained writers work store : List ℕ)
     (up′ : ℕ) (parent′ depth′ line′ held′ retained′ writers′ work′ store′ : List ℕ)
-    (N : Encoded up parent depth line held retained writers work store) (N′ : Encoded up′ parent′ depth′ line′ held′ retained′ writers′ work′ store′)
-    (Z : Sized parent depth line held retained writers store) (Z′ : Sized parent′ depth′ line′ held′ retained′ writers′ store′)
-    (e : stateOf up parent depth held retained writers work store ≡ stateOf up′ parent′ depth′ held′ retained′ writers′ work′ store′) where
+    (N : Intact edition1 (arrays up parent depth line held retained writers work store)) (N′ : Intact edition1 (arrays up′ parent′ depth′ line′ held′ retained′ writers′ work′ store′))
+    (e : view edition1 (arrays up parent depth line held retained writers work store) ≡ view edition1 (arrays up′ parent′ depth′ line′ held′ retained′ writers′ work′ store′)) where
   bearers : bearersOf parent depth ≡ bearersOf parent′ depth′
+  unfolding view
   bearers = ap (λ (s : StateOf edition1). s .bearer) e
 
   depth-same : (t : ℕ) → getD depth t 0 ≡ getD depth′ t 0
   depth-same t = sym (depth-is parent depth t) ∙ ap (λ (b : Bearers). depthIn (b t)) bearers ∙ depth-is parent′ depth′ t
 
   parent-same : (t n : ℕ) → getD depth t 0 ≡ n → getD parent t 0 ≡ getD parent′ t 0
-  parent-same t zero d = N .tidy t d ∙ sym (N′ .tidy t (sym (depth-same t) ∙ d))
+  parent-same t zero d = N .form .tidy t d ∙ sym (N′ .form .tidy t (sym (depth-same t) ∙ d))
   parent-same t (suc n) d =
       sym (parent-is parent depth t n d) ∙ ap (λ (b : Bearers). parentIn (b t)) bearers ∙ parent-is parent′ depth′ t n (sym (depth-same t) ∙ d)
 
   writers-same : sets writers ≡ sets writers′
+  unfolding view
   writers-same =
       fun-ext (λ r. fun-ext (λ t.
       sym (some-is depth writers work t r) ∙ ap (λ (s : StateOf edition1). isSome (s .version t r)) e ∙ some-is depth′ writers′ work′ t r))
 
   pub encoding-unique : Alike up parent depth line held retained writers up′ parent′ depth′ line′ held′ retained′ writers′
+  unfolding view lineIn
   encoding-unique = record {
-    ups = same-flag up up′ (N .flag) (N′ .flag) (ap (λ (s : StateOf edition1). s .up) e);
-    parents = ext-getD 0 parent parent′ (Z .parents ∙ sym (Z′ .parents)) (λ t h. parent-same t (getD depth t 0) refl);
-    depths = ext-getD 0 depth depth′ (Z .depths ∙ sym (Z′ .depths)) (λ t h. depth-same t);
-    lines = same-sets line line′ (Z .lines ∙ sym (Z′ .lines))
-        (N .lines ∙ ap {B = ℕ → ℕ → Bool} (λ (b : Bearers) (t u : ℕ). mem u (lineOf b t)) bearers ∙ sym (N′ .lines));
-    helds = same-locks held held′ (Z .helds ∙ sym (Z′ .helds)) (N .held-nested) (N′ .held-nested) (ap (λ (s : StateOf edition1). s .held) e);
-    retaineds = same-locks retained retained′ (Z .retaineds ∙ sym (Z′ .retaineds)) (N .retained-nested) (N′ .retained-nested) (ap (λ (s : StateOf edition1). s .retained) e);
-    writerss = same-sets writers writers′ (Z .writerss ∙ sym (Z′ .writerss)) writers-same;
+    ups = same-flag up up′ (N .form .flag) (N′ .form .flag) (ap (λ (s : StateOf edition1). s .up) e);
+    parents = ext-getD 0 parent parent′ (N .form .parents ∙ sym (N′ .form .parents)) (λ t h. parent-same t (getD depth t 0) refl);
+    depths = ext-getD 0 depth depth′ (N .form .depths ∙ sym (N′ .form .depths)) (λ t h. depth-same t);
+    lines = same-sets line line′ (N .form .long ∙ sym (N′ .form .long))
+        (N .form .lines ∙ ap {B = ℕ → ℕ → Bool} (λ (b : Bearers) (t u : ℕ). mem u (lineOf b t)) bearers ∙ sym (N′ .form .lines));
+    helds = same-locks held held′ (N .form .helds ∙ sym (N′ .form .helds)) (N .form .held-nested) (N′ .form .held-nested) (ap (λ (s : StateOf edition1). s .held) e);
+    retaineds = same-locks retained retained′ (N .form .retaineds ∙ sym (N′ .form .retaineds)) (N .form .retained-nested) (N′ .form .retained-nested) (ap (λ (s : StateOf edition1). s .retained) e);
+    writerss = same-sets writers writers′ (N .form .writerss ∙ sym (N′ .form .writerss)) writers-same;
   }

@@ -1,4 +1,4 @@
--- The clauses together say that the arrays encode a sound state.
+-- The clauses together say that the arrays are intact.
 use mathlib.Core.Path.{_≡_, refl, sym, ap, ap₂, _∙_}
 use mathlib.Core.Bool.{Bool, true, false, cond, _&&_, _||_, true≢false}
 use mathlib.Core.List.{List}
@@ -11,7 +11,7 @@ use lib.ListN.{length, getD, length-take, length-drop}
 use Rattle.laws.specs.Tests.{same, under}
 use Rattle.laws.proofs.Tests.{under-lt, lt-under}
 use Rattle.laws.proofs.Booleans.{or-cases, both, refute}
-use Rattle.rules.specs.Geometry.{records}
+use Rattle.rules.specs.Geometry.{records, pageCount}
 use Rattle.rules.specs.Store.{Page, Pages, pagesOf, intention, named, readPrepared, preparedMap, isReserved, pending}
 use Rattle.rules.specs.State.{isActive, live, holds, retains, holdsWriting, retainsWriting}
 use Rattle.rules.specs.Versions.{isSome}
@@ -23,7 +23,8 @@ use Rattle.arrays.proofs.View.{depth-is, deep-is, active-is, idle-is, some-is}
 use Rattle.arrays.proofs.Modes.{lock-is, writing-is}
 use Rattle.clauses.specs.Decides.{Decides}
 use Rattle.clauses.specs.Clauses.{Entry, Entries, Locks, Shares, Lined, Unlocked, Phase}
-use Rattle.soundness.specs.Encoded.{stateOf, Encoded, Sized}
+use Rattle.state.specs.Whole.{arrays, view, lineIn, Served, Intact}
+use Rattle.soundness.specs.Sizes.{Sized}
 use Rattle.clauses.proofs.Decides.{decides-as, decides-and, decides-given}
 use Rattle.soundness.proofs.Tree.{below, everywhere, tree-rooted, tree-lines, tree-parented, tree-shallow, entry-of}
 use Rattle.soundness.proofs.Locks.{living, Locked, in-range, locked-by, sharers-lined, shares-of, locks-of, locked-of}
@@ -55,6 +56,10 @@ pending-is s r = go (under r 16 && named geometry1 (preparedMap (readPrepared ge
     go true = refl
     go false = refl
 
+served1 : Served edition1
+unfolding records
+served1 = record { few = omega arith; deep = refl }
+
 module _ (up : ℕ) (parent depth line held retained writers work store : List ℕ) (Z : Sized parent depth line held retained writers store) (long : length work ≡ workBytes) where
   -- a version is a record's, by a live transaction
   writer-low : (r t : ℕ) → sets writers r t ≡ true → r < 16
@@ -67,8 +72,8 @@ module _ (up : ℕ) (parent depth line held retained writers work store : List �
       (λ f. L .holder-live r t (L .held-nested r t f)) (λ f. L .retainer-live r t (L .retained-nested r t f)))
 
   state-sound : ((t : ℕ) → Entry parent depth line t) → Locked parent depth held retained writers → Phase up depth held retained store
-      → Sound edition1 (stateOf up parent depth held retained writers work store)
-  unfolding live holds retains holdsWriting retainsWriting versionsOf records
+      → Sound edition1 (view edition1 (arrays up parent depth line held retained writers work store))
+  unfolding live holds retains holdsWriting retainsWriting versionsOf records view
   state-sound E L P =
       let h = lock-is (sets held) (L .held-nested) in
       let m = lock-is (sets retained) (L .retained-nested) in
@@ -98,38 +103,51 @@ module _ (up : ℕ) (parent depth line held retained writers work store : List �
             ap₂ _||_ (h r t) (m r t) ∙ P .reserved r (under-lt r 16 (n .0)) (n .1) t;
       }
 
-  encoded-by : Clauses up parent depth line held retained writers store → Encoded up parent depth line held retained writers work store
-  encoded-by x =
+  intact-by : Clauses up parent depth line held retained writers store → Intact edition1 (arrays up parent depth line held retained writers work store)
+  unfolding lineIn records pageCount
+  intact-by x =
       let E = everywhere parent depth line (Z .parents) (Z .depths) (Z .lines) (x .0 .0 .0) in
       let T = tree-lines parent depth line (Z .depths) E in
       let L = locked-by parent depth line held retained writers T (Z .helds) (Z .retaineds) (Z .writerss) (x .0 .0 .1) (x .0 .1) in
       record {
         sound = state-sound E L (x .1);
-        lines = T;
-        flag = x .1 .flag;
-        tidy = λ t e. E t .vacant e .parentless;
-        held-nested = L .held-nested;
-        retained-nested = L .retained-nested;
+        served = served1;
+        form = record {
+          lines = T;
+          flag = x .1 .flag;
+          tidy = λ t e. E t .vacant e .parentless;
+          held-nested = L .held-nested;
+          retained-nested = L .retained-nested;
+          parents = Z .parents;
+          depths = Z .depths;
+          long = Z .lines;
+          helds = Z .helds;
+          retaineds = Z .retaineds;
+          writerss = Z .writerss;
+          works = long;
+          stores = Z .stores;
+        };
       }
 
-  down-free : Sound edition1 (stateOf up parent depth held retained writers work store) → same up 1 ≡ false → (t : ℕ) → getD depth t 0 ≡ 0
-  unfolding live
+  down-free : Sound edition1 (view edition1 (arrays up parent depth line held retained writers work store)) → same up 1 ≡ false → (t : ℕ) → getD depth t 0 ≡ 0
+  unfolding live view
   down-free S e t = dite (decLt 0 (getD depth t 0)) (λ lt. absurd (true≢false (sym (active-is parent depth t lt) ∙ S .idle t e))) (λ ge. omega arith)
 
-  unlocked-of : Nested (sets held) → Nested (sets retained) → Sound edition1 (stateOf up parent depth held retained writers work store)
+  unlocked-of : Nested (sets held) → Nested (sets retained) → Sound edition1 (view edition1 (arrays up parent depth line held retained writers work store))
       → Unlocked (preparedMap (readPrepared geometry1 (pagesOf store 0))) held retained
-  unfolding holds retains
+  unfolding holds retains view
   unlocked-of H M S r h n u =
       sym (ap₂ _||_ (lock-is (sets held) H r u) (lock-is (sets retained) M r u)) ∙ S .reserved r u (pending-is (pagesOf store) r ∙ ap₂ _&&_ (lt-under r 16 h) n)
 
-  clauses-of : Encoded up parent depth line held retained writers work store → Clauses up parent depth line held retained writers store
-  unfolding live
+  clauses-of : Intact edition1 (arrays up parent depth line held retained writers work store) → Clauses up parent depth line held retained writers store
+  unfolding live lineIn view
   clauses-of N =
       let S = N .sound in
-      let E = entry-of up parent depth line held retained writers work store S (N .lines) (N .tidy) in
-      let L = locked-of up parent depth held retained writers work store (N .held-nested) (N .retained-nested) S in (
-        (((λ t h. E t), locks-of parent depth held retained writers (S .numbered) L), shares-of parent depth line held retained writers (N .lines) L),
-        record { flag = N .flag; idle = λ e t h. down-free S e t; calm = S .calm; reserved = unlocked-of (N .held-nested) (N .retained-nested) S },
+      let F = N .form in
+      let E = entry-of up parent depth line held retained writers work store S (F .lines) (F .tidy) in
+      let L = locked-of up parent depth line held retained writers work store (F .held-nested) (F .retained-nested) S in (
+        (((λ t h. E t), locks-of parent depth held retained writers (S .numbered) L), shares-of parent depth line held retained writers (F .lines) L),
+        record { flag = F .flag; idle = λ e t h. down-free S e t; calm = S .calm; reserved = unlocked-of (F .held-nested) (F .retained-nested) S },
       )
 
   lined-by : Entries parent depth line × Locks (living depth) held retained writers → Lined line held retained
@@ -139,5 +157,5 @@ module _ (up : ℕ) (parent depth line held retained writers work store : List �
 
   pub whole-decided : {a b c d : Bool} → Decides a (Entries parent depth line) → Decides b (Locks (living depth) held retained writers)
       → (Lined line held retained → Decides c (Shares line held retained)) → Decides d (Phase up depth held retained store)
-      → Decides (((a && b) && c) && d) (Encoded up parent depth line held retained writers work store)
-  whole-decided a b c d = decides-as encoded-by clauses-of (decides-and (decides-given (decides-and a b) (λ x. c (lined-by x))) d)
+      → Decides (((a && b) && c) && d) (Intact edition1 (arrays up parent depth line held retained writers work store))
+  whole-decided a b c d = decides-as intact-by clauses-of (decides-and (decides-given (decides-and a b) (λ x. c (lined-by x))) d)

@@ -7,12 +7,13 @@ ghost use Prim.Native.Nat.{ℕ, _<_};
 ghost use lib.ListN.{length};
 ghost use Rattle.laws.specs.Counting.{all};
 ghost use Rattle.laws.specs.Bits.{bits};
-ghost use Rattle.rules.specs.Editions.{workBytes};
+ghost use Rattle.rules.specs.Editions.{edition1, workBytes};
 ghost use Rattle.rules.specs.Geometry.{transactions};
 ghost use Rattle.sets.specs.Sets.{sets};
 ghost use Rattle.clauses.specs.Decides.{Decides};
 ghost use Rattle.clauses.specs.Clauses.{Entries, Locks, Share, SharesOf, Shares, LinedOf, Lined};
-ghost use Rattle.soundness.specs.Encoded.{Encoded, Sized};
+ghost use Rattle.state.specs.Whole.{arrays, Intact};
+ghost use Rattle.soundness.specs.Sizes.{Sized};
 
 // The parents, depths and lines are those of a tree of transactions.
 fn is_tree(parent: &[u8; 24], depth: &[u8; 24], line: &[u32; 24]) -> bool
@@ -137,7 +138,7 @@ fn are_shares(line: &[u32; 24], held: &[u32; 32], retained: &[u32; 32]) -> bool
     ok
 }
 
-// The arrays encode a sound state, whatever the working buffer holds.
+// The arrays are those of a sound state, written in the one way that it has, whatever the working buffer holds.
 pub fn is_sound(
     up: u8,
     parent: &[u8; 24],
@@ -149,7 +150,9 @@ pub fn is_sound(
     store: &[u8],
 ) -> bool
     requires { ⌜ Sized (now parent) (now depth) (now line) (now held) (now retained) (now writers) (now store) ⌝ }
-    ensures { λ r. ⌜ ((work : List ℕ) → length work ≡ workBytes → Decides r (Encoded up (now (parent .entry)) (now (depth .entry)) (now (line .entry)) (now (held .entry)) (now (retained .entry)) (now (writers .entry)) work (now (store .entry)))) ⌝ }
+    ensures { λ r. ⌜ ((work : List ℕ) → length work ≡ workBytes →
+        let lent = arrays up (now (parent .entry)) (now (depth .entry)) (now (line .entry)) (now (held .entry)) (now (retained .entry)) (now (writers .entry)) work (now (store .entry)) in
+        Decides r (Intact edition1 lent)) ⌝ }
 {
     let tree = is_tree(parent, depth, line);
     let live = transactions::live_set(depth);

@@ -10,7 +10,7 @@ use Rattle.laws.specs.Bytes.{number}
 use Rattle.laws.specs.Counting.{lowestFrom}
 use Rattle.rules.specs.Run.{words}
 use Rattle.rules.specs.Editions.{geometry1}
-use Rattle.event.proofs.Words.{words-next}
+use Rattle.event.proofs.Words.{bytes1, words-next}
 use Rattle.audit.specs.Audit.{isTwoPhase, someTwoPhase}
 
 -- one number lower
@@ -38,7 +38,7 @@ unfolding someTwoPhase
 scan-more events n k t met b w h q r p =
     let e : n - k ≡ suc (n - (k + 1)) = omega (arith, h) in
     let c : b ≡ isTwoPhase geometry1 (number (take 4 (drop (4 * k) events))) = r ∙ ap (isTwoPhase geometry1) q in
-    p ∙ ap (λ (v : List ℕ). met || someTwoPhase geometry1 v) (ap (λ (m : ℕ). words geometry1 m (drop (4 * k) events)) e ∙ words-next (n - (k + 1)) k events)
+    p ∙ ap (λ (v : List ℕ). met || someTwoPhase geometry1 v) (ap (λ (m : ℕ). words geometry1 m (drop (4 * k) events)) e ∙ words-next geometry1 4 bytes1 (n - (k + 1)) k events)
     ∙ ap (λ (x : Bool). met || (x || ahead events n (k + 1))) (sym c) ∙ or-join met b (ahead events n (k + 1))
 
 or-none : (b : Bool) → (b || false) ≡ b

@@ -17,7 +17,7 @@ use Rattle.rules.specs.Event.{Event, decode}
 use Rattle.rules.specs.Step.{Answer, numberOf, valueOf}
 use Rattle.rules.specs.Run.{words}
 use Rattle.rules.specs.Editions.{geometry1, edition1}
-use Rattle.event.proofs.Words.{words-next}
+use Rattle.event.proofs.Words.{bytes1, words-next}
 use Rattle.audit.specs.Plain.{Ledger, blankLedger, learned, due}
 use Rattle.audit.specs.Walk.{Walked, wrong, right, answered, walk}
 use Rattle.scans.specs.Scans.{eventAt}
@@ -37,7 +37,7 @@ module _ (start : ℕ → Page) (answers events : List ℕ) (n : ℕ) where
   next : (k : ℕ) → k < n → words geometry1 (n - k) (drop (4 * k) events) ≡ number (take 4 (drop (4 * k) events)) ∷ words geometry1 (n - (k + 1)) (drop (4 * (k + 1)) events)
   next k h =
       let e : n - k ≡ suc (n - (k + 1)) = omega (arith, h) in
-      ap (λ (m : ℕ). words geometry1 m (drop (4 * k) events)) e ∙ words-next (n - (k + 1)) k events
+      ap (λ (m : ℕ). words geometry1 m (drop (4 * k) events)) e ∙ words-next geometry1 4 bytes1 (n - (k + 1)) k events
 
   -- an answer by its two bytes
   bytes-are : (k : ℕ) (a : Answer) (x y : ℕ) → x ≡ numberOf a → y ≡ valueOf a → answered answers k a ≡ twoBytes k x y

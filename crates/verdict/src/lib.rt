@@ -125,7 +125,7 @@ fn prepared(start: &[u8]) -> bool
     requires { ⌜ length (now start) ≡ 1056 ⌝ }
     ensures { λ b. ⌜ b ≡ isBusy (edition1 .medium .prepared (edition1 .medium .fromBytes (now (start .entry)))) ⌝ }
 {
-    let p = commitpage::read_prepared(page::get_page(start, 0));
+    let p = commitpage::read_prepared(page::get_page(start, 0), 16, true);
     p.map != 0
 }
 

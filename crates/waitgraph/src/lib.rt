@@ -62,7 +62,10 @@ fn awaited(
 // The row w adds what its transaction points to.
 fn point(points: &mut [u32; 24], line: &[u32; 24], held: &[u32; 32], retained: &[u32; 32], w: u32)
     requires { ⌜ RowInRange (rowOf w) × (length (now points) ≡ 24) ⌝ }
-    ensures { λ _. let before = sets (now (points .entry)) in let row = rowIn (sets (now (line .entry))) (sets (now (held .entry))) (sets (now (retained .entry))) (rowOf w) in ⌜ Rows 24 (λ t u. before t u || row t u) (now (points .exit)) ⌝ }
+    ensures { λ _.
+        let before = sets (now (points .entry)) in
+        let row = rowIn (sets (now (line .entry))) (sets (now (held .entry))) (sets (now (retained .entry))) (rowOf w) in
+        ⌜ Rows 24 (λ t u. before t u || row t u) (now (points .exit)) ⌝ }
 {
     let t = (w / 65536 % 256) as u8;
     let r = (w / 256 % 256) as usize;
@@ -94,8 +97,11 @@ pub fn pointings(
     words: &[u32; 24],
     n: usize,
 ) -> [u32; 24]
-    requires { ⌜ (length (now parent) ≡ 24) × (length (now depth) ≡ 24) × ((u : ℕ) → getD (now parent) u 0 < 32) × (n ≤ 24) × (length (now words) ≡ 24) × ((i : ℕ) → i < n → RowInRange (rowOf (getD (now words) i 0))) ⌝ }
-    ensures { λ r. let children = childPoints (now (parent .entry)) (now (depth .entry)) in ⌜ Rows 24 (rowsIn children (sets (now (line .entry))) (sets (now (held .entry))) (sets (now (retained .entry))) (now (words .entry)) n) r ⌝ }
+    requires { ⌜ (length (now parent) ≡ 24) × (length (now depth) ≡ 24) × ((u : ℕ) → getD (now parent) u 0 < 32) × (n ≤ 24)
+        × (length (now words) ≡ 24) × ((i : ℕ) → i < n → RowInRange (rowOf (getD (now words) i 0))) ⌝ }
+    ensures { λ r.
+        let children = childPoints (now (parent .entry)) (now (depth .entry)) in
+        ⌜ Rows 24 (rowsIn children (sets (now (line .entry))) (sets (now (held .entry))) (sets (now (retained .entry))) (now (words .entry)) n) r ⌝ }
 {
     let mut points = to_children(parent, depth);
     for i in 0..n {

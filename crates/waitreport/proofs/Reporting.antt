@@ -18,7 +18,7 @@ use Rattle.lengths.specs.Lengths.{refusalNumber}
 use Rattle.sets.specs.Sets.{sets}
 use Rattle.arrays.specs.Kin.{livesIn, childIn}
 use Rattle.arrays.specs.Changes as changes
-use Rattle.events.specs.Whole.{Arrays, view, lineIn, Intact}
+use Rattle.state.specs.Whole.{Arrays, view, lineIn, Intact}
 use Rattle.clauses.specs.Decides.{Decides}
 use Rattle.portions.specs.Portion.{whole}
 use Rattle.portions.specs.declared.Engine.{Engine}
@@ -35,18 +35,18 @@ sixteen : records (edition1 .geometry) ≡ 16
 unfolding records
 sixteen = refl
 
-module _ (x : Arrays) (I : Intact x) (words : List ℕ) (n : ℕ) (k : n ≤ length words) where
-  pub numbers-are : numbersIn (livesIn (x .depth)) words 0 n ≡ refusalNumber (firstOf (rowsRefusals edition1 (view x) (map rowOf (take n words))))
+module _ (x : Arrays) (I : Intact edition1 x) (words : List ℕ) (n : ℕ) (k : n ≤ length words) where
+  pub numbers-are : numbersIn (livesIn (x .depth)) words 0 n ≡ refusalNumber (firstOf (rowsRefusals edition1 (view edition1 x) (map rowOf (take n words))))
   unfolding view lineIn
-  numbers-are = standing.numbers-are {f = edition1} (view x) (x .parent) (x .depth) (x .line) (x .held) (x .retained) refl refl refl (I .form .lines) (I .form .held-nested) (I .form .retained-nested) (I .sound) sixteen words n k
+  numbers-are = standing.numbers-are {f = edition1} (view edition1 x) (x .parent) (x .depth) (x .line) (x .held) (x .retained) refl refl refl (I .form .lines) (I .form .held-nested) (I .form .retained-nested) (I .sound) sixteen words n k
 
-  pub points-are : rowsIn (childPoints (x .parent) (x .depth)) (sets (x .line)) (sets (x .held)) (sets (x .retained)) words n ≡ pointsTo (view x) (map rowOf (take n words))
+  pub points-are : rowsIn (childPoints (x .parent) (x .depth)) (sets (x .line)) (sets (x .held)) (sets (x .retained)) words n ≡ pointsTo (view edition1 x) (map rowOf (take n words))
   unfolding view lineIn
-  points-are = standing.points-are {f = edition1} (view x) (x .parent) (x .depth) (x .line) (x .held) (x .retained) refl refl refl (I .form .lines) (I .form .held-nested) (I .form .retained-nested) (I .sound) words n k
+  points-are = standing.points-are {f = edition1} (view edition1 x) (x .parent) (x .depth) (x .line) (x .held) (x .retained) refl refl refl (I .form .lines) (I .form .held-nested) (I .form .retained-nested) (I .sound) words n k
 
   pub points-small : (t u : ℕ) → rowsIn (childPoints (x .parent) (x .depth)) (sets (x .line)) (sets (x .held)) (sets (x .retained)) words n t u ≡ true → u < 24
   unfolding view lineIn
-  points-small t u e = standing.points-small {f = edition1} (view x) (x .parent) (x .depth) (x .line) (x .held) (x .retained) refl refl refl (I .form .lines) (I .form .held-nested) (I .form .retained-nested) (I .sound) words n t u e
+  points-small t u e = standing.points-small {f = edition1} (view edition1 x) (x .parent) (x .depth) (x .line) (x .held) (x .retained) refl refl refl (I .form .lines) (I .form .held-nested) (I .form .retained-nested) (I .sound) words n t u e
 
 -- a row is told from its word
 row-told : (r : Row) → Small r → rowOf (wordOf r) ≡ waitingRow r
@@ -86,9 +86,9 @@ rows-long rows = length-map rows waitingRow
 -- the report on rows, from that on what was copied
 module _ (e : Engine) (rows : List Row) (ring ring′ : Ring) (answer : ℕ) (small : Smalls (least (length rows)) rows) (R : Reported-copied e (copiedOf rows) ring answer ring′) where
   abbrev numberFor : Bool → Bool → ℕ
-  numberFor unsound many = refusalNumber (firstOf ((25, unsound) ∷ (26, many) ∷ rowsRefusals edition1 (view (aside e)) (waitingRows rows)))
+  numberFor unsound many = refusalNumber (firstOf ((25, unsound) ∷ (26, many) ∷ rowsRefusals edition1 (view edition1 (aside e)) (waitingRows rows)))
 
-  number-is : {b c : Bool} → R .sound ≡ b → under 24 (length rows) ≡ c → numberFor (not b) c ≡ refusalNumber (firstOf (reportRefusals edition1 (view (aside e)) (R .sound) (waitingRows rows)))
+  number-is : {b c : Bool} → R .sound ≡ b → under 24 (length rows) ≡ c → numberFor (not b) c ≡ refusalNumber (firstOf (reportRefusals edition1 (view edition1 (aside e)) (R .sound) (waitingRows rows)))
   unfolding reportRefusals
   number-is p q = sym (ap₂ (λ (x y : Bool). numberFor (not x) y) p (ap (under 24) (rows-long rows) ∙ q))
 
@@ -106,19 +106,19 @@ module _ (e : Engine) (rows : List Row) (ring ring′ : Ring) (answer : ℕ) (sm
   unfolding firstOf refusalNumber
   many-is = refl
 
-  few-is : refusalNumber (firstOf (rowsRefusals edition1 (view (aside e)) (waitingRows rows))) ≡ numberFor false false
+  few-is : refusalNumber (firstOf (rowsRefusals edition1 (view edition1 (aside e)) (waitingRows rows))) ≡ numberFor false false
   unfolding firstOf
   few-is = refl
 
-  answer-of : Reported-sound e (copiedOf rows) ring answer ring′ → R .sound ≡ true → Is (under 24 (length rows)) → answer ≡ refusalNumber (firstOf (reportRefusals edition1 (view (aside e)) (R .sound) (waitingRows rows)))
+  answer-of : Reported-sound e (copiedOf rows) ring answer ring′ → R .sound ≡ true → Is (under 24 (length rows)) → answer ≡ refusalNumber (firstOf (reportRefusals edition1 (view edition1 (aside e)) (R .sound) (waitingRows rows)))
   answer-of J q (yes′ k) = J .many (many-count k) ∙ many-is ∙ number-is q k
   answer-of J q (no′ k) =
-      J .few (few-count k) ∙ ap (λ (w : List WaitingRow). refusalNumber (firstOf (rowsRefusals edition1 (view (aside e)) w))) (copied-told rows (not-under 24 (length rows) k) small)
+      J .few (few-count k) ∙ ap (λ (w : List WaitingRow). refusalNumber (firstOf (rowsRefusals edition1 (view edition1 (aside e)) w))) (copied-told rows (not-under 24 (length rows) k) small)
       ∙ few-is ∙ number-is q k
 
-  told-of : Reported-sound e (copiedOf rows) ring answer ring′ → Is (under 24 (length rows)) → answer ≡ 0 → Found (pointsTo (view (aside e)) (waitingRows rows)) (ring′ .length) (ring′ .transactions)
+  told-of : Reported-sound e (copiedOf rows) ring answer ring′ → Is (under 24 (length rows)) → answer ≡ 0 → Found (pointsTo (view edition1 (aside e)) (waitingRows rows)) (ring′ .length) (ring′ .transactions)
   told-of J (yes′ k) z = let q = J .many (many-count k) in absurd (omega arith)
-  told-of J (no′ k) z = subst (λ (w : List WaitingRow). Found (pointsTo (view (aside e)) w) (ring′ .length) (ring′ .transactions)) (copied-told rows (not-under 24 (length rows) k) small) (J .told z)
+  told-of J (no′ k) z = subst (λ (w : List WaitingRow). Found (pointsTo (view edition1 (aside e)) w) (ring′ .length) (ring′ .transactions)) (copied-told rows (not-under 24 (length rows) k) small) (J .told z)
 
   pub reported : Reported e rows ring answer ring′
   reported = go (is? (R .sound))

@@ -9,7 +9,7 @@ use Rattle.rules.specs.Form.{Medium}
 use Rattle.rules.specs.Step.{firstOf}
 use Rattle.rules.specs.Editions.{edition1, workBytes}
 use Rattle.rules.specs.Waiting.{WaitingRow, mostRows, pointsTo, Found, rowsRefusals, reportRefusals}
-use Rattle.events.specs.Whole.{Arrays, view, Intact}
+use Rattle.state.specs.Whole.{Arrays, view, Intact}
 use Rattle.clauses.specs.Decides.{Decides}
 use Rattle.portions.specs.Portion.{whole}
 use Rattle.portions.specs.declared.Engine.{Engine}
@@ -25,7 +25,7 @@ aside e = whole e (replicate workBytes 0) (edition1 .medium .toBytes (edition1 .
 
 -- it encodes a sound state
 abbrev pub Sound-aside : Engine → Type 0
-Sound-aside e = Intact (aside e) × (e .spare ≡ replicate 3 0)
+Sound-aside e = Intact edition1 (aside e) × (e .spare ≡ replicate 3 0)
 
 abbrev pub waitingRow : Row → WaitingRow
 waitingRow r = record { transaction = r .transaction; rec = r .«record»; mode = r .mode }
@@ -37,8 +37,8 @@ waitingRows rows = map waitingRow rows
 pub record Reported (e : Engine) (rows : List Row) (ring : Ring) (answer : ℕ) (ring′ : Ring) : Type 0 where
   pub sound : Bool
   pub found : Decides sound (Sound-aside e)
-  pub answered : answer ≡ refusalNumber (firstOf (reportRefusals edition1 (view (aside e)) sound (waitingRows rows)))
-  pub told : answer ≡ 0 → Found (pointsTo (view (aside e)) (waitingRows rows)) (ring′ .length) (ring′ .transactions)
+  pub answered : answer ≡ refusalNumber (firstOf (reportRefusals edition1 (view edition1 (aside e)) sound (waitingRows rows)))
+  pub told : answer ≡ 0 → Found (pointsTo (view edition1 (aside e)) (waitingRows rows)) (ring′ .length) (ring′ .transactions)
   pub untouched : answer ≢ 0 → ring′ ≡ ring
 
 -- the rows of a list that was copied
@@ -48,8 +48,8 @@ copiedRows l = map rowOf (take (l .count) (l .words))
 -- The same of rows that are copied, where the state is sound.
 pub record Reported-sound (e : Engine) (list : Rows) (ring : Ring) (answer : ℕ) (ring′ : Ring) : Type 0 where
   pub many : mostRows < list .count → answer ≡ 26
-  pub few : list .count ≤ mostRows → answer ≡ refusalNumber (firstOf (rowsRefusals edition1 (view (aside e)) (copiedRows list)))
-  pub told : answer ≡ 0 → Found (pointsTo (view (aside e)) (copiedRows list)) (ring′ .length) (ring′ .transactions)
+  pub few : list .count ≤ mostRows → answer ≡ refusalNumber (firstOf (rowsRefusals edition1 (view edition1 (aside e)) (copiedRows list)))
+  pub told : answer ≡ 0 → Found (pointsTo (view edition1 (aside e)) (copiedRows list)) (ring′ .length) (ring′ .transactions)
   pub untouched : answer ≢ 0 → ring′ ≡ ring
 
 -- and of any state

@@ -3,9 +3,10 @@ ghost use mathlib.Core.Path.{_≡_};
 ghost use mathlib.Core.Bool.{true};
 ghost use Prim.Native.Nat.{ℕ, _<_};
 ghost use lib.ListN.{length};
+ghost use Rattle.rules.specs.Editions.{edition1};
 ghost use Rattle.rules.specs.Waiting.{Found};
 ghost use Rattle.sets.specs.Sets.{sets};
-ghost use Rattle.events.specs.Whole.{Intact};
+ghost use Rattle.state.specs.Whole.{Intact};
 ghost use Rattle.waitreport.specs.Reported.{aside, Reported-sound};
 use portions::Engine;
 use waitrows::Rows;
@@ -46,7 +47,7 @@ fn show_cycle(points: &[u32; 24]) -> Report
 
 // The report on a sound state.
 pub fn report_sound(e: Engine, list: Rows, ring: Ring) -> Report
-    requires { ⌜ Intact (aside e) ⌝ }
+    requires { ⌜ Intact edition1 (aside e) ⌝ }
     ensures { λ r. ⌜ Reported-sound e list ring (r .number) (r .ring) ⌝ }
 {
     let n = list.count;

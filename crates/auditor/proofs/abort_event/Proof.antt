@@ -1,3 +1,4 @@
+-- All within the transaction end, and its own fate is set after: what the rules' abort comes to in the tables.
 use Rattle.auditor.proofs.Aborts.{abort-0}
 use Prim.Native.Nat.{_-_}
 use Rattle.bearers.specs.Tables.{tables}

@@ -1,3 +1,4 @@
+-- The three refusals in their order, then the lowest free number is borne.
 use Rattle.auditor.proofs.Begins.{begin-5, begin-6, begin-7, begin-0, free-of}
 use mathlib.Core.Path.{_≡_, sym, _∙_}
 use Prim.Native.Nat.{ℕ, suc, _+_, _-_, _%_}

@@ -1,3 +1,4 @@
+-- By the parent: a child ends as one that committed; a top one ends by its page writes, and a cut ends all.
 use mathlib.Core.Path.{_≡_, refl, sym, _∙_}
 use mathlib.Core.Bool.{Bool, true}
 use Prim.Native.Nat.{_-_}

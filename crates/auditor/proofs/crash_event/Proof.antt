@@ -1,3 +1,4 @@
+-- All end.
 use Rattle.auditor.proofs.Aborts.{crash-0}
 use Prim.Native.Nat.{_-_}
 use Rattle.bearers.specs.Tables.{tables}

@@ -1,3 +1,4 @@
+-- By the page writes: whole, or cut behind the commit page, it survives.
 use Prim.Native.Nat.{_-_}
 use Rattle.laws.specs.Tests.{under}
 use Rattle.auditor.proofs.fate_after.Statement.{statement}

@@ -1,3 +1,4 @@
+-- By whether the value is 0.
 use native.Mathlib.Omega.{arith}
 use mathlib.Core.Path.{sym, ap}
 use Rattle.rules.specs.Event.{reportOf}

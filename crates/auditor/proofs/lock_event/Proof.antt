@@ -1,3 +1,4 @@
+-- Refused where some lock bars it; else the event is noted as that transaction's.
 use Rattle.auditpages.proofs.Ledgers.{linked}
 use Rattle.rules.specs.Event.{accessOf}
 use Rattle.auditor.proofs.Owns.{lock-8, lock-0, lock-told}

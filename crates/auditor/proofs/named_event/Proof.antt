@@ -1,3 +1,4 @@
+-- By the kind, and by whether it has a live child: an abort first, then a commit, then what works on a record.
 use Rattle.rules.specs.Event.{abort}
 use mathlib.Core.Option.{some}
 use Rattle.audit.specs.Plain.{borne, isParent}

@@ -1,3 +1,4 @@
+-- By the kind, in the order of the refusals: a bad event, crash and recover, down, begin, a number that nobody bears, all others.
 use Rattle.laws.proofs.Booleans.{not-true, not-false}
 use mathlib.Core.Path.{refl, sym, _∙_}
 use Prim.Native.Nat.{_-_}

@@ -1,3 +1,4 @@
+-- Refused where it does not hold the lock; else the byte of the page that the history shows it.
 use Rattle.auditpages.proofs.Ledgers.{linked}
 use Rattle.auditor.proofs.Owns.{read-9, read-0, read-told, read-byte}
 use Rattle.rules.specs.Editions.{edition1}

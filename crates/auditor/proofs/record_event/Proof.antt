@@ -1,3 +1,4 @@
+-- By the kind: lock, write, read.
 use mathlib.Core.Path.{_≡_}
 use Prim.Native.Nat.{_-_}
 use native.Mathlib.Omega.{arith}

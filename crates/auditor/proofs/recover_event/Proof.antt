@@ -1,3 +1,4 @@
+-- Refused over a damaged commit page; else by its page writes, and a cut ends all.
 use Rattle.laws.proofs.Booleans.{not-true, not-false}
 use Rattle.auditpages.proofs.Settled.{map-said}
 use mathlib.Core.Path.{sym}

@@ -1,3 +1,4 @@
+-- Refused where it does not hold the lock to write; else the event is noted as that transaction's.
 use Rattle.auditor.proofs.Owns.{write-9, write-0, write-told}
 use mathlib.Core.Path.{_≡_, _∙_}
 use Prim.Native.Nat.{_-_, _%_}

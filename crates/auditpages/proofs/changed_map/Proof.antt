@@ -1,6 +1,7 @@
-use mathlib.Core.Path.{_≡_, refl, ap, ap₂, _∙_}
+-- So far the map has a bit for each record below r, set where it was changed.
+use mathlib.Core.Path.{_≡_, refl, ap, ap₂, _∙_, subst⁻¹}
 use mathlib.Core.Bool.{Bool, true, cond}
-use Prim.Native.Nat.{ℕ, _+_, _-_, _*_, _≤_}
+use Prim.Native.Nat.{ℕ, _+_, _-_, _*_, _≤_, _<_}
 use native.Mathlib.Omega.{arith}
 use borrow.Author.Needs.{needs}
 use Rattle.laws.specs.Tests.{same}
@@ -12,6 +13,7 @@ use Rattle.rules.specs.Geometry.{open-geometry}
 use Rattle.rules.specs.Store.{bitsFrom, mapOf}
 use Rattle.audit.specs.Plain.{Ledger}
 use Rattle.scans.specs.Scans.{writesUpTo}
+use Rattle.rules.proofs.Map.{bits-lt}
 use Rattle.commitpage.proofs.Maps.{map-room, map-next}
 use Rattle.auditpages.proofs.Ledgers.{linked}
 use Rattle.auditpages.proofs.changed_map.Statement.{statement}
@@ -45,7 +47,7 @@ loop-again c = let o = c .before .before .before .loop in let a = c .before .bef
 
 returns : tie.Need-returns Inv-loop μ-loop
 unfolding mapOf open-geometry
-returns c = λ l K. let o = c .before .loop in let a = c .before .before .before .args in let q : o .r ≡ 16 = omega arith in o .inv .1 l K ∙ ap (λ (m : ℕ). bitsFrom m (λ q. writesTo (λ i. same (standsWith (l .story) i) (a .me)) q (writesUpTo (a .owner .now) (a .events .now) (a .n)))) q
+returns c = (λ l K. let o = c .before .loop in let a = c .before .before .before .args in let q : o .r ≡ 16 = omega arith in o .inv .1 l K ∙ ap (λ (m : ℕ). bitsFrom m (λ q. writesTo (λ i. same (standsWith (l .story) i) (a .me)) q (writesUpTo (a .owner .now) (a .events .now) (a .n)))) q, let o = c .before .loop in let a = c .before .before .before .args in let l = ledgerOf (tables (a .owner .now) (a .parent .now) (a .fate .now) [] 0 true) (a .events .now) (a .n) in let q : o .r ≡ 16 = omega arith in let p : ℕ → Bool = λ q. writesTo (λ i. same (standsWith (l .story) i) (a .me)) q (writesUpTo (a .owner .now) (a .events .now) (a .n)) in subst⁻¹ (λ (m : ℕ). m < 65536) (o .inv .1 l (linked (a .owner .now) (a .parent .now) (a .fate .now) [] (a .events .now) 0 (a .n) true) ∙ ap (λ (m : ℕ). bitsFrom m p) q) (bits-lt 16 p))
 
 pub changed-map-spec : {M : Type 1} → statement M
 changed-map-spec =

@@ -1,3 +1,4 @@
+-- One more bit at the end.
 use Prim.Native.Nat.{_-_}
 use borrow.Author.Needs.{needs}
 use Rattle.auditpages.proofs.grown.Statement.{statement}

@@ -1,7 +1,9 @@
 -- `recover_writes` has the two phases of a recovery; over an empty commit page it writes nothing. The loop's invariant: the page writes of the records
 -- below r are made as far as the count allows, and the pages up to the last intention page are as they were.
+use Rattle.commitpage.proofs.Places.{layout1}
 use borrow.Author.Needs.{needs}
-use mathlib.Core.Path.{_≡_}
+use mathlib.Core.Logic.{inl}
+use mathlib.Core.Path.{_≡_, refl}
 use Prim.Native.Nat.{_+_, _-_, _≤_}
 use native.Mathlib.Omega.{arith}
 use lib.ListN.{length}
@@ -19,13 +21,13 @@ use Rattle.auditpages.proofs.recover_writes.Tie as tie
 
 abbrev Inv-loop : tie.InvT-loop
 Inv-loop store₀ map k rest₀ r₀ store rest r =
-    (r ≤ 16) × (length store ≡ 1056) × Kept (pagesOf store₀) (pagesOf store) × Phase k (sweep (named geometry1 map) (copies 17 (λ j. pagesOf store₀ (1 + j))) r) (pagesOf store₀) (pagesOf store) rest
+    (r ≤ 16) × (length store ≡ 1056) × Kept 17 (pagesOf store₀) (pagesOf store) × Phase k (sweep (named geometry1 map) (copies 17 (λ j. pagesOf store₀ (1 + j))) r) (pagesOf store₀) (pagesOf store) rest
 
 abbrev μ-loop : tie.MeasureT-loop
 μ-loop store₀ map k rest₀ r₀ store rest r = 16 - r
 
 returns : tie.Need-returns Inv-loop μ-loop
-returns c = let a = c .before .before .args in recover-none (a .map) (a .k) (pagesOf (a .store .now)) (c .before .before .pre .1) (c .if1 .taken)
+returns c = let a = c .before .before .args in recover-none geometry1 16 (layout1 .many) (a .map) (a .k) (pagesOf (a .store .now)) (c .before .before .pre .1) (c .if1 .taken)
 
 loop-holds : tie.Need-loop-holds Inv-loop μ-loop
 unfolding sweep those
@@ -41,10 +43,10 @@ loop-less : tie.Need-loop-less Inv-loop μ-loop
 loop-less c = search needs
 
 loop-again : tie.Need-loop-again Inv-loop μ-loop
-loop-again c = let a = c .before .before .before .before .before .before .before .before .args in let at = c .before .before .before .before .before .loop in (omega arith, search needs, kept-then (at .inv .2) (kept-row (λ j. pagesOf (at .store) (1 + j)) (at .r) (at .rest) (named geometry1 (a .map)) (c .before .before .recover-record .ensures)), home-more (named geometry1 (a .map)) (at .r) (a .k) (omega arith) (at .inv .3) (at .inv .2) (c .before .before .recover-record .ensures))
+loop-again c = let a = c .before .before .before .before .before .before .before .before .args in let at = c .before .before .before .before .before .loop in (omega arith, search needs, kept-then (at .inv .2) (kept-row 17 (λ j. pagesOf (at .store) (1 + j)) (at .r) (at .rest) (named geometry1 (a .map)) (c .before .before .recover-record .ensures)), home-more (named geometry1 (a .map)) 17 (at .r) (a .k) (omega arith) (at .inv .3) (at .inv .2) (c .before .before .recover-record .ensures))
 
 commit-page-requires : tie.Need-commit-page-requires Inv-loop μ-loop
-commit-page-requires c κs = search needs
+commit-page-requires c κs = (inl refl, omega arith)
 
 write-one-requires : tie.Need-write-one-requires Inv-loop μ-loop
 write-one-requires c κs = search needs
@@ -57,7 +59,7 @@ same-length c = search needs
 
 returns-2 : tie.Need-returns-2 Inv-loop μ-loop
 unfolding same
-returns-2 c = let a = c .before .before .before .before .before .before .before .before .before .args in let e : c .before .before .before .before .before .before .loop .r ≡ 16 = omega arith in recover-leaves (a .map) (a .k) (pagesOf (a .store .now)) (c .before .before .before .before .before .before .before .before .before .pre .1) (c .before .before .before .before .before .before .before .before .before .fits .map .fits) (c .before .before .before .before .before .before .before .if1 .left) (rw e at (c .before .before .before .before .before .before .loop .inv .3)) (marked (c .before .before .before .commit-page .ensures) (c .before .before .write-one .ensures))
+returns-2 c = let a = c .before .before .before .before .before .before .before .before .before .args in let e : c .before .before .before .before .before .before .loop .r ≡ 16 = omega arith in recover-leaves geometry1 16 (layout1 .many) (a .map) (a .k) (pagesOf (a .store .now)) (c .before .before .before .before .before .before .before .before .before .pre .1) (c .before .before .before .before .before .before .before .if1 .left) (rw e at (c .before .before .before .before .before .before .loop .inv .3)) (marked (c .before .before .before .commit-page .ensures geometry1 layout1) (c .before .before .write-one .ensures))
 
 pub recover-writes-spec : {M : Type 1} → statement M
 recover-writes-spec =

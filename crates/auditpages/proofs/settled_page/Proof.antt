@@ -1,4 +1,6 @@
 -- `settled_page` takes the intention page where the map in force names the record, else the home page.
+use Rattle.commitpage.proofs.Places.{layout1}
+use Rattle.rules.specs.Editions.{geometry1}
 use borrow.Author.Needs.{needs}
 use mathlib.Core.Path.{sym, _∙_}
 use mathlib.Core.Bool.{true, false}
@@ -20,7 +22,7 @@ get-page-requires : tie.Need-get-page-requires
 get-page-requires c κs = search needs
 
 returns : tie.Need-returns
-returns c = let a = c .before .before .before .before .before .args in let m = map-said (pagesOf (a .store .now) 0) (c .before .before .before .read-map .ensures) in c .get-page .ensures ∙ sym (settled-is (a .store .now) (a .r) (c .before .before .before .read-map .result .map) true (c .before .before .before .before .before .pre .1) m (sym (c .before .before .names .ensures) ∙ c .before .if1 .taken))
+returns c = let a = c .before .before .before .before .before .args in let m = map-said (pagesOf (a .store .now) 0) (c .before .before .before .read-map .ensures) in c .get-page .ensures ∙ sym (settled-is (a .store .now) (a .r) (c .before .before .before .read-map .result .map) true (c .before .before .before .before .before .pre .1) m (sym (c .before .before .names .ensures geometry1 (layout1 .many)) ∙ c .before .if1 .taken))
 
 add-get-page-2 : tie.Need-add-get-page-2
 add-get-page-2 c = search needs
@@ -29,7 +31,7 @@ get-page-requires-2 : tie.Need-get-page-requires-2
 get-page-requires-2 c κs = search needs
 
 returns-2 : tie.Need-returns-2
-returns-2 c = let a = c .before .before .before .before .before .args in let m = map-said (pagesOf (a .store .now) 0) (c .before .before .before .read-map .ensures) in c .get-page2 .ensures ∙ sym (settled-is (a .store .now) (a .r) (c .before .before .before .read-map .result .map) false (c .before .before .before .before .before .pre .1) m (sym (c .before .before .names .ensures) ∙ c .before .if1 .left))
+returns-2 c = let a = c .before .before .before .before .before .args in let m = map-said (pagesOf (a .store .now) 0) (c .before .before .before .read-map .ensures) in c .get-page2 .ensures ∙ sym (settled-is (a .store .now) (a .r) (c .before .before .before .read-map .result .map) false (c .before .before .before .before .before .pre .1) m (sym (c .before .before .names .ensures geometry1 (layout1 .many)) ∙ c .before .if1 .left))
 
 pub settled-page-spec : {M : Type 1} → statement M
 settled-page-spec =

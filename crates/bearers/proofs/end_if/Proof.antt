@@ -1,3 +1,4 @@
+-- By who bears the number: nobody, one that is taken, or one that is not.
 use Rattle.history.specs.History.{climbs}
 use Rattle.bearers.proofs.Change.{cond-length, cond-small}
 use mathlib.Core.Path.{_≡_, refl, sym, ap, ap₂, _∙_}

@@ -1,3 +1,4 @@
+-- Of the numbers below t those that are taken have ended; the others, and all from t on, are as they were.
 use Rattle.history.specs.History.{climbs}
 use Rattle.bearers.proofs.Change.{cond-length, cond-small}
 use mathlib.Core.Path.{_≡_, refl, sym, ap, ap₂, _∙_}

@@ -1,25 +1,29 @@
 -- `abort_decided` is one page write.
+use lib.Pow.{pow-pos}
 use Rattle.laws.specs.Tests.{same}
 use Rattle.commit.proofs.Prepares.{struck-leaves}
 use borrow.Author.Needs.{needs}
 use Rattle.commit.proofs.abort_decided.Statement.{statement}
 use Rattle.commit.proofs.abort_decided.Tie as tie
-use Rattle.commit.proofs.abort_decided.Reads as reads
-use Rattle.commit.proofs.abort_decided.Lts as lts
-use Rattle.commit.proofs.mark.Reads as mark-reads
 
 mark-requires : tie.Need-mark-requires
-mark-requires c κs = search needs
+mark-requires c κs = (c .before .before .pre .0, pow-pos (c .before .before .args .n), c .before .before .pre .1)
 
-sub-t6 : tie.Need-sub-t6
-sub-t6 c = search needs
+sub-t7 : tie.Need-sub-t7
+sub-t7 c = search needs
 
 same-length : tie.Need-same-length
 same-length c = search needs
 
 returns : tie.Need-returns
 unfolding same
-returns c = struck-leaves (c .before .before .mark .ensures)
+returns c = λ g L. struck-leaves g (c .before .before .mark .ensures .0 g L)
 
 pub abort-decided-spec : {M : Type 1} → statement M
-abort-decided-spec = tie.close (tie.spec mark-requires sub-t6 same-length returns)
+abort-decided-spec =
+    tie.close
+    (tie.spec
+    mark-requires
+    sub-t7
+    same-length
+    returns)

@@ -1,13 +1,13 @@
--- `bring_all_home` sweeps over the sixteen records. The loop's invariant: the page writes of the records below r are made as far as the count
+-- `bring_all_home` sweeps over the records. The loop's invariant: the page writes of the records below r are made as far as the count
 -- allows, and the commit page and the intention pages are as they were, so that the next page that goes home is the one of the start.
 use borrow.Author.Needs.{needs}
-use mathlib.Core.Path.{_≡_}
-use Prim.Native.Nat.{_+_, _-_, _≤_}
+use mathlib.Core.Path.{_≡_, subst}
+use Prim.Native.Nat.{ℕ, _+_, _*_, _-_, _≤_}
 use native.Mathlib.Omega.{arith}
 use lib.ListN.{length}
 use Rattle.laws.specs.Counting.{those}
+use Rattle.rules.specs.Geometry.{Geometry, records}
 use Rattle.rules.specs.Store.{pagesOf, named}
-use Rattle.rules.specs.Editions.{geometry1}
 use Rattle.commit.specs.Phase.{Phase, sweep, copies}
 use Rattle.commit.proofs.Phases.{phase-none}
 use Rattle.commit.proofs.Sweeps.{Kept, kept-none, kept-then, kept-row, home-more}
@@ -15,15 +15,20 @@ use Rattle.commit.proofs.bring_all_home.Statement.{statement}
 use Rattle.commit.proofs.bring_all_home.Tie as tie
 
 abbrev Inv-loop : tie.InvT-loop
-Inv-loop store₀ map left rest₀ r₀ store rest r =
-    (r ≤ 16) × (length store ≡ 1056) × Kept (pagesOf store₀) (pagesOf store) × Phase left (sweep (named geometry1 map) (copies 17 (λ j. pagesOf store₀ (1 + j))) r) (pagesOf store₀) (pagesOf store) rest
+Inv-loop store₀ map n left rest₀ r₀ end store rest r =
+    (r ≤ n) × (length store ≡ 32 * (1 + (n + n))) × (rest ≤ left)
+    × ((g : Geometry) → records g ≡ n
+    → Kept (1 + n) (pagesOf store₀) (pagesOf store) × Phase left (sweep (named g map) (copies (1 + n) (λ j. pagesOf store₀ (1 + j))) r) (pagesOf store₀) (pagesOf store) rest)
 
 abbrev μ-loop : tie.MeasureT-loop
-μ-loop store₀ map left rest₀ r₀ store rest r = 16 - r
+μ-loop store₀ map n left rest₀ r₀ end store rest r = n - r
+
+cast-r-end : tie.Need-cast-r-end Inv-loop μ-loop
+cast-r-end c = search needs
 
 loop-holds : tie.Need-loop-holds Inv-loop μ-loop
 unfolding sweep those
-loop-holds c = (search needs, search needs, kept-none, phase-none)
+loop-holds c = (search needs, search needs, search needs, λ g m. (kept-none, phase-none))
 
 bring-home-requires : tie.Need-bring-home-requires Inv-loop μ-loop
 bring-home-requires c κs = search needs
@@ -40,15 +45,23 @@ loop-again c =
     let at = c .before .before .before .before .before .loop in (
       omega arith,
       search needs,
-      kept-then (at .inv .2) (kept-row (λ j. pagesOf (at .store) (1 + j)) (at .r) (at .rest) (named geometry1 (a .map)) (c .before .before .bring-home .ensures)),
-      home-more (named geometry1 (a .map)) (at .r) (a .left) (omega arith) (at .inv .3) (at .inv .2) (c .before .before .bring-home .ensures),
+      omega arith,
+      λ g m. (
+        kept-then (at .inv .3 g m .0) (kept-row (1 + a .n) (λ j. pagesOf (at .store) (1 + j)) (at .r) (at .rest) (named g (a .map)) (c .before .before .bring-home .ensures .0 g m)),
+        home-more (named g (a .map)) (1 + a .n) (at .r) (a .left) (omega arith) (at .inv .3 g m .1) (at .inv .3 g m .0) (c .before .before .bring-home .ensures .0 g m),
+      ),
     )
 
 same-length : tie.Need-same-length Inv-loop μ-loop
 same-length c = search needs
 
 returns : tie.Need-returns Inv-loop μ-loop
-returns c = let e : c .before .loop .r ≡ 16 = omega arith in rw e at (c .before .loop .inv .3)
+returns c =
+    let at = c .before .loop in
+    let a = c .before .before .before .args in
+    let e : at .r ≡ a .n = omega arith in
+    let s = pagesOf (a .store .now) in
+    (λ g m. subst (λ (k : ℕ). Phase (a .left) (sweep (named g (a .map)) (copies (1 + a .n) (λ j. s (1 + j))) k) s (pagesOf (at .store)) (at .rest)) e (at .inv .3 g m .1), at .inv .2)
 
 pub bring-all-home-spec : {M : Type 1} → statement M
 bring-all-home-spec =
@@ -56,6 +69,7 @@ bring-all-home-spec =
     (tie.spec
     Inv-loop
     μ-loop
+    cast-r-end
     loop-holds
     bring-home-requires
     add-r

@@ -21,12 +21,20 @@ same-length : tie.Need-same-length
 same-length c = search needs
 
 returns : tie.Need-returns
-returns c = phase-one (omega arith) (c .before .before .put-page .ensures ∙ ap (λ p. updated 0 p (pagesOf (c .before .before .before .before .before .before .before .args .store .now))) (c .before .before .before .commit-page .ensures))
+returns c =
+    let s = pagesOf (c .before .before .before .before .before .before .before .args .store .now) in
+    (λ g L. phase-one (omega arith) (c .before .before .put-page .ensures ∙ ap (λ p. updated 0 p s) (c .before .before .before .commit-page .ensures g L)), omega arith)
 
 returns-2 : tie.Need-returns-2
-returns-2 c = phase-spent (omega arith)
+returns-2 c = (λ g L. phase-spent (omega arith), omega arith)
 
 pub mark-spec : {M : Type 1} → statement M
 mark-spec =
     tie.close
-    (tie.spec commit-page-requires put-page-requires sub-result same-length returns returns-2)
+    (tie.spec
+    commit-page-requires
+    put-page-requires
+    sub-result
+    same-length
+    returns
+    returns-2)

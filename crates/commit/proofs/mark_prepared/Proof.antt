@@ -7,10 +7,6 @@ use Rattle.commit.proofs.Phases.{phase-one, phase-spent}
 use borrow.Author.Needs.{needs}
 use Rattle.commit.proofs.mark_prepared.Statement.{statement}
 use Rattle.commit.proofs.mark_prepared.Tie as tie
-use Rattle.commit.proofs.mark_prepared.Reads as reads
-use Rattle.commit.proofs.mark_prepared.Lts as lts
-use Rattle.commitpage.proofs.prepared_page.Reads as prepared-page-reads
-use Rattle.page.proofs.put_page.Reads as put-page-reads
 
 prepared-page-requires : tie.Need-prepared-page-requires
 prepared-page-requires c κs = search needs
@@ -25,12 +21,20 @@ same-length : tie.Need-same-length
 same-length c = search needs
 
 returns : tie.Need-returns
-returns c = phase-one (omega arith) (c .before .before .put-page .ensures ∙ ap (λ p. updated 0 p (pagesOf (c .before .before .before .before .before .before .before .args .store .now))) (c .before .before .before .prepared-page .ensures))
+returns c =
+    let s = pagesOf (c .before .before .before .before .before .before .before .args .store .now) in
+    (λ g L. phase-one (omega arith) (c .before .before .put-page .ensures ∙ ap (λ p. updated 0 p s) (c .before .before .before .prepared-page .ensures g L)), omega arith)
 
 returns-2 : tie.Need-returns-2
-returns-2 c = phase-spent (omega arith)
+returns-2 c = (λ g L. phase-spent (omega arith), omega arith)
 
 pub mark-prepared-spec : {M : Type 1} → statement M
 mark-prepared-spec =
     tie.close
-    (tie.spec prepared-page-requires put-page-requires sub-result same-length returns returns-2)
+    (tie.spec
+    prepared-page-requires
+    put-page-requires
+    sub-result
+    same-length
+    returns
+    returns-2)

@@ -1,12 +1,12 @@
--- `write_versions` sweeps over the sixteen records. The loop's invariant: the page writes of the records below r are made as far as the count allows.
+-- `write_versions` sweeps over the records. The loop's invariant: the page writes of the records below r are made as far as the count allows.
 use borrow.Author.Needs.{needs}
-use mathlib.Core.Path.{_≡_}
-use Prim.Native.Nat.{_-_, _≤_}
+use mathlib.Core.Path.{_≡_, subst}
+use Prim.Native.Nat.{ℕ, _+_, _*_, _-_, _≤_}
 use native.Mathlib.Omega.{arith}
 use lib.ListN.{length}
 use Rattle.laws.specs.Counting.{those}
+use Rattle.rules.specs.Geometry.{Geometry, records}
 use Rattle.rules.specs.Store.{pagesOf, named}
-use Rattle.rules.specs.Editions.{geometry1}
 use Rattle.commit.specs.Phase.{Phase, sweep, copies, topSlot}
 use Rattle.commit.proofs.Phases.{phase-none}
 use Rattle.commit.proofs.Sweeps.{phase-more}
@@ -14,15 +14,19 @@ use Rattle.commit.proofs.write_versions.Statement.{statement}
 use Rattle.commit.proofs.write_versions.Tie as tie
 
 abbrev Inv-loop : tie.InvT-loop
-Inv-loop store₀ work map first left rest₀ r₀ store rest r =
-    (r ≤ 16) × (length store ≡ 1056) × Phase left (sweep (named geometry1 map) (copies first (topSlot work)) r) (pagesOf store₀) (pagesOf store) rest
+Inv-loop store₀ work map n first left rest₀ r₀ end store rest r =
+    (r ≤ n) × (length store ≡ 32 * (1 + (n + n))) × (rest ≤ left)
+    × ((g : Geometry) → records g ≡ n → Phase left (sweep (named g map) (copies first (topSlot work)) r) (pagesOf store₀) (pagesOf store) rest)
 
 abbrev μ-loop : tie.MeasureT-loop
-μ-loop store₀ work map first left rest₀ r₀ store rest r = 16 - r
+μ-loop store₀ work map n first left rest₀ r₀ end store rest r = n - r
+
+cast-r-end : tie.Need-cast-r-end Inv-loop μ-loop
+cast-r-end c = search needs
 
 loop-holds : tie.Need-loop-holds Inv-loop μ-loop
 unfolding sweep those
-loop-holds c = (search needs, search needs, phase-none)
+loop-holds c = (search needs, search needs, search needs, λ g m. phase-none)
 
 write-version-requires : tie.Need-write-version-requires Inv-loop μ-loop
 write-version-requires c κs = search needs
@@ -39,14 +43,19 @@ loop-again c =
     let at = c .before .before .before .before .before .loop in (
       omega arith,
       search needs,
-      phase-more (named geometry1 (a .map)) (copies (a .first) (topSlot (a .work .now))) (at .r) (at .inv .2) (c .before .before .write-version .ensures),
+      omega arith,
+      λ g m. phase-more (named g (a .map)) (copies (a .first) (topSlot (a .work .now))) (at .r) (at .inv .3 g m) (c .before .before .write-version .ensures .0 g m),
     )
 
 same-length : tie.Need-same-length Inv-loop μ-loop
 same-length c = search needs
 
 returns : tie.Need-returns Inv-loop μ-loop
-returns c = let e : c .before .loop .r ≡ 16 = omega arith in rw e at (c .before .loop .inv .2)
+returns c =
+    let at = c .before .loop in
+    let a = c .before .before .before .before .args in
+    let e : at .r ≡ a .n = omega arith in
+    (λ g m. subst (λ (k : ℕ). Phase (a .left) (sweep (named g (a .map)) (copies (a .first) (topSlot (a .work .now))) k) (pagesOf (a .store .now)) (pagesOf (at .store)) (at .rest)) e (at .inv .3 g m), at .inv .2)
 
 pub write-versions-spec : {M : Type 1} → statement M
 write-versions-spec =
@@ -54,6 +63,7 @@ write-versions-spec =
     (tie.spec
     Inv-loop
     μ-loop
+    cast-r-end
     loop-holds
     write-version-requires
     add-r

@@ -3,26 +3,19 @@ use mathlib.Core.Path.{refl}
 use borrow.Author.Needs.{needs}
 use Rattle.commitpage.proofs.appended.Statement.{statement}
 use Rattle.commitpage.proofs.appended.Tie as tie
-use Rattle.commitpage.proofs.appended.Reads as reads
-use Rattle.commitpage.proofs.appended.Lts as lts
 
--- src/lib.rt:81:14
 mul-result : tie.Need-mul-result
 mul-result c = search needs
 
--- src/lib.rt:81:14
 add-result : tie.Need-add-result
 add-result c = search needs
 
--- src/lib.rt:81:35
 mul-result-2 : tie.Need-mul-result-2
 mul-result-2 c = search needs
 
--- src/lib.rt:77:1
 returns : tie.Need-returns
 returns c = rw (c .if1 .taken) refl
 
--- src/lib.rt:77:1
 returns-2 : tie.Need-returns-2
 returns-2 c = rw (c .if1 .left) (search needs)
 

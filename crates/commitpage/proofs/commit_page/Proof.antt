@@ -1,71 +1,71 @@
--- Four bytes, and zeros behind them.
-use mathlib.Core.Path.{sym, ap₂, _∙_}
-use mathlib.Core.List.{_∷_}
-use Prim.Native.Nat.{ℕ, _*_, _/_, _%_}
-use native.Mathlib.Omega.{arith}
-use lib.ListN.{replicate}
-use Rattle.commitpage.proofs.Places.{page-bytes}
+-- A page with the map's bytes, and then the first byte and the count's.
 use borrow.Author.Needs.{needs}
+use mathlib.Core.Path.{sym, ap₂, subst, _∙_}
+use mathlib.Core.List.{List, _∷_, _++_}
+use Prim.Native.Nat.{ℕ, _+_, _*_, _/_, _-_, _<_, _^_}
+use native.Mathlib.Nat.{lt-of-le-of-lt}
+use native.Mathlib.Omega.{arith}
+use lib.ListN.{set, replicate}
+use mathlib.Core.Bool.{cond}
+use Rattle.laws.specs.Tests.{same}
+use Rattle.laws.specs.Bytes.{bytes}
+use Rattle.commitpage.specs.Layout.{headOf}
+use Rattle.commitpage.proofs.Places.{known-small, count-fits, page-set, page-bytes, laidOut}
 use Rattle.commitpage.proofs.commit_page.Statement.{statement}
 use Rattle.commitpage.proofs.commit_page.Tie as tie
-use Rattle.commitpage.proofs.commit_page.Reads as reads
-use Rattle.commitpage.proofs.commit_page.Lts as lts
-use Rattle.commitpage.proofs.head.Reads as head-reads
-use Rattle.commitpage.proofs.ones.Reads as ones-reads
 
--- src/lib.rt:57:15
+lay-map-requires : tie.Need-lay-map-requires
+lay-map-requires c κs = let k = known-small (c .args .n) (c .pre .0) .0 in omega arith
+
 head-requires : tie.Need-head-requires
 head-requires c κs = search needs
 
--- src/lib.rt:57:5
 array-write-page : tie.Need-array-write-page
 array-write-page c = search needs
 
--- src/lib.rt:58:15
-cast-page : tie.Need-cast-page
-cast-page c = search needs
-
--- src/lib.rt:58:5
-array-write-page-2 : tie.Need-array-write-page-2
-array-write-page-2 c = search needs
-
--- src/lib.rt:59:15
-cast-page-2 : tie.Need-cast-page-2
-cast-page-2 c = search needs
-
--- src/lib.rt:59:5
-array-write-page-3 : tie.Need-array-write-page-3
-array-write-page-3 c = search needs
-
--- src/lib.rt:60:15
 ones-requires : tie.Need-ones-requires
 ones-requires c κs = search needs
 
--- src/lib.rt:60:15
+place-requires : tie.Need-place-requires
+place-requires c κs = search needs
+
 mul-page : tie.Need-mul-page
-mul-page c = search needs
+mul-page c =
+    let entry = c .before .before .before .before in
+    let few = c .before .ones .ensures .1 (entry .args .n) (lt-of-le-of-lt (omega arith) (entry .pre .1)) in
+    let fits = count-fits (entry .args .n) (c .before .ones .result) (c .place .result) (entry .pre .0) few (c .place .ensures .0) in
+    omega arith
 
--- src/lib.rt:60:5
-array-write-page-4 : tie.Need-array-write-page-4
-array-write-page-4 c = search needs
+add-page : tie.Need-add-page
+add-page c = search needs
 
--- src/lib.rt:53:1
+array-write-page-2 : tie.Need-array-write-page-2
+array-write-page-2 c = let entry = c .before .before .before .before in let few = known-small (entry .args .n) (entry .pre .0) .0 in omega arith
+
 returns : tie.Need-returns
+unfolding laidOut
 returns c =
-    let m = c .before .before .args .map in
-    ap₂ (λ (h o : ℕ). h ∷ m / 256 ∷ m % 256 ∷ o * 8 ∷ replicate 28 0) (c .before .head .ensures) (c .ones .ensures .0) ∙ sym (page-bytes m (omega arith))
+    let entry = c .before .before .before .before in
+    let a = entry .args in
+    let hd : ℕ = headOf (a .n) + cond (same (a .map) 0) 0 5 in
+    let x : ℕ = c .before .ones .result * c .place .result in
+    λ g L.
+    ap₂ (λ (l : List ℕ) (h : ℕ). set (set l 0 h) (a .n / 8 + 1) x) (c .before .before .before .lay-map .ensures) (c .before .before .head .ensures)
+    ∙ page-set (a .n) (a .map) hd x (known-small (a .n) (entry .pre .0) .0)
+    ∙ ap₂ (λ (o k : ℕ). hd ∷ (bytes (a .n / 8) (a .map) ++ (o * k ∷ replicate (30 - a .n / 8) 0)))
+    (c .before .ones .ensures .0 g (subst (λ (k : ℕ). a .map < 2 ^ k) (sym (L .many)) (entry .pre .1))) (c .place .ensures .0)
+    ∙ sym (page-bytes g (a .n) (a .map) L (entry .pre .0) (entry .pre .1))
 
 pub commit-page-spec : {M : Type 1} → statement M
 commit-page-spec =
     tie.close
     (tie.spec
+    lay-map-requires
     head-requires
     array-write-page
-    cast-page
-    array-write-page-2
-    cast-page-2
-    array-write-page-3
     ones-requires
+    place-requires
     mul-page
-    array-write-page-4
+    add-page
+    array-write-page-2
     returns)

@@ -8,10 +8,6 @@ use Rattle.commitpage.proofs.Places.{understood-is}
 use borrow.Author.Needs.{needs}
 use Rattle.commitpage.proofs.read_page.Statement.{statement}
 use Rattle.commitpage.proofs.read_page.Tie as tie
-use Rattle.commitpage.proofs.read_page.Reads as reads
-use Rattle.commitpage.proofs.read_page.Lts as lts
-use Rattle.commitpage.proofs.read_commit.Reads as read-commit-reads
-use Rattle.commitpage.proofs.read_prepared.Reads as read-prepared-reads
 
 read-commit-requires : tie.Need-read-commit-requires
 read-commit-requires c κs = search needs
@@ -21,9 +17,17 @@ read-prepared-requires c κs = search needs
 
 returns : tie.Need-returns
 unfolding same
-returns c =
-    ap₂ (λ (a : CommitMap) (b : PreparedMap). record { good = a .good || not (same (b .map) 0); map = a .map }) (c .before .before .read-commit .ensures) (c .before .read-prepared .ensures)
-    ∙ understood-is (c .before .before .before .args .page)
+returns c = (
+  λ g L j.
+      ap₂ (λ (a : CommitMap) (b : PreparedMap). record { good = a .good || not (same (b .map) 0); map = a .map }) (c .before .before .read-commit .ensures .0 g L) (c .before .read-prepared .ensures .0 g L j)
+      ∙ understood-is g (c .before .before .before .args .page),
+  c .before .before .read-commit .ensures .1,
+)
 
 pub read-page-spec : {M : Type 1} → statement M
-read-page-spec = tie.close (tie.spec read-commit-requires read-prepared-requires returns)
+read-page-spec =
+    tie.close
+    (tie.spec
+    read-commit-requires
+    read-prepared-requires
+    returns)

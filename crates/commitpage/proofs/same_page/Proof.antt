@@ -11,8 +11,6 @@ use Rattle.laws.proofs.All.{all-next}
 use Rattle.laws.proofs.Compared.{sameList-all}
 use Rattle.commitpage.proofs.same_page.Statement.{statement}
 use Rattle.commitpage.proofs.same_page.Tie as tie
-use Rattle.commitpage.proofs.same_page.Reads as reads
-use Rattle.commitpage.proofs.same_page.Lts as lts
 
 abbrev Inv-loop : tie.InvT-loop
 Inv-loop a b equal₀ i₀ equal i =
@@ -21,28 +19,22 @@ Inv-loop a b equal₀ i₀ equal i =
 abbrev μ-loop : tie.MeasureT-loop
 μ-loop a b equal₀ i₀ equal i = 32 - i
 
--- src/lib.rt:95:5
 loop-holds : tie.Need-loop-holds Inv-loop μ-loop
 unfolding all
 loop-holds c = (search needs, refl)
 
--- src/lib.rt:96:24
 array-read-equal : tie.Need-array-read-equal Inv-loop μ-loop
 array-read-equal c = search needs
 
--- src/lib.rt:96:32
 array-read-equal-2 : tie.Need-array-read-equal-2 Inv-loop μ-loop
 array-read-equal-2 c = search needs
 
--- src/lib.rt:95:9
 add-i : tie.Need-add-i Inv-loop μ-loop
 add-i c = search needs
 
--- src/lib.rt:95:5
 loop-less : tie.Need-loop-less Inv-loop μ-loop
 loop-less c = search needs
 
--- src/lib.rt:95:5
 loop-again : tie.Need-loop-again Inv-loop μ-loop
 unfolding same
 loop-again c =
@@ -51,7 +43,6 @@ loop-again c =
     let p : ℕ → Bool = λ k. same (getD (a .t1) k 0) (getD (a .t2) k 0) in
     (search needs, ap (λ (b : Bool). b && p (l .i)) (l .inv .1) ∙ all-next (l .i) p)
 
--- src/lib.rt:91:1
 returns : tie.Need-returns Inv-loop μ-loop
 returns c =
     let a = c .before .before .args in

@@ -6,6 +6,7 @@ use Prim.Native.Nat.{ℕ, _-_, _<_, _≤_}
 use native.Mathlib.Omega.{arith}
 use lib.ListN.{length, getD}
 use Rattle.laws.proofs.Booleans.{clash, not-true, not-false}
+use Rattle.crashes.proofs.Editions.{layout-of}
 use borrow.Author.Needs.{needs}
 use Rattle.commits.proofs.reread.Statement.{statement}
 use Rattle.commits.proofs.reread.Tie as tie
@@ -14,13 +15,13 @@ use Rattle.commits.proofs.reread.Lts as lts
 use Rattle.commit.proofs.read_held.Reads as read-held-reads
 
 returns : tie.Need-returns
-returns c = (λ e. clash e (not-true _ (c .if1 .taken)), λ e. (refl, refl))
+returns c = (λ edition N e. clash e (not-true _ (c .if1 .taken)), λ e. (refl, refl))
 
 read-held-requires : tie.Need-read-held-requires
 read-held-requires c κs = search needs
 
 returns-2 : tie.Need-returns-2
-returns-2 c = (λ e. sym (c .read-held .ensures), λ e. clash (not-false _ (c .before .if1 .left)) e)
+returns-2 c = (λ edition N e. sym (c .read-held .ensures .0 _ (layout-of edition _ _ N) (N .two-phase)), λ e. clash (not-false _ (c .before .if1 .left)) e)
 
 pub reread-spec : {M : Type 1} → statement M
 reread-spec =

@@ -16,24 +16,24 @@ use Rattle.commit.proofs.commit_pages.Reads as commit-pages-reads
 use Rattle.commit.proofs.prepare_pages.Reads as prepare-pages-reads
 
 prepare-pages-requires : tie.Need-prepare-pages-requires
-prepare-pages-requires c κs = search needs
+prepare-pages-requires c κs = (c .before .before .before .before .pre .1 (c .before .if1 .taken), c .before .before .before .before .pre .2, c .before .before .before .before .pre .3, c .before .before .before .before .pre .4)
 
 same-length : tie.Need-same-length
 same-length c = search needs
 
 returns : tie.Need-returns
 unfolding settlingAt
-returns c = settled-pages true _ _ _ _ _ _ _ _ (c .before .before .before .before .if1 .taken) (c .before .before .prepare-pages .ensures)
+returns c = λ g G. settled-pages g true _ _ _ _ _ _ _ _ (c .before .before .before .before .if1 .taken) (c .before .before .prepare-pages .ensures g G)
 
 commit-pages-requires : tie.Need-commit-pages-requires
-commit-pages-requires c κs = search needs
+commit-pages-requires c κs = (c .before .before .before .before .pre .0, c .before .before .before .before .pre .2, c .before .before .before .before .pre .3, c .before .before .before .before .pre .4)
 
 same-length-2 : tie.Need-same-length-2
 same-length-2 c = search needs
 
 returns-2 : tie.Need-returns-2
 unfolding settlingAt
-returns-2 c = settled-pages false _ _ _ _ _ _ _ _ (c .before .before .before .before .if1 .left) (c .before .before .commit-pages .ensures)
+returns-2 c = λ g G. settled-pages g false _ _ _ _ _ _ _ _ (c .before .before .before .before .if1 .left) (c .before .before .commit-pages .ensures g G)
 
 pub write-pages-spec : {M : Type 1} → statement M
 write-pages-spec =

@@ -5,7 +5,8 @@ use mathlib.Core.List.{List}
 use Prim.Native.Nat.{ℕ, suc, _+_, _*_, _-_, _/_, _%_, _<_, _≤_}
 use native.Mathlib.Omega.{arith}
 use lib.ListN.{length, getD, set}
-use Rattle.crashes.proofs.Falls.{crash-steps, zeros-intact, zeros-down, damaged-is, map-is, recover-refuses-3, recover-refuses-4, recover-cut, recover-steps}
+use Rattle.rules.specs.Editions.{formOf}
+use Rattle.crashes.proofs.Falls.{crash-steps}
 use borrow.Author.Needs.{needs}
 use Rattle.crashes.proofs.crash_event.Statement.{statement}
 use Rattle.crashes.proofs.crash_event.Tie as tie
@@ -16,8 +17,24 @@ use Rattle.crashes.proofs.fall.Reads as fall-reads
 fall-requires : tie.Need-fall-requires
 fall-requires c κs = search needs
 
+same-length : tie.Need-same-length
+same-length c = search needs
+
+same-length-2 : tie.Need-same-length-2
+same-length-2 c = search needs
+
+same-length-3 : tie.Need-same-length-3
+same-length-3 c = search needs
+
 returns : tie.Need-returns
-returns c = (λ work store I. crash-steps _ (I .form) _ _ _ _ _ _ _ (c .fall .ensures .0), c .fall .ensures .1)
+returns c = (λ edition work store I. crash-steps (formOf edition) _ (I .form) _ (c .before .before .before .before .before .before .before .before .before .before .before .before .before .before .before .before .before .before .before .pre .3) _ _ _ _ _ _ _ (c .before .before .before .before .before .before .fall .ensures .0), c .before .before .before .before .before .before .fall .ensures .1)
 
 pub crash-event-spec : {M : Type 1} → statement M
-crash-event-spec = tie.close (tie.spec fall-requires returns)
+crash-event-spec =
+    tie.close
+    (tie.spec
+    fall-requires
+    same-length
+    same-length-2
+    same-length-3
+    returns)

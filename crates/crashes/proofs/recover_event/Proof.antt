@@ -5,7 +5,9 @@ use mathlib.Core.List.{List}
 use Prim.Native.Nat.{ℕ, suc, _+_, _*_, _-_, _/_, _%_, _<_, _≤_}
 use native.Mathlib.Omega.{arith}
 use lib.ListN.{length, getD, set}
-use Rattle.crashes.proofs.Falls.{crash-steps, zeros-intact, zeros-down, damaged-is, map-is, recover-refuses-3, recover-refuses-4, recover-cut, recover-steps}
+use Rattle.rules.specs.Editions.{geometryOf}
+use Rattle.crashes.proofs.Editions.{layout-of}
+use Rattle.crashes.proofs.Falls.{map-is, recover-refuses-3, recover-refuses-4, recover-cut, recover-steps}
 use Rattle.laws.proofs.Booleans.{not-true, not-false}
 use borrow.Author.Needs.{needs}
 use Rattle.crashes.proofs.recover_event.Statement.{statement}
@@ -16,7 +18,7 @@ use Rattle.commit.proofs.read_map.Reads as read-map-reads
 use Rattle.commit.proofs.recover_pages.Reads as recover-pages-reads
 
 returns : tie.Need-returns
-returns c = λ parent depth line held retained writers work I. recover-refuses-3 _ I (c .before .before .before .args .k) (c .if1 .taken)
+returns c = λ edition parent depth line held retained writers work N I. recover-refuses-3 (geometryOf edition) _ I (c .before .before .before .args .k) (c .if1 .taken)
 
 read-map-requires : tie.Need-read-map-requires
 read-map-requires c κs = search needs
@@ -25,22 +27,22 @@ same-length : tie.Need-same-length
 same-length c = search needs
 
 returns-2 : tie.Need-returns-2
-returns-2 c = λ parent depth line held retained writers work I. recover-refuses-4 _ I (c .before .before .before .before .before .before .before .args .k) (c .before .before .before .before .if1 .left) _ (c .before .before .read-map .ensures) (not-true _ (c .if2 .taken))
+returns-2 c = λ edition parent depth line held retained writers work N I. recover-refuses-4 (geometryOf edition) _ I (c .before .before .before .before .before .before .before .args .k) (c .before .before .before .before .if1 .left) _ (c .before .before .read-map .ensures .0 _ (layout-of edition _ _ N) (N .two-phase)) (not-true _ (c .if2 .taken))
 
 recover-pages-requires : tie.Need-recover-pages-requires
-recover-pages-requires c κs = (search needs, map-is _ _ (c .before .before .before .read-map .ensures))
+recover-pages-requires c κs = search needs
 
 same-length-2 : tie.Need-same-length-2
 same-length-2 c = search needs
 
 returns-3 : tie.Need-returns-3
-returns-3 c = λ parent depth line held retained writers work I. recover-cut _ I (c .before .before .before .before .before .before .before .before .before .before .before .before .args .k) (c .before .before .before .before .before .before .before .before .before .if1 .left) _ (c .before .before .before .before .before .before .before .read-map .ensures) (not-false _ (c .before .before .before .before .before .if2 .left)) _ _ _ (search needs) (c .before .before .before .recover-pages .ensures) (c .if3 .taken)
+returns-3 c = λ edition parent depth line held retained writers work N I. recover-cut (geometryOf edition) _ I (c .before .before .before .before .before .before .before .before .before .before .before .before .args .k) (c .before .before .before .before .before .before .before .before .before .if1 .left) _ (c .before .before .before .before .before .before .before .read-map .ensures .0 _ (layout-of edition _ _ N) (N .two-phase)) (not-false _ (c .before .before .before .before .before .if2 .left)) _ _ _ (search needs) (c .before .before .before .recover-pages .ensures _ (layout-of edition _ _ N) (map-is (geometryOf edition) _ _ (c .before .before .before .before .before .before .before .read-map .ensures .0 _ (layout-of edition _ _ N) (N .two-phase)))) (c .if3 .taken)
 
 same-length-3 : tie.Need-same-length-3
 same-length-3 c = search needs
 
 returns-4 : tie.Need-returns-4
-returns-4 c = λ parent depth line held retained writers work I. recover-steps _ I (c .before .before .before .before .before .before .before .before .before .before .before .before .args .k) (c .before .before .before .before .before .before .before .before .before .if1 .left) _ (c .before .before .before .before .before .before .before .read-map .ensures) (not-false _ (c .before .before .before .before .before .if2 .left)) _ _ _ (search needs) (c .before .before .before .recover-pages .ensures) (c .if3 .left)
+returns-4 c = λ edition parent depth line held retained writers work N I. recover-steps (geometryOf edition) _ I (c .before .before .before .before .before .before .before .before .before .before .before .before .args .k) (c .before .before .before .before .before .before .before .before .before .if1 .left) _ (c .before .before .before .before .before .before .before .read-map .ensures .0 _ (layout-of edition _ _ N) (N .two-phase)) (not-false _ (c .before .before .before .before .before .if2 .left)) _ _ _ (search needs) (c .before .before .before .recover-pages .ensures _ (layout-of edition _ _ N) (map-is (geometryOf edition) _ _ (c .before .before .before .before .before .before .before .read-map .ensures .0 _ (layout-of edition _ _ N) (N .two-phase)))) (c .if3 .left)
 
 pub recover-event-spec : {M : Type 1} → statement M
 recover-event-spec =

@@ -7,6 +7,7 @@ use native.Mathlib.Omega.{arith}
 use lib.ListN.{length, getD}
 use mathlib.Core.Bool.{cond}
 use Rattle.laws.specs.Tests.{same}
+use Rattle.rules.specs.Editions.{geometryOf}
 use Rattle.decisions.proofs.Decisions.{query-steps}
 use borrow.Author.Needs.{needs}
 use Rattle.decisions.proofs.query_event.Statement.{statement}
@@ -19,10 +20,10 @@ is-for-requires : tie.Need-is-for-requires
 is-for-requires c κs = search needs
 
 returns : tie.Need-returns
-returns c = λ x I u H. query-steps x I u _ _ _ H _ (c .before .is-for .ensures) 1 (ap (λ (b : Bool). cond b 1 0) (c .if1 .taken))
+returns c = λ edition x I u H. query-steps (geometryOf edition) x I u _ _ _ H _ (c .before .is-for .ensures) 1 (ap (λ (b : Bool). cond b 1 0) (c .if1 .taken))
 
 returns-2 : tie.Need-returns-2
-returns-2 c = λ x I u H. query-steps x I u _ _ _ H _ (c .before .is-for .ensures) 0 (ap (λ (b : Bool). cond b 1 0) (c .if1 .left))
+returns-2 c = λ edition x I u H. query-steps (geometryOf edition) x I u _ _ _ H _ (c .before .is-for .ensures) 0 (ap (λ (b : Bool). cond b 1 0) (c .if1 .left))
 
 pub query-event-spec : {M : Type 1} → statement M
 query-event-spec =

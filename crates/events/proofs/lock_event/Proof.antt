@@ -1,12 +1,13 @@
--- The grant is the grant of the rules, and a lock that is not granted is refused with 8.
-use mathlib.Core.Path.{_∙_}
+-- A reserved record is refused with 8. Else the grant is the grant of the rules, and a lock that is not granted is refused with 8.
+use mathlib.Core.Path.{subst⁻¹, _∙_}
 use mathlib.Core.Bool.{not}
-use Prim.Native.Nat.{ℕ, _-_}
-use Rattle.rules.specs.Event.{lock}
+use Prim.Native.Nat.{ℕ, _-_, _<_}
+use Rattle.rules.specs.Editions.{Edition, geometryOf, formOf, InNumbers}
+use Rattle.rules.specs.Form.{Form, Medium}
 use Rattle.arrays.specs.Changes.{accessWhen}
-use Rattle.events.specs.Whole.{ReadyLeaf}
-use Rattle.events.proofs.Steps.{numbered, lock-steps, lock-refuses}
-use Rattle.events.proofs.Reserves.{reserved-test, reserved-refuses}
+use Rattle.numbers.specs.Named.{transactionOf, recordOf}
+use Rattle.state.proofs.Reserves.{reserved-refuses}
+use Rattle.events.proofs.Steps.{is-reserved, lock-steps, lock-refuses}
 use borrow.Author.Needs.{needs}
 use Rattle.events.proofs.lock_event.Statement.{statement}
 use Rattle.events.proofs.lock_event.Tie as tie
@@ -14,37 +15,54 @@ use Rattle.events.proofs.lock_event.Reads as reads
 use Rattle.events.proofs.lock_event.Lts as lts
 use Rattle.locks.proofs.lock.Reads as lock-reads
 use Rattle.commitpage.proofs.names.Reads as names-reads
-use Rattle.numbers.proofs.RecordNumber.number.Reads as number-reads-2
-use Rattle.numbers.proofs.RecordNumber.index.Reads as index-reads
-use Rattle.numbers.proofs.TransactionNumber.number.Reads as number-reads
+use Rattle.numbers.proofs.RecordNumber.number.Reads as number-reads
+
+cast-names : tie.Need-cast-names
+cast-names c = search needs
 
 number-requires : tie.Need-number-requires
 number-requires c κs = search needs
 
-index-requires : tie.Need-index-requires
-index-requires c κs = search needs
+names-requires : tie.Need-names-requires
+names-requires c κs = (subst⁻¹ (λ (m : ℕ). m < c .before .before .before .args .records) (c .number .ensures .0) (c .before .before .before .pre .1), c .before .before .before .pre .0)
+
+returns : tie.Need-returns
+returns c = λ k joint up identity parent depth writers work store N H I R.
+    let a = c .before .before .before .before .before .args in
+    let is = is-reserved (geometryOf k) _ _ identity _ (N .many) H _ _ _ (c .before .before .number .ensures .0) (c .before .before .before .before .before .pre .1) (c .before .names .ensures) in
+    reserved-refuses (geometryOf k) _ I (transactionOf (a .t)) (recordOf (a .r)) (accessWhen (a .reading)) R (is ∙ c .if1 .taken)
 
 lock-requires : tie.Need-lock-requires
 lock-requires c κs = search needs
 
-number-requires-2 : tie.Need-number-requires-2
-number-requires-2 c κs = search needs
-
-names-requires : tie.Need-names-requires
-names-requires c κs = c .number2 .ensures .1
-
-returns : tie.Need-returns
-returns c = λ up identity parent depth writers work store I R H. let q = accessWhen (c .before .before .before .before .before .args .reading) in
-    numbered _ _ _ (λ t r. lock t r q) ReadyLeaf _ _ _ _ (c .before .before .before .before .number .ensures .0) (c .before .before .before .index .ensures .0) (λ R. reserved-refuses _ I _ _ q R (reserved-test _ _ _ H _ _ _ _ (c .before .before .before .index .ensures) (c .before .before .number2 .ensures) (c .before .names .ensures) ∙ c .if1 .taken)) R
+same-length : tie.Need-same-length
+same-length c = search needs
 
 returns-2 : tie.Need-returns-2
-returns-2 c = λ up identity parent depth writers work store I R H. let q = accessWhen (c .before .before .before .before .before .before .before .before .args .reading) in
-    numbered _ _ _ (λ t r. lock t r q) ReadyLeaf _ _ _ _ (c .before .before .before .before .before .before .before .number .ensures .0) (c .before .before .before .before .before .before .index .ensures .0) (λ R. lock-steps _ I q _ _ R (reserved-test _ _ _ H _ _ _ _ (c .before .before .before .before .before .before .index .ensures) (c .before .before .before .before .before .number2 .ensures) (c .before .before .before .before .names .ensures) ∙ c .before .before .before .if1 .left) _ _ (c .before .lock .ensures) (c .if2 .taken)) R
+returns-2 c = λ k joint up identity parent depth writers work store N H I R.
+    let a = c .before .before .before .before .before .before .before .before .before .before .args in
+    let is = is-reserved (geometryOf k) _ _ identity _ (N .many) H _ _ _ (c .before .before .before .before .before .before .before .number .ensures .0) (c .before .before .before .before .before .before .before .before .before .before .pre .1) (c .before .before .before .before .before .before .names .ensures) in
+    lock-steps (formOf k) _ I (accessWhen (a .reading)) (transactionOf (a .t)) (recordOf (a .r)) R (is ∙ c .before .before .before .before .before .if1 .left) _ _ (c .before .before .before .lock .ensures) (c .if2 .taken)
+
+same-length-2 : tie.Need-same-length-2
+same-length-2 c = search needs
 
 returns-3 : tie.Need-returns-3
-returns-3 c = λ up identity parent depth writers work store I R H. let q = accessWhen (c .before .before .before .before .before .before .before .before .args .reading) in
-    numbered _ _ _ (λ t r. lock t r q) ReadyLeaf _ _ _ _ (c .before .before .before .before .before .before .before .number .ensures .0) (c .before .before .before .before .before .before .index .ensures .0) (λ R. lock-refuses _ I q _ _ R (reserved-test _ _ _ H _ _ _ _ (c .before .before .before .before .before .before .index .ensures) (c .before .before .before .before .before .number2 .ensures) (c .before .before .before .before .names .ensures) ∙ c .before .before .before .if1 .left) _ _ (c .before .lock .ensures) (c .if2 .left)) R
+returns-3 c = λ k joint up identity parent depth writers work store N H I R.
+    let a = c .before .before .before .before .before .before .before .before .before .before .args in
+    let is = is-reserved (geometryOf k) _ _ identity _ (N .many) H _ _ _ (c .before .before .before .before .before .before .before .number .ensures .0) (c .before .before .before .before .before .before .before .before .before .before .pre .1) (c .before .before .before .before .before .before .names .ensures) in
+    lock-refuses (formOf k) _ I (accessWhen (a .reading)) (transactionOf (a .t)) (recordOf (a .r)) R (is ∙ c .before .before .before .before .before .if1 .left) _ _ (c .before .before .before .lock .ensures) (c .if2 .left)
 
 pub lock-event-spec : {M : Type 1} → statement M
 lock-event-spec =
-    tie.close (tie.spec number-requires index-requires number-requires-2 names-requires returns lock-requires returns-2 returns-3)
+    tie.close
+    (tie.spec
+    cast-names
+    number-requires
+    names-requires
+    returns
+    lock-requires
+    same-length
+    returns-2
+    same-length-2
+    returns-3)

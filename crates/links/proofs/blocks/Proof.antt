@@ -1,3 +1,4 @@
+-- By where the lock of i stands: with one that has ended, with i itself, or with an ancestor of i.
 use lib.ListN.{getD}
 use Rattle.laws.proofs.Tests.{lt-under, under-lt, same-refl, ne-false}
 use Rattle.laws.proofs.Booleans.{refute}

@@ -1,3 +1,4 @@
+-- By where the write of i stands: with one that survives, or else on the reader's line or off it.
 use lib.ListN.{getD}
 use Rattle.laws.proofs.Tests.{lt-under, under-lt, same-refl, ne-false}
 use Rattle.laws.proofs.Booleans.{refute}

@@ -28,4 +28,11 @@ unfolding barring accessWhen
 returns-2 c = (sym (ap (λ (b : Bool). barring (accessWhen b) (c .before .args .r)) (c .if1 .left)), omega arith)
 
 pub barring-place-spec : {M : Type 1} → statement M
-barring-place-spec = tie.close (tie.spec mul-result add-result returns mul-result-2 returns-2)
+barring-place-spec =
+    tie.close
+    (tie.spec
+    mul-result
+    add-result
+    returns
+    mul-result-2
+    returns-2)

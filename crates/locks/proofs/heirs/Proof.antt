@@ -28,4 +28,10 @@ unfolding heirsOf
 returns-2 c = let a = c .before .before .args in c .before .without .ensures ∙ fun-ext (λ k. sym (or-false _) ∙ ap (λ (b : Bool). (not (same k (a .t)) && bits (a .s) k) || b) (sym (and-false (same k (a .p))) ∙ ap (λ (b : Bool). same k (a .p) && b) (sym (c .if1 .left))))
 
 pub heirs-spec : {M : Type 1} → statement M
-heirs-spec = tie.close (tie.spec without-requires with-requires returns returns-2)
+heirs-spec =
+    tie.close
+    (tie.spec
+    without-requires
+    with-requires
+    returns
+    returns-2)

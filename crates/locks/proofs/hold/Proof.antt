@@ -9,11 +9,20 @@ use Rattle.sets.specs.Sets.{sets}
 use Rattle.arrays.specs.Changes.{accessWhen, joined, joinedFor}
 use Rattle.arrays.proofs.Joined.{sets-joined}
 use Rattle.laws.proofs.Booleans.{not-true, not-false}
+use Rattle.locks.proofs.Granting.{joined-as}
 use Rattle.locks.proofs.hold.Statement.{statement}
 use Rattle.locks.proofs.hold.Tie as tie
 use Rattle.locks.proofs.hold.Reads as reads
 use Rattle.locks.proofs.hold.Lts as lts
 use Rattle.sets.proofs.with.Reads as with-reads
+use Rattle.numbers.proofs.RecordNumber.index.Reads as index-reads
+use Rattle.numbers.proofs.TransactionNumber.number.Reads as number-reads
+
+number-requires : tie.Need-number-requires
+number-requires c κs = search needs
+
+index-requires : tie.Need-index-requires
+index-requires c κs = search needs
 
 mul-any : tie.Need-mul-any
 mul-any c = search needs
@@ -27,8 +36,8 @@ add-write c = search needs
 mul-with : tie.Need-mul-with
 mul-with c = search needs
 
-element-copy-out-with : tie.Need-element-copy-out-with
-element-copy-out-with c = search needs
+slice-read-with : tie.Need-slice-read-with
+slice-read-with c = search needs
 
 with-requires : tie.Need-with-requires
 with-requires c κs = search needs
@@ -36,14 +45,14 @@ with-requires c κs = search needs
 mul-held : tie.Need-mul-held
 mul-held c = search needs
 
-element-write-held : tie.Need-element-write-held
-element-write-held c = search needs
+slice-write-held : tie.Need-slice-write-held
+slice-write-held c = search needs
 
 mul-with-2 : tie.Need-mul-with-2
 mul-with-2 c = search needs
 
-element-copy-out-with-2 : tie.Need-element-copy-out-with-2
-element-copy-out-with-2 c = search needs
+slice-read-with-2 : tie.Need-slice-read-with-2
+slice-read-with-2 c = let a = c .before .before .before .before .before .before .before .args in let i = c .before .before .before .before .index .result in let e = length-set (a .held .now) (2 * i) (c .before .before .with .result) in omega arith
 
 with-requires-2 : tie.Need-with-requires-2
 with-requires-2 c κs = search needs
@@ -51,42 +60,52 @@ with-requires-2 c κs = search needs
 mul-held-2 : tie.Need-mul-held-2
 mul-held-2 c = search needs
 
-element-write-held-2 : tie.Need-element-write-held-2
-element-write-held-2 c = search needs
+slice-write-held-2 : tie.Need-slice-write-held-2
+slice-write-held-2 c = let a = c .before .before .before .before .before .before .before .before .args in let i = c .before .before .before .before .before .index .result in let e = length-set (a .held .now) (2 * i) (c .before .before .before .with .result) in omega arith
+
+same-length : tie.Need-same-length
+same-length c = search needs
 
 returns : tie.Need-returns
 unfolding sets joinedFor accessWhen
-returns c = let a = c .before .before .before .before .before .args in let v = c .before .before .before .with .result in record {
-  are = sets-joined (set (a .held .now) (2 * a .r) v) (a .t) (2 * a .r + 1) _ (omega (arith, length-set (a .held .now) (2 * a .r) v)) (c .with2 .ensures)
-      ∙ ap (joined (a .t) (2 * a .r + 1)) (sets-joined (a .held .now) (a .t) (2 * a .r) v (omega arith) (c .before .before .before .with .ensures))
-      ∙ sym (ap (λ (b : Bool). joinedFor (accessWhen b) (a .t) (a .r) (sets (a .held .now))) (not-true (a .reading) (c .before .before .if1 .taken)));
+returns c = let a = c .before .before .before .before .before .before .before .before .args in let n = c .before .before .before .before .before .before .number .result in let i = c .before .before .before .before .before .index .result in let v = c .before .before .before .with .result in joined-as (accessWhen (a .reading)) n _ i _ (a .held .now) _ (c .before .before .before .before .before .before .number .ensures .0) (c .before .before .before .before .before .index .ensures .0) (record {
+  are = sets-joined (set (a .held .now) (2 * i) v) n (2 * i + 1) _ (omega (arith, length-set (a .held .now) (2 * i) v)) (c .with2 .ensures)
+      ∙ ap (joined n (2 * i + 1)) (sets-joined (a .held .now) n (2 * i) v (omega arith) (c .before .before .before .with .ensures))
+      ∙ sym (ap (λ (b : Bool). joinedFor (accessWhen b) n i (sets (a .held .now))) (not-true (a .reading) (c .before .before .if1 .taken)));
   long = search needs;
-}
+})
+
+same-length-2 : tie.Need-same-length-2
+same-length-2 c = search needs
 
 returns-2 : tie.Need-returns-2
 unfolding sets joinedFor accessWhen
-returns-2 c = let a = c .before .before .before .args in record {
-  are = sets-joined (a .held .now) (a .t) (2 * a .r) _ (omega arith) (c .before .with .ensures)
-      ∙ sym (ap (λ (b : Bool). joinedFor (accessWhen b) (a .t) (a .r) (sets (a .held .now))) (not-false (a .reading) (c .if1 .left)));
+returns-2 c = let a = c .before .before .before .before .before .before .args in let n = c .before .before .before .before .number .result in let i = c .before .before .before .index .result in joined-as (accessWhen (a .reading)) n _ i _ (a .held .now) _ (c .before .before .before .before .number .ensures .0) (c .before .before .before .index .ensures .0) (record {
+  are = sets-joined (a .held .now) n (2 * i) _ (omega arith) (c .before .with .ensures)
+      ∙ sym (ap (λ (b : Bool). joinedFor (accessWhen b) n i (sets (a .held .now))) (not-false (a .reading) (c .if1 .left)));
   long = search needs;
-}
+})
 
 pub hold-spec : {M : Type 1} → statement M
 hold-spec =
     tie.close
     (tie.spec
+    number-requires
+    index-requires
     mul-any
     mul-write
     add-write
     mul-with
-    element-copy-out-with
+    slice-read-with
     with-requires
     mul-held
-    element-write-held
+    slice-write-held
     mul-with-2
-    element-copy-out-with-2
+    slice-read-with-2
     with-requires-2
     mul-held-2
-    element-write-held-2
+    slice-write-held-2
+    same-length
     returns
+    same-length-2
     returns-2)

@@ -15,20 +15,20 @@ use Rattle.locks.proofs.leave.Lts as lts
 use Rattle.sets.proofs.minus.Reads as minus-reads
 
 abbrev Inv-loop : tie.InvT-loop
-Inv-loop s₀ gone k₀ s k =
-    (k ≤ 32) × Upto 32 (leaving (bits gone) (sets s₀)) s s₀ k
+Inv-loop s₀ n gone k₀ s k =
+    (k ≤ n) × Upto n (leaving (bits gone) (sets s₀)) s s₀ k
 
 abbrev μ-loop : tie.MeasureT-loop
-μ-loop s₀ gone k₀ s k = 32 - k
+μ-loop s₀ n gone k₀ s k = n - k
 
 loop-holds : tie.Need-loop-holds Inv-loop μ-loop
-loop-holds c = (search needs, upto-none 32 _ _ (c .pre))
+loop-holds c = (search needs, upto-none (c .before .args .n) _ _ (c .before .pre))
 
 mul-minus : tie.Need-mul-minus Inv-loop μ-loop
 mul-minus c = search needs
 
-element-copy-out-minus : tie.Need-element-copy-out-minus Inv-loop μ-loop
-element-copy-out-minus c = search needs
+slice-read-minus : tie.Need-slice-read-minus Inv-loop μ-loop
+slice-read-minus c = search needs
 
 minus-requires : tie.Need-minus-requires Inv-loop μ-loop
 minus-requires c κs = search needs
@@ -36,8 +36,8 @@ minus-requires c κs = search needs
 mul-s : tie.Need-mul-s Inv-loop μ-loop
 mul-s c = search needs
 
-element-write-s : tie.Need-element-write-s Inv-loop μ-loop
-element-write-s c = search needs
+slice-write-s : tie.Need-slice-write-s Inv-loop μ-loop
+slice-write-s c = search needs
 
 add-k : tie.Need-add-k Inv-loop μ-loop
 add-k c = search needs
@@ -47,13 +47,16 @@ loop-less c = search needs
 
 loop-again : tie.Need-loop-again Inv-loop μ-loop
 unfolding sets less leaving
-loop-again c = let l = c .before .before .before .loop in let a = c .before .before .before .before .args in (
+loop-again c = let l = c .before .before .before .loop in let a = c .before .before .before .before .before .args in (
   search needs,
-  upto-more 32 _ (l .s) (a .s .now) _ (l .k) _ (l .inv .1) (omega arith) (record { word = _; is = refl; holds = c .minus .ensures }) (ap {B = ℕ → Bool} (less (bits (a .gone))) (l .inv .1 .swept .above (l .k) (omega arith))),
+  upto-more (a .n) _ (l .s) (a .s .now) _ (l .k) _ (l .inv .1) (omega arith) (record { word = _; is = refl; holds = c .minus .ensures }) (ap {B = ℕ → Bool} (less (bits (a .gone))) (l .inv .1 .swept .above (l .k) (omega arith))),
 )
 
+same-length : tie.Need-same-length Inv-loop μ-loop
+same-length c = search needs
+
 returns : tie.Need-returns Inv-loop μ-loop
-returns c = let l = c .before .loop in let a = c .before .before .args in upto-all 32 _ _ _ _ (l .inv .1) (λ k h. leaving-past (bits (a .gone)) (a .s .now) k (omega arith))
+returns c = let l = c .before .loop in let a = c .before .before .before .args in upto-all (a .n) _ _ _ _ (l .inv .1) (λ k h. leaving-past (bits (a .gone)) (a .s .now) k (omega arith))
 
 pub leave-spec : {M : Type 1} → statement M
 leave-spec =
@@ -63,11 +66,12 @@ leave-spec =
     μ-loop
     loop-holds
     mul-minus
-    element-copy-out-minus
+    slice-read-minus
     minus-requires
     mul-s
-    element-write-s
+    slice-write-s
     add-k
     loop-less
     loop-again
+    same-length
     returns)

@@ -1,22 +1,23 @@
--- A store of another size is refused; else every page is laid.
+-- A fresh store of sixteen records.
 use borrow.Author.Needs.{needs}
-use Rattle.laws.specs.Tests.{same}
-use Rattle.laws.proofs.Tests.{ne-false, same-refl}
-use Rattle.records.proofs.Laying.{fresh-refused, fresh-laid}
+use mathlib.Core.Path.{refl}
+use mathlib.Core.Logic.{inl}
+use Rattle.rules.specs.Editions.{geometry1}
+use Rattle.commitpage.proofs.Places.{layout1}
 use Rattle.nekahuiro.proofs.nekahuiro_fresh.Statement.{statement}
 use Rattle.nekahuiro.proofs.nekahuiro_fresh.Tie as tie
+use Rattle.nekahuiro.proofs.nekahuiro_fresh.Reads as reads
+use Rattle.nekahuiro.proofs.nekahuiro_fresh.Lts as lts
+use Rattle.records.proofs.lay_fresh.Reads as lay-fresh-reads
 
-returns : tie.Need-returns
-returns c = fresh-refused _ (ne-false _ 1056 (c .if1 .taken))
-
-lay-requires : tie.Need-lay-requires
-lay-requires c κs = search needs
+lay-fresh-requires : tie.Need-lay-fresh-requires
+lay-fresh-requires c κs = inl refl
 
 same-length : tie.Need-same-length
 same-length c = search needs
 
-returns-2 : tie.Need-returns-2
-returns-2 c = fresh-laid _ _ (rw (c .before .before .before .before .if1 .left) (same-refl 1056)) (c .before .before .lay .ensures)
+returns : tie.Need-returns
+returns c = c .before .before .lay-fresh .ensures geometry1 layout1
 
 pub nekahuiro-fresh-spec : {M : Type 1} → statement M
-nekahuiro-fresh-spec = tie.close (tie.spec returns lay-requires same-length returns-2)
+nekahuiro-fresh-spec = tie.close (tie.spec lay-fresh-requires same-length returns)

@@ -12,13 +12,19 @@ plan-of-requires : tie.Need-plan-of-requires
 plan-of-requires c κs = search needs
 
 put-numbered-requires : tie.Need-put-numbered-requires
-put-numbered-requires c κs = search needs
+put-numbered-requires c κs = (c .before .plan-of .ensures .1, search needs, search needs, search needs)
 
 same-length : tie.Need-same-length
 same-length c = search needs
 
 returns : tie.Need-returns
-returns c = λ line held retained I. told-as (c .before .before .before .before .before .before .before .before .args .index) (c .before .before .before .before .before .before .before .before .args .write .now) (c .before .before .before .before .plan-of .ensures line held retained (c .before .before .before .before .before .before .before .before .args .work .now) I .writes) (c .before .before .put-numbered .ensures)
+returns c = λ line held retained I. told-as (c .before .before .before .before .before .before .before .before .args .index) (c .before .before .before .before .before .before .before .before .args .write .now) (c .before .before .before .before .plan-of .ensures .0 line held retained (c .before .before .before .before .before .before .before .before .args .work .now) I .writes) (c .before .before .put-numbered .ensures)
 
 pub page-write-spec : {M : Type 1} → statement M
-page-write-spec = tie.close (tie.spec plan-of-requires put-numbered-requires same-length returns)
+page-write-spec =
+    tie.close
+    (tie.spec
+    plan-of-requires
+    put-numbered-requires
+    same-length
+    returns)

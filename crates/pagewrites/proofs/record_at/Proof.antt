@@ -10,6 +10,7 @@ use Rattle.laws.specs.Counting.{count, those}
 use Rattle.laws.proofs.Those.{count-le}
 use Rattle.rules.specs.Store.{named}
 use Rattle.rules.specs.Editions.{geometry1}
+use Rattle.commitpage.proofs.Places.{layout1}
 use Rattle.pagewrites.proofs.Numbered.{turn-record, turn-count}
 use Rattle.pagewrites.proofs.record_at.Statement.{statement}
 use Rattle.pagewrites.proofs.record_at.Tie as tie
@@ -47,7 +48,7 @@ loop-less c = search needs
 
 loop-again : tie.Need-loop-again Inv-loop μ-loop
 unfolding same
-loop-again c = let l = c .before .before .before .before .loop in (search needs, turn-record (c .before .before .before .before .before .args .map) (c .before .before .before .before .before .args .n) (l .r) (l .at) (l .seen) (c .before .before .names .result) (c .before .before .names .ensures) (l .inv .1) (l .inv .2) _ (c .before .record-if .ensures), turn-count (c .before .before .before .before .before .args .map) (c .before .before .before .before .before .args .n) (l .r) (l .at) (l .seen) (c .before .before .names .result) (c .before .before .names .ensures) (l .inv .1) (l .inv .2) _ (c .one-more-if .ensures))
+loop-again c = let l = c .before .before .before .before .loop in (search needs, turn-record (c .before .before .before .before .before .args .map) (c .before .before .before .before .before .args .n) (l .r) (l .at) (l .seen) (c .before .before .names .result) (c .before .before .names .ensures geometry1 (layout1 .many)) (l .inv .1) (l .inv .2) _ (c .before .record-if .ensures), turn-count (c .before .before .before .before .before .args .map) (c .before .before .before .before .before .args .n) (l .r) (l .at) (l .seen) (c .before .before .names .result) (c .before .before .names .ensures geometry1 (layout1 .many)) (l .inv .1) (l .inv .2) _ (c .one-more-if .ensures))
 
 returns : tie.Need-returns Inv-loop μ-loop
 returns c = let l = c .before .loop in let e : l .r ≡ 16 = omega arith in l .inv .1 ∙ ap (λ (k : ℕ). getD (those k (named geometry1 (c .before .before .args .map))) (c .before .before .args .n) 16) e

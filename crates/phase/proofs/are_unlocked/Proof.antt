@@ -3,6 +3,8 @@ use Prim.Native.Nat.{ℕ, _-_, _<_, _≤_}
 use native.Mathlib.Omega.{arith}
 use borrow.Author.Needs.{needs}
 use Rattle.laws.specs.Tests.{same}
+use Rattle.rules.specs.Editions.{geometry1}
+use Rattle.commitpage.proofs.Places.{layout1}
 use Rattle.clauses.specs.Decides.{Decides}
 use Rattle.clauses.specs.Clauses.{UnlockedOf}
 use Rattle.clauses.proofs.Decides.{decides-none, decides-more, decides-bound}
@@ -58,7 +60,7 @@ unfolding same
 loop-again c = let a = c .before .before .before .before .before .before .args in let l = c .before .before .before .before .loop in (
   search needs,
   decides-more (UnlockedOf (a .map) (a .held .now) (a .retained .now)) (l .r) (l .inv .1)
-      (unlocked-decided (a .map) (a .held .now) (a .retained .now) (l .r) (c .names .ensures)),
+      (unlocked-decided (a .map) (a .held .now) (a .retained .now) (l .r) (c .names .ensures geometry1 (layout1 .many))),
 )
 
 returns-2 : tie.Need-returns-2 Inv-loop μ-loop

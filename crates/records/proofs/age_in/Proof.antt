@@ -1,10 +1,12 @@
 -- The commit page is read; where it is damaged the age is refused, else it is that of the settled page's stamp.
-use borrow.Author.Needs.{needs}
-use mathlib.Core.Path.{_∙_}
+use mathlib.Core.Path.{refl, _∙_}
+use native.Mathlib.Omega.{arith}
 use Rattle.age.specs.Meaning.{meaning}
 use Rattle.numbers.specs.Named.{recordOf}
+use Rattle.commitpage.proofs.Places.{known-small}
 use Rattle.records.specs.Ages.{toldAs}
-use Rattle.records.proofs.Ages.{told-good, told-bad, record-small}
+use Rattle.records.proofs.Ages.{told-good, told-bad}
+use borrow.Author.Needs.{needs}
 use Rattle.records.proofs.age_in.Statement.{statement}
 use Rattle.records.proofs.age_in.Tie as tie
 use Rattle.records.proofs.age_in.Reads as reads
@@ -13,56 +15,49 @@ use Rattle.age.proofs.Minutes.judged_by.Reads as judged-by-reads
 use Rattle.age.proofs.Reading.new.Reads as new-reads
 use Rattle.age.proofs.Reading.since.Reads as since-reads
 use Rattle.commitpage.proofs.read_page.Reads as read-page-reads
+use Rattle.page.proofs.get_page.Reads as get-page-reads
 use Rattle.records.proofs.settled_page.Reads as settled-page-reads
 use Rattle.records.proofs.stamp_on.Reads as stamp-on-reads
-use Rattle.page.proofs.get_page.Reads as get-page-reads
 
--- src/lib.rt:81:37
 get-page-requires : tie.Need-get-page-requires
 get-page-requires c κs = search needs
 
--- src/lib.rt:81:9
 read-page-requires : tie.Need-read-page-requires
 read-page-requires c κs = search needs
 
--- src/lib.rt:83:55
 settled-page-requires : tie.Need-settled-page-requires
-settled-page-requires c κs = search needs
+settled-page-requires c κs = (known-small _ (c .before .before .before .before .pre .0) .0, c .before .before .before .before .pre .3)
 
--- src/lib.rt:83:39
 stamp-on-requires : tie.Need-stamp-on-requires
-stamp-on-requires c κs = search needs
+stamp-on-requires c κs = let h = known-small _ (c .before .before .before .before .before .pre .0) .0 in let b = c .settled-page .ensures .1 in let l = c .before .before .before .before .before .pre .2 in (omega arith, omega arith)
 
--- src/lib.rt:83:13
 new-requires : tie.Need-new-requires
 new-requires c κs = search needs
 
--- src/lib.rt:84:29
 since-requires : tie.Need-since-requires
 since-requires c κs = search needs
 
--- src/lib.rt:84:29
 judged-by-requires : tie.Need-judged-by-requires
 judged-by-requires c κs = search needs
 
--- src/lib.rt:84:9
 returns : tie.Need-returns
 unfolding toldAs
 returns c =
+    λ g L j.
     let a = c .before .before .before .before .before .before .before .before .before .args in
     let read = c .before .before .before .before .before .before .read-page in
-    told-good (a .store .now) (c .before .before .before .before .before .before .before .get-page .result) (read .result) (recordOf (a .r)) (a .clock .0) (a .limit .0)
+    told-good g _ (L .many) (a .store .now) (c .before .before .before .before .before .before .before .get-page .result) (read .result) (recordOf (a .r)) (a .clock .0) (a .limit .0)
     (c .before .before .before .before .settled-page .result) (c .before .before .new .result .0) (c .before .since .result .0) (meaning (c .judged-by .result))
-    (c .before .before .before .before .before .before .before .get-page .ensures) (read .ensures) (c .before .before .before .before .before .if1 .taken) (record-small (a .r))
-    (c .before .before .before .before .settled-page .ensures .0) (c .before .before .new .ensures ∙ c .before .before .before .stamp-on .ensures) (c .before .since .ensures) (c .judged-by .ensures)
+    (c .before .before .before .before .before .before .before .get-page .ensures) (read .ensures .0 g L j) (c .before .before .before .before .before .if1 .taken) (c .before .before .before .before .before .before .before .before .before .pre .3)
+    (c .before .before .before .before .settled-page .ensures .0 g (L .many)) (c .before .before .new .ensures ∙ c .before .before .before .stamp-on .ensures) (c .before .since .ensures) (c .judged-by .ensures)
 
--- src/lib.rt:77:1
 returns-2 : tie.Need-returns-2
 unfolding toldAs
 returns-2 c =
+    λ g L j.
     let a = c .before .before .before .before .args in
-    told-bad (a .store .now) (c .before .before .get-page .result) (c .before .read-page .result) (recordOf (a .r)) (a .clock .0) (a .limit .0)
-    (c .before .before .get-page .ensures) (c .before .read-page .ensures) (c .if1 .left)
+    told-bad g _ (L .many) (a .store .now) (c .before .before .get-page .result) (c .before .read-page .result) (recordOf (a .r)) (a .clock .0) (a .limit .0)
+    (c .before .before .get-page .ensures) (c .before .read-page .ensures .0 g L j) (c .if1 .left)
 
 pub age-in-spec : {M : Type 1} → statement M
 age-in-spec =

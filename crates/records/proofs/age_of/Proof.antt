@@ -1,60 +1,73 @@
 -- The refusals in their order, then the age of the record.
-use borrow.Author.Needs.{needs}
 use mathlib.Core.Path.{ap, sym, _∙_}
 use Prim.Native.Nat.{ℕ}
-use Rattle.laws.proofs.Tests.{ne-false, same-refl}
+use native.Mathlib.Omega.{arith}
+use Rattle.commitpage.proofs.Places.{known-small}
 use Rattle.records.specs.Ages.{toldAs, ageIn}
-use Rattle.records.proofs.Ages.{age-short, age-no-record, age-in, named-small, named-none, tag-none}
+use Rattle.records.proofs.Ages.{age-short, age-no-record, age-in, named-small, named-below, named-none, tag-none}
+use borrow.Author.Needs.{needs}
 use Rattle.records.proofs.age_of.Statement.{statement}
 use Rattle.records.proofs.age_of.Tie as tie
 use Rattle.records.proofs.age_of.Reads as reads
 use Rattle.records.proofs.age_of.Lts as lts
-use Rattle.records.proofs.age_in.Reads as age-in-reads
 use Rattle.numbers.proofs.RecordNumber.checked.Reads as checked-reads
+use Rattle.records.proofs.age_in.Reads as age-in-reads
 
--- src/lib.rt:94:9
+add-if1 : tie.Need-add-if1
+add-if1 c = let h = known-small _ (c .before .pre .0) .0 in search needs
+
+add-if1-2 : tie.Need-add-if1-2
+add-if1-2 c = let h = known-small _ (c .before .pre .0) .0 in search needs
+
+mul-if1 : tie.Need-mul-if1
+mul-if1 c = let h = known-small _ (c .before .pre .0) .0 in search needs
+
 returns : tie.Need-returns
 unfolding toldAs
-returns c = age-short _ _ _ _ (ne-false _ 1056 (c .if1 .taken))
+returns c = λ g L j. age-short g _ (L .many) _ _ _ _ (c .if1 .taken)
 
--- src/lib.rt:96:9
+cast-checked : tie.Need-cast-checked
+cast-checked c = let h = known-small _ (c .before .before .pre .0) .0 in search needs
+
 checked-requires : tie.Need-checked-requires
 checked-requires c κs = search needs
 
--- src/lib.rt:98:38
 enum-known-named : tie.Need-enum-known-named
 enum-known-named c = search needs
 
--- src/lib.rt:98:44
 age-in-requires : tie.Need-age-in-requires
-age-in-requires c κs = search needs
+age-in-requires c κs = let p = c .before .before .before .before .before .before .pre in (p .0, p .1, search needs, named-below _ (known-small _ (p .0) .0) _ _ (sym (c .before .before .before .checked .ensures) ∙ c .before .named .given .1))
 
--- src/lib.rt:99:47
 enum-told : tie.Need-enum-told
 enum-told c = search needs
 
--- src/lib.rt:90:1
 returns-2 : tie.Need-returns-2
 returns-2 c =
+    λ g L j.
     let a = c .before .before .before .before .before .before .before .args in
-    let n = named-small (a .number) (c .before .before .named .given .0 .0) (sym (c .before .before .before .before .checked .ensures) ∙ c .before .before .named .given .1) in
-    c .age-in .ensures
-    ∙ ap (λ (k : ℕ). ageIn (a .store .now) k (a .clock .0) (a .limit .0)) (n .1)
-    ∙ age-in (a .store .now) (a .number) (a .clock .0) (a .limit .0) (rw (c .before .before .before .before .before .if1 .left) (same-refl 1056)) (n .0)
+    let few = known-small _ (c .before .before .before .before .before .before .before .pre .0) .0 in
+    let m = named-small _ few (a .number) (c .before .before .named .given .0 .0) (sym (c .before .before .before .before .checked .ensures) ∙ c .before .before .named .given .1) in
+    c .age-in .ensures g L j
+    ∙ ap (λ (k : ℕ). ageIn g (a .store .now) k (a .clock .0) (a .limit .0)) (m .1)
+    ∙ age-in g _ (L .many) (a .store .now) (a .number) (a .clock .0) (a .limit .0) (c .before .before .before .before .before .if1 .left) (m .0)
 
--- src/lib.rt:90:1
 returns-3 : tie.Need-returns-3
 unfolding toldAs
 returns-3 c =
+    λ g L j.
     let a = c .before .before .before .before .before .args in
-    age-no-record (a .store .now) (a .number) (a .clock .0) (a .limit .0) (rw (c .before .before .before .if1 .left) (same-refl 1056))
-    (named-none (a .number) (sym (c .before .before .checked .ensures) ∙ tag-none _ (c .before .match .keys2)))
+    age-no-record g _ (L .many) (a .store .now) (a .number) (a .clock .0) (a .limit .0) (c .before .before .before .if1 .left)
+    (named-none _ (a .number) (sym (c .before .before .checked .ensures) ∙ tag-none _ (c .before .match .keys2)))
 
 pub age-of-spec : {M : Type 1} → statement M
 age-of-spec =
     tie.close
     (tie.spec
+    add-if1
+    add-if1-2
+    mul-if1
     returns
+    cast-checked
     checked-requires
     enum-known-named
     age-in-requires

@@ -1,24 +1,39 @@
--- `lay` sweeps over the 33 pages: those below n are laid.
-use borrow.Author.Needs.{needs}
-use mathlib.Core.Path.{_≡_, ap, _∙_}
-use Prim.Native.Nat.{ℕ, _-_, _≤_}
+-- A sweep over the pages: those below p are laid.
+use mathlib.Core.Path.{_≡_, sym, ap, subst, _∙_}
+use Prim.Native.Nat.{ℕ, _+_, _-_, _*_, _≤_}
 use native.Mathlib.Omega.{arith}
 use lib.ListN.{length}
 use Rattle.laws.specs.Functions.{updated}
+use Rattle.rules.specs.Geometry.{Geometry}
 use Rattle.rules.specs.Store.{Page, pagesOf}
+use Rattle.commitpage.specs.Layout.{Layout}
+use Rattle.commitpage.proofs.Places.{known-small}
+use Rattle.lengths.specs.Lengths.{storeBytes}
+use Rattle.lengths.proofs.Sizes.{store-size}
 use Rattle.records.specs.Laying.{LaidTo}
 use Rattle.records.proofs.Laying.{laid-none, laid-more}
+use borrow.Author.Needs.{needs}
 use Rattle.records.proofs.lay.Statement.{statement}
 use Rattle.records.proofs.lay.Tie as tie
+use Rattle.records.proofs.lay.Reads as reads
+use Rattle.records.proofs.lay.Lts as lts
+use Rattle.page.proofs.put_page.Reads as put-page-reads
+use Rattle.records.proofs.fresh_page.Reads as fresh-page-reads
 
 abbrev Inv-loop : tie.InvT-loop
-Inv-loop store₀ n₀ store n = (n ≤ 33) × (length store ≡ 1056) × LaidTo n store
+Inv-loop store₀ n pages p₀ store p = (p ≤ 1 + (n + n)) × (n ≤ 64) × (length store ≡ storeBytes n) × ((g : Geometry) → Layout g n → LaidTo g p store)
 
 abbrev μ-loop : tie.MeasureT-loop
-μ-loop store₀ n₀ store n = 33 - n
+μ-loop store₀ n pages p₀ store p = 1 + (n + n) - p
+
+add-pages : tie.Need-add-pages Inv-loop μ-loop
+add-pages c = let h = known-small _ (c .before .pre .0) .0 in search needs
+
+add-pages-2 : tie.Need-add-pages-2 Inv-loop μ-loop
+add-pages-2 c = let h = known-small _ (c .before .pre .0) .0 in search needs
 
 loop-holds : tie.Need-loop-holds Inv-loop μ-loop
-loop-holds c = (omega arith, search needs, laid-none (c .before .pre))
+loop-holds c = (omega arith, known-small _ (c .before .pre .0) .0, search needs, λ g L. laid-none g (c .before .pre .1 ∙ sym (store-size _ g (L .many))))
 
 fresh-page-requires : tie.Need-fresh-page-requires Inv-loop μ-loop
 fresh-page-requires c κs = search needs
@@ -26,25 +41,27 @@ fresh-page-requires c κs = search needs
 put-page-requires : tie.Need-put-page-requires Inv-loop μ-loop
 put-page-requires c κs = search needs
 
-add-n : tie.Need-add-n Inv-loop μ-loop
-add-n c = search needs
+add-p : tie.Need-add-p Inv-loop μ-loop
+add-p c = search needs
 
 loop-less : tie.Need-loop-less Inv-loop μ-loop
 loop-less c = search needs
 
 loop-again : tie.Need-loop-again Inv-loop μ-loop
 loop-again c =
-    let at = c .before .before .before .before .before .before .loop in (
+    let at = c .before .before .before .before .before .before .loop in
+    let known = c .before .before .before .before .before .before .before .before .pre .0 in (
       omega arith,
+      at .inv .1,
       search needs,
-      laid-more (at .inv .2) (search needs) (c .before .before .put-page .ensures ∙ ap (λ (p : Page). updated (at .n) p (pagesOf (at .store))) (c .before .before .before .fresh-page .ensures)),
+      λ g L. laid-more g (at .inv .3 g L) (search needs) (c .before .before .put-page .ensures ∙ ap (λ (page : Page). updated (at .p) page (pagesOf (at .store))) (c .before .before .before .fresh-page .ensures g L)),
     )
 
 same-length : tie.Need-same-length Inv-loop μ-loop
 same-length c = search needs
 
 returns : tie.Need-returns Inv-loop μ-loop
-returns c = let e : c .before .loop .n ≡ 33 = omega arith in rw e at (c .before .loop .inv .2)
+returns c = let l = c .before .loop in let n = c .before .before .before .args .n in λ g L. let e : l .p ≡ 1 + (n + n) = omega arith in subst (λ (p : ℕ). LaidTo g p (l .store)) e (l .inv .3 g L)
 
 pub lay-spec : {M : Type 1} → statement M
 lay-spec =
@@ -52,10 +69,12 @@ lay-spec =
     (tie.spec
     Inv-loop
     μ-loop
+    add-pages
+    add-pages-2
     loop-holds
     fresh-page-requires
     put-page-requires
-    add-n
+    add-p
     loop-less
     loop-again
     same-length

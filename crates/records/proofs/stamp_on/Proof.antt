@@ -18,7 +18,7 @@ word-at-requires c κs = search needs
 
 -- src/lib.rt:62:1
 returns : tie.Need-returns
-returns c = c .word-at .ensures ∙ stamp-is (c .before .before .args .store .now) (c .before .before .args .n)
+returns c = c .word-at .ensures ∙ stamp-is (c .before .before .args .store .now) (c .before .before .args .p)
 
 pub stamp-on-spec : {M : Type 1} → statement M
 stamp-on-spec = tie.close (tie.spec mul-word-at word-at-requires returns)

@@ -1,3 +1,4 @@
+-- The word at k is the one that the history decodes.
 use Rattle.rules.specs.Event.{decode}
 use Rattle.rules.specs.Editions.{geometry1}
 use mathlib.Core.Path.{_≡_, refl, sym, ap, ap₂, _∙_}

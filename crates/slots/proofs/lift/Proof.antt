@@ -1,5 +1,5 @@
 -- The sweep over the records lifts one row after the other.
-use mathlib.Core.Path.{_≡_, sym, ap}
+use mathlib.Core.Path.{_≡_, sym, ap, _∙_}
 use mathlib.Core.Bool.{Bool}
 use Prim.Native.Nat.{ℕ, _*_, _-_, _≤_}
 use native.Mathlib.Omega.{arith}
@@ -8,7 +8,7 @@ use borrow.Author.Needs.{needs}
 use Rattle.sets.specs.Sets.{sets}
 use Rattle.sets.proofs.Sets.{sets-past}
 use Rattle.rules.specs.Store.{pagesOf}
-use Rattle.rules.specs.Editions.{depths, workBytes}
+use Rattle.rules.specs.Editions.{depths}
 use Rattle.arrays.specs.Changes.{heirsOf, handed}
 use Rattle.arrays.proofs.Sweep.{Swept, swept-none, swept-all, Upto, upto-none, upto-next, upto-all, handed-past}
 use Rattle.slots.specs.Parts.{lifted}
@@ -20,14 +20,14 @@ use Rattle.slots.proofs.lift.Lts as lts
 use Rattle.slots.proofs.lift_row.Reads as lift-row-reads
 
 abbrev Inv-loop : tie.InvT-loop
-Inv-loop writers₀ work₀ t p d r₀ writers work r =
-    (r ≤ 16) × (length work ≡ workBytes) × Upto 16 (handed t p (sets writers₀)) writers writers₀ r × Swept (pagesOf work) (pagesOf work₀) (lifted (sets writers₀) t d (pagesOf work₀)) (r * depths)
+Inv-loop writers₀ work₀ n t p d r₀ writers work r =
+    (r ≤ n) × (length work ≡ 512 * n) × Upto n (handed t p (sets writers₀)) writers writers₀ r × Swept (pagesOf work) (pagesOf work₀) (lifted (sets writers₀) t d (pagesOf work₀)) (r * depths)
 
 abbrev μ-loop : tie.MeasureT-loop
-μ-loop writers₀ work₀ t p d r₀ writers work r = 16 - r
+μ-loop writers₀ work₀ n t p d r₀ writers work r = n - r
 
 loop-holds : tie.Need-loop-holds Inv-loop μ-loop
-loop-holds c = (search needs, search needs, upto-none 16 _ _ (c .before .pre .5), swept-none (pagesOf (c .before .args .work .now)) _)
+loop-holds c = (search needs, search needs, upto-none (c .before .before .args .n) _ _ (c .before .before .pre .5), swept-none (pagesOf (c .before .before .args .work .now)) _)
 
 lift-row-requires : tie.Need-lift-row-requires Inv-loop μ-loop
 lift-row-requires c κs = search needs
@@ -40,21 +40,24 @@ loop-less c = search needs
 
 loop-again : tie.Need-loop-again Inv-loop μ-loop
 unfolding handed
-loop-again c = let l = c .before .before .before .before .before .before .loop in let a = c .before .before .before .before .before .before .before .before .args in let e = c .before .before .lift-row .ensures in
+loop-again c = let l = c .before .before .before .before .before .before .before .before .loop in let a = c .before .before .before .before .before .before .before .before .before .before .before .args in let e = c .before .before .before .before .lift-row .ensures in
     let q = l .inv .2 .swept .above (l .r) (omega arith) in (
       search needs,
       search needs,
-      upto-next 16 _ (l .writers) (a .writers .now) _ (l .r) _ (l .inv .2) (e .1) (ap (λ (z : ℕ → Bool). heirsOf (z (a .t)) z (a .t) (a .p)) q),
+      upto-next (a .n) _ (l .writers) (a .writers .now) _ (l .r) _ (l .inv .2) (record { are = e .1 .are; long = e .1 .long ∙ l .inv .2 .long }) (ap (λ (z : ℕ → Bool). heirsOf (z (a .t)) z (a .t) (a .p)) q),
       lifts-row (sets (a .writers .now)) (a .t) (a .d) (pagesOf (a .work .now)) (omega arith) (omega arith) (l .r) (pagesOf (l .work)) _ (l .inv .3) _ (sym (ap (λ (z : ℕ → Bool). z (a .t)) q)) (e .0),
     )
 
 same-length : tie.Need-same-length Inv-loop μ-loop
 same-length c = search needs
 
+same-length-2 : tie.Need-same-length-2 Inv-loop μ-loop
+same-length-2 c = search needs
+
 returns : tie.Need-returns Inv-loop μ-loop
-returns c = let l = c .before .loop in let a = c .before .before .before .args in (
-  swept-all (l .inv .3) (λ k h. lifts-past (sets (a .writers .now)) (a .t) (a .d) (pagesOf (a .work .now)) (omega arith) (omega arith) k (λ r g. sets-past (a .writers .now) r (a .t) (omega arith)) (omega arith)),
-  upto-all 16 _ _ _ _ (l .inv .2) (λ k h. handed-past (a .writers .now) (a .t) (a .p) k (omega arith)),
+returns c = let l = c .before .loop in let a = c .before .before .before .before .args in (
+  swept-all (l .inv .3) (λ k h. lifts-past (sets (a .writers .now)) (a .t) (a .d) (pagesOf (a .work .now)) (omega arith) (omega arith) (a .n) k (λ r g. sets-past (a .writers .now) r (a .t) (omega arith)) (omega arith)),
+  upto-all (a .n) _ _ _ _ (l .inv .2) (λ k h. handed-past (a .writers .now) (a .t) (a .p) k (omega arith)),
 )
 
 pub lift-spec : {M : Type 1} → statement M
@@ -69,4 +72,5 @@ lift-spec =
     loop-less
     loop-again
     same-length
+    same-length-2
     returns)

@@ -23,8 +23,8 @@ use Rattle.slots.proofs.slot_of.Reads as slot-of-reads
 mul-w : tie.Need-mul-w
 mul-w c = search needs
 
-element-copy-out-w : tie.Need-element-copy-out-w
-element-copy-out-w c = search needs
+slice-read-w : tie.Need-slice-read-w
+slice-read-w c = search needs
 
 contains-requires : tie.Need-contains-requires
 contains-requires c κs = search needs
@@ -50,15 +50,18 @@ with-requires c κs = search needs
 mul-writers : tie.Need-mul-writers
 mul-writers c = search needs
 
-element-write-writers : tie.Need-element-write-writers
-element-write-writers c = search needs
+slice-write-writers : tie.Need-slice-write-writers
+slice-write-writers c = search needs
 
 same-length : tie.Need-same-length
 same-length c = search needs
 
+same-length-2 : tie.Need-same-length-2
+same-length-2 c = search needs
+
 returns : tie.Need-returns
 unfolding sets
-returns c = let a = c .before .before .before .before .before .before .before .before .before .before .before .before .args in let s = a .work .now in let m = slot (a .r) (a .d) in let n = slot (a .r) (a .d - 1) in
+returns c = let a = c .before .before .before .before .before .before .before .before .before .before .before .before .before .args in let s = a .work .now in let m = slot (a .r) (a .d) in let n = slot (a .r) (a .d - 1) in
     let e : sets (a .writers .now) (a .r) (a .t) ≡ true = sym (c .before .before .before .before .before .before .before .before .before .contains .ensures) ∙ c .before .before .before .before .before .before .before .before .if1 .taken in (
       c .before .before .before .before .copy-page .ensures ∙ ap₂ (λ (i j : ℕ). updated i (pagesOf s j) (pagesOf s)) (c .before .before .before .before .before .slot-of2 .ensures .0) (c .before .before .before .before .before .before .slot-of .ensures .0)
           ∙ sym (ap (λ (b : Bool). cond b (updated n (pagesOf s m) (pagesOf s)) (pagesOf s)) e),
@@ -70,7 +73,7 @@ returns c = let a = c .before .before .before .before .before .before .before .b
 
 returns-2 : tie.Need-returns-2
 unfolding sets
-returns-2 c = let a = c .before .before .before .before .args in let s = a .work .now in
+returns-2 c = let a = c .before .before .before .before .before .args in let s = a .work .now in
     let e : sets (a .writers .now) (a .r) (a .t) ≡ false = sym (c .before .contains .ensures) ∙ c .if1 .left in (
       sym (ap (λ (b : Bool). cond b (updated (slot (a .r) (a .d - 1)) (pagesOf s (slot (a .r) (a .d))) (pagesOf s)) (pagesOf s)) e),
       record { are = handed-none (sets (a .writers .now)) (a .t) (a .p) (a .r) e; long = search needs },
@@ -81,7 +84,7 @@ lift-row-spec =
     tie.close
     (tie.spec
     mul-w
-    element-copy-out-w
+    slice-read-w
     contains-requires
     slot-of-requires
     sub-slot-of
@@ -90,7 +93,8 @@ lift-row-spec =
     without-requires
     with-requires
     mul-writers
-    element-write-writers
+    slice-write-writers
     same-length
+    same-length-2
     returns
     returns-2)

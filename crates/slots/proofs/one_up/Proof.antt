@@ -50,4 +50,11 @@ returns-3 c = passed (sym (c .before .before .contains .ensures) ∙ c .before .
 pub one-up-spec : {M : Type 1} → statement M
 one-up-spec =
     tie.close
-    (tie.spec returns contains-requires returns-2 cast-t8 element-copy-out-t11 sub-t12 returns-3)
+    (tie.spec
+    returns
+    contains-requires
+    returns-2
+    cast-t8
+    element-copy-out-t11
+    sub-t12
+    returns-3)

@@ -42,4 +42,11 @@ unfolding slot
 returns c = (refl, omega arith)
 
 pub slot-of-spec : {M : Type 1} → statement M
-slot-of-spec = tie.close (tie.spec mul-result sub-result cast-result add-result returns)
+slot-of-spec =
+    tie.close
+    (tie.spec
+    mul-result
+    sub-result
+    cast-result
+    add-result
+    returns)

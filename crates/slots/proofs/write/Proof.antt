@@ -1,17 +1,12 @@
 -- The version is made, then one byte of it is changed.
 use Rattle.slots.proofs.Seen.{written-byte}
-use mathlib.Core.Path.{_≡_, refl, sym, ap, ap₂, subst, subst⁻¹, _∙_, fun-ext}
-use mathlib.Core.Bool.{Bool, true, false, not, cond, _&&_, _||_}
-use mathlib.Core.List.{List}
-use Prim.Native.Nat.{ℕ, suc, _+_, _*_, _-_, _/_, _%_, _<_, _≤_}
+use mathlib.Core.Path.{ap₂, subst, subst⁻¹, _∙_}
+use Prim.Native.Nat.{ℕ, _-_, _<_}
 use native.Mathlib.Omega.{arith}
-use lib.ListN.{length, getD, set}
-use Rattle.laws.specs.Functions.{updated}
-use Rattle.laws.specs.Bits.{bits}
-use Rattle.sets.specs.Sets.{sets}
-use Rattle.rules.specs.Store.{pagesOf}
-use Rattle.arrays.specs.View.{slot, seen}
+use lib.ListN.{getD}
+use Rattle.arrays.specs.View.{slot}
 use borrow.Author.Needs.{needs}
+use Rattle.numbers.specs.Named.{transactionOf, recordOf}
 use Rattle.slots.proofs.write.Statement.{statement}
 use Rattle.slots.proofs.write.Tie as tie
 use Rattle.slots.proofs.write.Reads as reads
@@ -19,15 +14,23 @@ use Rattle.slots.proofs.write.Lts as lts
 use Rattle.page.proofs.put_byte.Reads as put-byte-reads
 use Rattle.slots.proofs.make_version.Reads as make-version-reads
 use Rattle.slots.proofs.slot_of.Reads as slot-of-reads
+use Rattle.numbers.proofs.RecordNumber.index.Reads as index-reads
+use Rattle.numbers.proofs.TransactionNumber.index.Reads as index-reads-2
 
 make-version-requires : tie.Need-make-version-requires
 make-version-requires c κs = search needs
+
+index-requires : tie.Need-index-requires
+index-requires c κs = search needs
+
+index-requires-2 : tie.Need-index-requires-2
+index-requires-2 c κs = search needs
 
 element-copy-out-slot-of : tie.Need-element-copy-out-slot-of
 element-copy-out-slot-of c = search needs
 
 slot-of-requires : tie.Need-slot-of-requires
-slot-of-requires c κs = let k = c .before .before .before .before .before .before .before .before .before .pre .7 .shallow (c .before .before .before .before .before .before .before .before .before .args .t) in (omega arith, omega arith, omega arith)
+slot-of-requires c κs = (omega arith, subst⁻¹ (λ (i : ℕ). 0 < getD (c .before .before .before .before .before .before .before .before .before .before .before .before .before .before .args .depth .now) i 0) (c .before .index2 .ensures .0) (c .before .before .before .before .before .before .before .before .before .before .before .before .before .before .pre .5), c .before .before .before .before .before .before .before .before .before .before .before .before .before .before .pre .6 .shallow (c .before .index2 .result))
 
 put-byte-requires : tie.Need-put-byte-requires
 put-byte-requires c κs = search needs
@@ -35,16 +38,22 @@ put-byte-requires c κs = search needs
 same-length : tie.Need-same-length
 same-length c = search needs
 
+same-length-2 : tie.Need-same-length-2
+same-length-2 c = search needs
+
 returns : tie.Need-returns
-returns c = let a = c .before .before .before .before .before .before .before .before .before .before .before .before .before .args in written-byte (slot (a .r) (getD (a .depth .now) (a .t) 0)) _ (a .t) (a .r) (a .o) (a .v) _ _ _ _ _ _ (c .before .before .before .before .before .before .before .before .make-version .ensures) (c .before .before .before .slot-of .ensures .0) (c .before .before .put-byte .ensures)
+returns c = let a = c .before .before .before .before .before .before .before .before .before .before .before .before .before .before .before .before .before .before .args in written-byte (slot (recordOf (a .r)) (getD (a .depth .now) (transactionOf (a .t)) 0)) _ (transactionOf (a .t)) (recordOf (a .r)) (a .o) (a .v) _ _ _ _ _ _ (c .before .before .before .before .before .before .before .before .before .before .before .before .make-version .ensures) (c .before .before .before .slot-of .ensures .0 ∙ ap₂ (λ (i j : ℕ). slot i (getD (a .depth .now) j 0)) (c .before .before .before .before .before .before .index .ensures .0) (c .before .before .before .before .before .index2 .ensures .0)) (c .before .before .put-byte .ensures)
 
 pub write-spec : {M : Type 1} → statement M
 write-spec =
     tie.close
     (tie.spec
     make-version-requires
+    index-requires
+    index-requires-2
     element-copy-out-slot-of
     slot-of-requires
     put-byte-requires
     same-length
+    same-length-2
     returns)

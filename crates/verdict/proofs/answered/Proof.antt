@@ -1,3 +1,4 @@
+-- Both bytes are compared.
 use Prim.Native.Nat.{_-_}
 use Rattle.laws.specs.Tests.{same}
 use borrow.Author.Needs.{needs}

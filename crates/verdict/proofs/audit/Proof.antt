@@ -1,3 +1,4 @@
+-- A refusal; else the first event that the walk stops at; else the first page that differs; else all is right.
 use mathlib.Core.Path.{_≡_, refl}
 use Prim.Native.Nat.{_-_}
 use native.Mathlib.Omega.{arith}

@@ -1,3 +1,4 @@
+-- By computing: the kind's field of the word.
 use mathlib.Core.Path.{refl}
 use Prim.Native.Nat.{_-_}
 use Rattle.laws.specs.Tests.{same, under}

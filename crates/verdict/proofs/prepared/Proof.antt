@@ -2,10 +2,12 @@
 use borrow.Author.Needs.{needs}
 use mathlib.Core.Path.{refl, ap, _∙_}
 use mathlib.Core.Bool.{not}
+use mathlib.Core.Logic.{inl}
 use Rattle.laws.specs.Tests.{same}
 use Rattle.rules.specs.Store.{Page, pagesOf, readPrepared}
 use Rattle.rules.specs.Editions.{geometry1}
 use Rattle.commitpage.specs.Heard.{overheard}
+use Rattle.commitpage.proofs.Places.{layout1}
 use Rattle.commitpage.specs.declared.PreparedMap.{PreparedMap}
 use Rattle.verdict.proofs.Busy.{busy-is}
 use Rattle.verdict.proofs.prepared.Statement.{statement}
@@ -15,13 +17,13 @@ get-page-requires : tie.Need-get-page-requires
 get-page-requires c κs = search needs
 
 read-prepared-requires : tie.Need-read-prepared-requires
-read-prepared-requires c κs = search needs
+read-prepared-requires c κs = (inl refl, λ e. refl)
 
 returns : tie.Need-returns
 unfolding same
 returns c =
     let page = pagesOf (c .before .before .before .before .args .start .now) 0 in
-    ap (λ (p : PreparedMap). not (same (p .map) 0)) (c .before .read-prepared .ensures ∙ ap (λ (x : Page). overheard (readPrepared geometry1 x)) (c .before .before .get-page .ensures))
+    ap (λ (p : PreparedMap). not (same (p .map) 0)) (c .before .read-prepared .ensures .0 geometry1 layout1 refl ∙ ap (λ (x : Page). overheard (readPrepared geometry1 x)) (c .before .before .get-page .ensures))
     ∙ busy-is page (readPrepared geometry1 page) refl
 
 pub prepared-spec : {M : Type 1} → statement M

@@ -1,3 +1,4 @@
+-- The refusals in their order; where none applies the lengths are right and nothing is of two-phase commit.
 use mathlib.Core.Path.{_≡_, sym, ap₂, _∙_}
 use mathlib.Core.Bool.{Bool, false, _||_}
 use Prim.Native.Nat.{_-_, _*_, _/_, _<_}

@@ -1,3 +1,4 @@
+-- What is met so far, or lies ahead, is what lies in the whole list.
 use mathlib.Core.Path.{_≡_}
 use mathlib.Core.Bool.{_||_}
 use Prim.Native.Nat.{_-_, _≤_}

@@ -1,3 +1,4 @@
+-- The tables stand for the history so far, and the walk from here says what the whole walk says; an answer that is not due ends it.
 use mathlib.Core.Path.{_≡_}
 use Prim.Native.Nat.{_-_, _<_, _≤_}
 use native.Mathlib.Omega.{arith}

@@ -5,7 +5,8 @@ use Prim.Native.Nat.{ℕ, _≤_}
 use native.Mathlib.Omega.{arith}
 use lib.ListN.{length}
 use Rattle.arrays.specs.View.{Owners}
-use Rattle.events.proofs.Parents.{parent-named}
+use Rattle.state.proofs.Parents.{parent-named}
+use Rattle.rules.specs.Editions.{edition1}
 use Rattle.rules.specs.Waiting.{Found}
 use Rattle.waitreport.specs.Reported.{aside}
 use Rattle.waitreport.proofs.Reporting.{numbers-are, points-are, points-small}
@@ -57,7 +58,7 @@ pointings-requires c κs =
     let x = aside (a .e) in
     let words = a .list .words in
     let n = a .list .count in
-    (search needs, search needs, parent-named x I, omega arith, search needs, c .before .before .before .before .before .before .before .rows-number .ensures .1 (c .before .before .before .before .before .before .if2 .left))
+    (search needs, search needs, parent-named edition1 x I, omega arith, search needs, c .before .before .before .before .before .before .before .rows-number .ensures .1 (c .before .before .before .before .before .before .if2 .left))
 
 show-cycle-requires : tie.Need-show-cycle-requires
 show-cycle-requires c κs =

@@ -6,13 +6,11 @@ use Rattle.numbers.proofs.RecordNumber.checked.Tie as tie
 use Rattle.numbers.proofs.RecordNumber.checked.Reads as reads
 use Rattle.numbers.proofs.RecordNumber.checked.Lts as lts
 
--- src/lib.rt:58:5
 returns : tie.Need-returns
-returns c = record-below (c .before .args .n) (omega arith)
+returns c = record-below (c .before .args .count) (c .before .args .n) (omega arith)
 
--- src/lib.rt:58:5
 returns-2 : tie.Need-returns-2
-returns-2 c = record-past (c .before .args .n) (omega arith)
+returns-2 c = record-past (c .before .args .count) (c .before .args .n) (omega arith)
 
 pub checked-spec : {M : Type 1} → statement M
 checked-spec = tie.close (tie.spec returns returns-2)

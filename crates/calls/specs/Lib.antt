@@ -1,0 +1,2 @@
+-- What holds of calls.
+pub mod Chained

@@ -1,0 +1,38 @@
+-- An edition in the numbers that the code gets: how its commit page lies, and which numbers there are.
+use mathlib.Core.Path.{_≡_, refl, sym, subst, _∙_}
+use mathlib.Core.Bool.{Bool, true}
+use Prim.Native.Nat.{ℕ, _+_, _*_, _≤_}
+use native.Mathlib.Omega.{arith}
+use Rattle.rules.specs.Geometry.{Geometry, records, pageCount}
+use Rattle.rules.specs.Form.{Medium, atomicPages}
+use Rattle.rules.specs.Editions.{Edition, first, second, geometryOf, formOf, InNumbers, depths}
+use Rattle.state.specs.Whole.{Served}
+use Rattle.commitpage.specs.Layout.{Known, Layout}
+use Rattle.commitpage.proofs.Places.{laid, known-records, joint-sixteen, known-small}
+
+module _ (k : Edition) (n : ℕ) (joint : Bool) (N : InNumbers k n joint) where
+  pub layout-of : Layout (geometryOf k) n
+  layout-of = subst (Layout (geometryOf k)) (N .many) (laid k)
+
+  pub known-of : Known n
+  known-of = subst Known (N .many) (known-records k)
+
+  -- where transactions can be prepared there are sixteen records
+  pub joint-of : joint ≡ true → n ≡ 16
+  joint-of e = sym (N .many) ∙ joint-sixteen k (N .two-phase ∙ e)
+
+pub few : (n : ℕ) → Known n → n ≤ 64
+few n K = known-small n K .0
+
+-- every edition is one that the engine serves
+pub served-of : (k : Edition) → Served (formOf k)
+served-of k = record { few = few (records (geometryOf k)) (known-records k); deep = deep k }
+  where
+    deep : (k : Edition) → geometryOf k .depthLimit ≡ depths
+    deep first = refl
+    deep second = refl
+
+-- a store's bytes
+pub size-is : (g : Geometry) (n : ℕ) → records g ≡ n → atomicPages g .size ≡ 32 * (1 + (n + n))
+unfolding pageCount
+size-is g n e = let h : (1 + (records g + records g)) * 32 ≡ 32 * (1 + (n + n)) = omega arith in h

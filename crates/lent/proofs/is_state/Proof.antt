@@ -1,0 +1,24 @@
+-- Both tests.
+use borrow.Author.Needs.{needs}
+use Rattle.clauses.proofs.Decides.{decides-and}
+use Rattle.lent.proofs.is_state.Statement.{statement}
+use Rattle.lent.proofs.is_state.Tie as tie
+use Rattle.lent.proofs.is_state.Reads as reads
+use Rattle.lent.proofs.is_state.Lts as lts
+use Rattle.lent.proofs.is_bare.Reads as is-bare-reads
+use Rattle.soundness.proofs.is_sound.Reads as is-sound-reads
+
+-- src/lib.rt:223:9
+is-sound-requires : tie.Need-is-sound-requires
+is-sound-requires c κs = search needs
+
+-- src/lib.rt:224:9
+is-bare-requires : tie.Need-is-bare-requires
+is-bare-requires c κs = search needs
+
+-- src/lib.rt:212:1
+returns : tie.Need-returns
+returns c = λ work long. decides-and (c .before .is-sound .ensures work long) (c .is-bare .ensures)
+
+pub is-state-spec : {M : Type 1} → statement M
+is-state-spec = tie.close (tie.spec is-sound-requires is-bare-requires returns)

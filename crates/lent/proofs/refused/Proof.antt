@@ -1,0 +1,12 @@
+-- A refused portion leaves the state that came in.
+use mathlib.Core.Path.{refl}
+use Rattle.lent.proofs.refused.Statement.{statement}
+use Rattle.lent.proofs.refused.Tie as tie
+use Rattle.lent.proofs.refused.Reads as reads
+use Rattle.lent.proofs.refused.Lts as lts
+
+returns : tie.Need-returns
+returns c = (refl, refl)
+
+pub refused-spec : {M : Type 1} → statement M
+refused-spec = tie.close (tie.spec returns)

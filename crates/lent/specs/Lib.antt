@@ -1,0 +1,3 @@
+-- The promises of a portion and of a page write.
+pub mod Portions
+pub mod PageWrites

@@ -1,0 +1,58 @@
+-- The answer's case as its number and age.
+use borrow.Author.Needs.{needs}
+use mathlib.Core.Path.{ap₂, _∙_}
+use Rattle.rules.specs.Age.{ageOf}
+use Rattle.rules.specs.Form.{atomic}
+use Rattle.records.proofs.Ages.{answered-judged, answered-refused}
+use Rattle.records.proofs.tell.Statement.{statement}
+use Rattle.records.proofs.tell.Tie as tie
+use Rattle.records.proofs.tell.Reads as reads
+use Rattle.records.proofs.tell.Lts as lts
+use Rattle.age.proofs.Limit.new.Reads as Limit-new-reads
+use Rattle.age.proofs.Reading.new.Reads as Reading-new-reads
+use Rattle.records.proofs.age_of.Reads as age-of-reads
+use Rattle.records.proofs.leave.Reads as leave-reads
+
+new-requires : tie.Need-new-requires
+new-requires c κs = search needs
+
+new-requires-2 : tie.Need-new-requires-2
+new-requires-2 c κs = search needs
+
+age-of-requires : tie.Need-age-of-requires
+age-of-requires c κs = search needs
+
+enum-known-told : tie.Need-enum-known-told
+enum-known-told c = search needs
+
+leave-requires : tie.Need-leave-requires
+leave-requires c κs = search needs
+
+enum-known-told-2 : tie.Need-enum-known-told-2
+enum-known-told-2 c = search needs
+
+returns : tie.Need-returns
+returns c = λ g L j.
+    let told = c .before .before .before .before .before .age-of in
+    answered-judged _ _ _ (told .result) (c .before .before .before .told .given .0 .0) (c .leave .result) (c .before .before .before .told .given .1)
+    (told .ensures g L j ∙ ap₂ (ageOf (atomic g) _ _) (c .before .before .before .before .before .before .before .new .ensures) (c .before .before .before .before .before .before .new2 .ensures))
+    (c .leave .ensures)
+
+returns-2 : tie.Need-returns-2
+returns-2 c = λ g L j.
+    let told = c .before .before .before .age-of in
+    answered-refused _ _ (told .result) (c .before .told2 .given .0 .0) (c .before .told2 .given .1)
+    (told .ensures g L j ∙ ap₂ (ageOf (atomic g) _ _) (c .before .before .before .before .before .new .ensures) (c .before .before .before .before .new2 .ensures))
+
+pub tell-spec : {M : Type 1} → statement M
+tell-spec =
+    tie.close
+    (tie.spec
+    new-requires
+    new-requires-2
+    age-of-requires
+    enum-known-told
+    leave-requires
+    enum-known-told-2
+    returns
+    returns-2)

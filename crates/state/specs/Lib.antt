@@ -1,0 +1,3 @@
+-- What the arrays stand for, as one.
+pub mod Whole
+pub mod Portion
