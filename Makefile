@@ -1,4 +1,4 @@
-# make: proves and builds the library, and the command line. make install PREFIX=/usr/local: headers, library, pkg-config
+# make: proves and builds the libraries, and the command line. make install PREFIX=/usr/local: headers, libraries, pkg-config
 # file and command line, for C programs and for people; DESTDIR is put before it, as packagers need.
 PREFIX ?= /usr/local
 CARGO_TARGET_DIR ?= rust/target
@@ -12,10 +12,10 @@ all:
 
 install: all
 	install -d "$(into)/include" "$(into)/lib/pkgconfig" "$(into)/bin"
-	install -m 644 include/nekahuiro.h include/nekahuiro_device.h "$(into)/include"
-	install -m 644 target/staticlib/libnekahuiro.a "$(into)/lib/libnekahuiro.a"
+	install -m 644 include/nekahuiro.h include/nekahuiro_device.h include/nekahuiro_edition2.h "$(into)/include"
+	install -m 644 target/staticlib/libnekahuiro.a target/staticlib/libnekahuiro_edition2.a "$(into)/lib"
 	sed 's|@PREFIX@|$(prefix)|; s|@VERSION@|$(VERSION)|' include/nekahuiro.pc.in > "$(into)/lib/pkgconfig/nekahuiro.pc"
 	install -m 755 "$(CARGO_TARGET_DIR)/release/nekahuiro-cli" "$(into)/bin/nekahuiro"
 
 uninstall:
-	rm -f "$(into)/include/nekahuiro.h" "$(into)/include/nekahuiro_device.h" "$(into)/lib/libnekahuiro.a" "$(into)/lib/pkgconfig/nekahuiro.pc" "$(into)/bin/nekahuiro"
+	rm -f "$(into)/include/nekahuiro.h" "$(into)/include/nekahuiro_device.h" "$(into)/include/nekahuiro_edition2.h" "$(into)/lib/libnekahuiro.a" "$(into)/lib/libnekahuiro_edition2.a" "$(into)/lib/pkgconfig/nekahuiro.pc" "$(into)/bin/nekahuiro"

@@ -1,6 +1,7 @@
-//! Links the proved static library. NEKAHUIRO_LIB_DIR names another folder than the repository's.
+//! Links the proved static library, and that of edition 2 where it is asked for. NEKAHUIRO_LIB_DIR names another folder
+//! than the repository's.
 
-use std::path::PathBuf;
+use std::path::{Path, PathBuf};
 
 fn main() {
     println!("cargo::rerun-if-env-changed=NEKAHUIRO_LIB_DIR");
@@ -10,14 +11,21 @@ fn main() {
         // This crate stands two folders below the root of the repository.
         None => here.ancestors().nth(2).unwrap_or(&here).join("target/staticlib"),
     };
-    let archive = folder.join("libnekahuiro.a");
+    println!("cargo::rustc-link-search=native={}", folder.display());
+    link(&folder, "nekahuiro");
+    if std::env::var_os("CARGO_FEATURE_EDITION2").is_some() {
+        link(&folder, "nekahuiro_edition2");
+    }
+}
+
+fn link(folder: &Path, name: &str) {
+    let archive = folder.join(format!("lib{name}.a"));
     println!("cargo::rerun-if-changed={}", archive.display());
     if !archive.is_file() {
         println!("cargo::error=the proved library {} is missing", archive.display());
-        println!("cargo::error=make it with `rt staticlib nekahuiro` at the root of the repository,");
-        println!("cargo::error=or set NEKAHUIRO_LIB_DIR to the folder that holds libnekahuiro.a");
+        println!("cargo::error=make it with `rt staticlib {name}` at the root of the repository,");
+        println!("cargo::error=or set NEKAHUIRO_LIB_DIR to the folder that holds lib{name}.a");
         std::process::exit(1);
     }
-    println!("cargo::rustc-link-search=native={}", folder.display());
-    println!("cargo::rustc-link-lib=static=nekahuiro");
+    println!("cargo::rustc-link-lib=static={name}");
 }

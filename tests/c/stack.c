@@ -1,17 +1,9 @@
 /* How much stack the calls use: each runs on a painted stack, and the paint that is gone is counted.
  * The exit status is 0 only if it is less than the header says. */
 
-#define _POSIX_C_SOURCE 200809L
+#include "painted_stack.h"
 
 #include "nekahuiro.h"
-
-#include <pthread.h>
-#include <stdio.h>
-#include <stdlib.h>
-#include <string.h>
-
-#define STACK_BYTES (1 << 20)
-#define PAINT 0xA7
 
 static uint8_t store[NEKAHUIRO_STORE_BYTES], work[NEKAHUIRO_WORK_BYTES];
 static uint8_t events[NEKAHUIRO_EVENTS * NEKAHUIRO_EVENT_BYTES], answers[NEKAHUIRO_EVENTS * NEKAHUIRO_ANSWER_BYTES];
@@ -129,11 +121,6 @@ static void *audits(void *unused)
     return unused;
 }
 
-static void *nothing(void *unused)
-{
-    return unused;
-}
-
 static void *calls(void *unused)
 {
     /* The deepest sheet there is: the reader calls itself at each opening brace. */
@@ -162,36 +149,6 @@ static void *calls(void *unused)
                                   answers, sizeof answers) == 0
              && page_writes() == 2 * NEKAHUIRO_RECORDS + 2;
     return unused;
-}
-
-static size_t stack_used(void *(*body)(void *))
-{
-    uint8_t *stack = aligned_alloc(4096, STACK_BYTES);
-    pthread_attr_t attributes;
-    pthread_t thread;
-    size_t clean = 0;
-
-    if (!stack)
-        exit(2);
-    memset(stack, PAINT, STACK_BYTES);
-    pthread_attr_init(&attributes);
-    if (pthread_attr_setstack(&attributes, stack, STACK_BYTES) || pthread_create(&thread, &attributes, body, NULL))
-        exit(2);
-    pthread_join(thread, NULL);
-    while (clean < STACK_BYTES && stack[clean] == PAINT)
-        clean++;
-    free(stack);
-    return STACK_BYTES - clean;
-}
-
-/* What a body uses beyond an empty one; the exit status counts a body that uses more than the header allows. */
-static int within(const char *what, void *(*body)(void *), int allowed)
-{
-    size_t base = stack_used(nothing), used = stack_used(body);
-
-    used = used > base ? used - base : 0;
-    printf("stack: %s %zu bytes, the header allows %d\n", what, used, allowed);
-    return used <= (size_t)allowed;
 }
 
 int main(void)

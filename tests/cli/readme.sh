@@ -8,6 +8,7 @@ holds "README: its page" grep -q "commit 0 1 (refresh)" readme/list.html
 holds "README: how the write was lost" grep -q "the commit of transaction 0 was cut at event 9 after 1 page write, before the commit page was written" readme/list.html
 ok "README: from the shell" "^live 2$" in_readme "$(block_with 'age store.bin')"
 holds "README: what put left" grep -qx "00000003$(printf '00%.0s' {1..28})" out
+ok "README: sixty-four records" "^live 2$" in_readme "$(block_with 'large.bin')"
 ok "README: events one by one" "^state.bin: up, nothing is live$" in_readme "$(block_with 'state.bin')"
 for word in '63, more than are ever due' 'puts A5 at offset 2 of record 3' 'x86-64' 'Rust 1.89' 'ten minutes' 'forty minutes'; do
     holds "README says: $word" grep -qF -- "$word" "$root/README.md"

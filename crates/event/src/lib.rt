@@ -8,6 +8,7 @@ ghost use Rattle.rules.specs.Editions.{geometry1};
 ghost use Rattle.event.specs.Flags.{flags};
 ghost use Rattle.event.specs.Meaning.{meaning, InRange, Fits};
 
+pub mod edition2;
 
 // An answer's two bytes.
 pub struct Answer {

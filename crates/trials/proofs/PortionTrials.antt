@@ -14,6 +14,7 @@ use Rattle.rules.specs.Commit.{open-commit}
 use Rattle.rules.specs.Step.{open-step}
 use Rattle.rules.specs.Run.{open-run}
 use Rattle.rules.specs.Portion.{open-portion}
+use Rattle.trials.specs.Trials.{firstTrials}
 use Rattle.trials.specs.PortionTrials.{oneByOne, worked, allPass, portionTrials}
 
 pub portion-trials-hold : T (allPass portionTrials)
@@ -22,5 +23,5 @@ portion-trials-hold = tt
 
 -- document 01's worked list, one event a portion
 pub one-by-one : T (oneByOne worked)
-unfolding open-tests open-counting open-functions open-bytes open-geometry open-store open-event open-state open-locks open-versions open-commit open-step open-run open-portion
+unfolding open-tests open-counting open-functions open-bytes open-geometry open-store open-event open-state open-locks open-versions open-commit open-step open-run open-portion firstTrials
 one-by-one = tt

@@ -1,9 +1,9 @@
 -- Rows at the edges of how transactions and locks behave: numbers and depths, the order of refusals, what a parent inherits, what ends.
 use Prim.Native.Nat.{ℕ, zero, suc, _+_}
 use mathlib.Core.List.{List, [], _∷_, _++_}
-use lib.ListN.{set, replicate}
+use lib.ListN.{set}
 use Rattle.rules.specs.Event.{begin, write, read, commit, crash, recover}
-use Rattle.trials.specs.Rows.{Line, Trial, plays, page, blank, emptyPage, withA5, on, top, locks, shares, aborts, reports, onFresh, nested, writesA5, childWrites11}
+use Rattle.trials.specs.Rows.{Line, Trial, playsFresh, home, emptied, value, blank, withA5, on, top, locks, shares, aborts, reports, onFresh, nested, writesA5, childWrites11}
 use Rattle.trials.specs.WordTrials.{tops}
 
 -- n transactions nested beneath t, which get the numbers from i on
@@ -11,7 +11,7 @@ abbrev pub beneath : ℕ → ℕ → ℕ → List Line
 beneath t i zero = []
 beneath t i (suc n) = on (begin t) i ∷ beneath i (suc i) n
 
-abbrev pub edgeTrials : List Trial
+unfoldable pub edgeTrials : List Trial
 edgeTrials =
     -- 4: the 24th begins and the 25th is 7; after an abort its number is given again, and of two free ones the lower.
     onFresh (tops 0 24 ++ (
@@ -48,11 +48,11 @@ edgeTrials =
     on top 0x0000 ∷ on (begin 0) 0x0001 ∷ on (begin 1) 0x0002 ∷ on (locks 2 3) 0x0000 ∷ on (write 2 3 2 0x11) 0x0000 ∷ on (commit 2 0) 0x0000 ∷ on (commit 1 0) 0x0000 ∷ on (begin 0) 0x0001 ∷
     on (begin 1) 0x0002 ∷ on (locks 2 3) 0x0000 ∷ on (read 2 3 2) 0x0011 ∷ on (write 2 3 4 0x44) 0x0000 ∷ on (read 2 3 2) 0x0011 ∷ on (commit 2 0) 0x0000 ∷ on (locks 1 3) 0x0000 ∷
     on (read 1 3 4) 0x0044 ∷ on (write 1 3 2 0x22) 0x0000 ∷ on (aborts 1) 0x0000 ∷ on (locks 0 3) 0x0000 ∷ on (read 0 3 2) 0x0011 ∷ on (read 0 3 4) 0x0000 ∷ on (commit 0 63) 0x0004 ∷ []) (
-    page 20 (set blank 2 0x11) ∷ []) ∷
+    home 3 (set blank 2 0x11) ∷ []) ∷
     -- The parent takes the child's versions in place of its own of the same records, and keeps its others.
     onFresh (writesA5 ++ (
     on (locks 0 4) 0x0000 ∷ on (write 0 4 2 1) 0x0000 ∷ on (begin 0) 0x0001 ∷ on (locks 1 5) 0x0000 ∷ on (write 1 5 2 2) 0x0000 ∷ on (commit 1 5) 0x0000 ∷ on (commit 0 63) 0x0008 ∷ [])) (
-    page 20 withA5 ∷ page 21 (set blank 2 1) ∷ page 22 (set blank 2 2) ∷ page 0 emptyPage ∷ []) ∷
+    home 3 withA5 ∷ home 4 (set blank 2 1) ∷ home 5 (set blank 2 2) ∷ emptied ∷ []) ∷
     -- A top commit ends that one: the others keep number, locks and versions.
     onFresh (writesA5 ++ (
     on top 0x0001 ∷ on (locks 1 4) 0x0000 ∷ on (write 1 4 2 7) 0x0000 ∷ on (commit 0 63) 0x0004 ∷ on (locks 0 3) 0x0500 ∷ on (read 1 4 2) 0x0007 ∷ on top 0x0000 ∷ on (locks 0 4) 0x0800 ∷
@@ -60,7 +60,7 @@ edgeTrials =
     -- A cut commit is a crash: all others end too, with locks and versions; numbers are given from 0 again.
     onFresh (writesA5 ++ (
     on top 0x0001 ∷ on (locks 1 4) 0x0000 ∷ on (write 1 4 2 7) 0x0000 ∷ on (commit 0 0) 0x0B00 ∷ on (locks 1 4) 0x0200 ∷ on (recover 63) 0x0000 ∷ on (locks 1 4) 0x0500 ∷ on top 0x0000 ∷
-    on (locks 0 4) 0x0000 ∷ on (read 0 4 2) 0x0000 ∷ on (locks 0 3) 0x0000 ∷ on (read 0 3 2) 0x0000 ∷ on (commit 0 0) 0x0000 ∷ [])) (page 20 blank ∷ page 4 blank ∷ []) ∷
+    on (locks 0 4) 0x0000 ∷ on (read 0 4 2) 0x0000 ∷ on (locks 0 3) 0x0000 ∷ on (read 0 3 2) 0x0000 ∷ on (commit 0 0) 0x0000 ∷ [])) (home 3 blank ∷ value 3 blank ∷ []) ∷
     -- A crash: the same; only a recover brings it up.
     onFresh (writesA5 ++ (
     on (begin 0) 0x0001 ∷ on crash 0x0000 ∷ on (aborts 0) 0x0200 ∷ on (read 0 3 2) 0x0200 ∷ on (commit 0 63) 0x0200 ∷ on (write 0 3 2 1) 0x0200 ∷ on crash 0x0000 ∷ on (recover 0) 0x0000 ∷
@@ -70,9 +70,9 @@ edgeTrials =
     -- A child's commit takes any count and writes no page.
     onFresh (
     on top 0x0000 ∷ on (begin 0) 0x0001 ∷ on (locks 1 3) 0x0000 ∷ on (write 1 3 2 0xA5) 0x0000 ∷ on (commit 1 5) 0x0000 ∷ on (begin 0) 0x0001 ∷ on (commit 1 0) 0x0000 ∷ on (commit 0 0) 0x0B00 ∷ []) (
-    page 4 blank ∷ page 20 blank ∷ []) ∷
+    home 3 blank ∷ []) ∷
     -- 2 before 5; 5 before 14, 10, 8 and 9; 31 is a name, never live, in all but a begin.
-    plays (0x10 ∷ replicate 1055 0) (
+    playsFresh (
     on (begin 30) 0x0200 ∷ on (locks 31 3) 0x0200 ∷ on (commit 31 0) 0x0200 ∷ on (recover 63) 0x0000 ∷ on (locks 31 3) 0x0500 ∷ on (write 31 3 2 7) 0x0500 ∷ on (read 31 3 2) 0x0500 ∷
     on (commit 31 63) 0x0500 ∷ on (aborts 31) 0x0500 ∷ on (locks 0 3) 0x0500 ∷ on (begin 0) 0x0500 ∷ on (begin 29) 0x0500 ∷ []) [] ∷
     -- 9: neither holder nor retainer; a holder of another record; the parent of the holder. 8 leaves the holder's lock as it was.
@@ -86,5 +86,5 @@ edgeTrials =
     -- A refused commit changes nothing: the child goes on, and so does its parent.
     onFresh (childWrites11 ++ (
     on (begin 0) 0x0001 ∷ on (commit 0 2) 0x0A00 ∷ on (locks 1 3) 0x0000 ∷ on (read 1 3 2) 0x0011 ∷ on (commit 1 63) 0x0000 ∷ on (commit 0 2) 0x0B02 ∷ on (recover 63) 0x0002 ∷ [])) (
-    page 20 (set blank 2 0x11) ∷ []) ∷
+    home 3 (set blank 2 0x11) ∷ []) ∷
     []

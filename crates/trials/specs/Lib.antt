@@ -4,7 +4,9 @@ pub mod PreparedTrials
 pub mod WordTrials
 pub mod EdgeTrials
 pub mod PageTrials
+pub mod CommonTrials
 pub mod Trials
+pub mod Edition2Trials
 pub mod PortionTrials
 pub mod WaitingTrials
 pub mod StateTrials

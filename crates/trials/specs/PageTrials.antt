@@ -7,7 +7,7 @@ use lib.ListN.{getD, take, drop, length, set, replicate}
 use lib.IntN.{pos, negsuc}
 use Rattle.rules.specs.Event.{write, read, commit, crash, recover, query}
 use Rattle.rules.specs.Age.{ahead, live, stale, refused}
-use Rattle.trials.specs.Rows.{Line, Due, page, value, Trial, plays, refuses, takes, lays, ages, freshBytes, blank, emptyPage, withA5, on, top, locks, onFresh}
+use Rattle.trials.specs.Rows.{Line, Due, page, value, Trial, plays, refuses, takes, lays, ages, damages, freshBytes, blank, emptyPage, withA5, on, top, locks, onFresh}
 
 -- a store with these bytes at a place
 abbrev pub put : ℕ → List ℕ → List ℕ → List ℕ
@@ -41,7 +41,7 @@ flipped i bs =
 -- with any one of n bits from i on the other way, this page 0 is damaged
 abbrev pub damagedAt : List ℕ → ℕ → ℕ → List Trial
 damagedAt head i zero = []
-damagedAt head i (suc n) = ages (under0 (flipped i head)) 3 5 10 (refused 4) ∷ damagedAt head (suc i) n
+damagedAt head i (suc n) = damages (flipped i head) ∷ damagedAt head (suc i) n
 
 -- so is this one, for a recovery: it changes nothing and leaves the store down
 abbrev pub stays : List ℕ → Trial
@@ -80,7 +80,7 @@ stamped =
     put 0 committed03 (put (32 * 1) (0 ∷ 0 ∷ 0 ∷ 9 ∷ 5 ∷ []) (put (32 * 17) (0 ∷ 0 ∷ 0 ∷ 2 ∷ []) (put (32 * 4) (1 ∷ 2 ∷ 3 ∷ 4 ∷ 5 ∷ []) (put (32 * 20) (0 ∷ 0 ∷ 0 ∷ 7 ∷ []) (
     put (32 * 5) (0 ∷ 0 ∷ 0 ∷ 13 ∷ []) (put (32 * 21) (0 ∷ 0 ∷ 0 ∷ 11 ∷ []) (put (32 * 32) (0xFF ∷ 0xFF ∷ 0xFF ∷ 0xFF ∷ 1 ∷ []) freshBytes)))))))
 
-abbrev pub ageTrials : List Trial
+unfoldable pub ageTrials : List Trial
 ageTrials =
     -- by the intention page where a committed map names the record, else by the home page; the first four bytes, most significant first
     ages stamped 0 10 10 (live (pos 1)) ∷ ages stamped 3 16909061 10 (live (pos 1)) ∷ ages stamped 3 16909050 10 (ahead (negsuc 9)) ∷ ages stamped 4 12 10 (live (pos 1)) ∷
@@ -95,9 +95,10 @@ ageTrials =
     -- 22, 23, 4 in this order: a store too short or too long, a record above 15, a damaged page 0
     ages (replicate 1055 7) 16 0 0 (refused 22) ∷ ages (replicate 1057 7) 255 0 0 (refused 22) ∷ ages (take 1055 stamped) 0 10 10 (refused 22) ∷
     ages (replicate 1056 7) 16 0 0 (refused 23) ∷ ages stamped 16 0 0 (refused 23) ∷ ages stamped 255 0 0 (refused 23) ∷ ages (replicate 1056 7) 15 0 0 (refused 4) ∷
+    ages (under0 (flipped 0 emptyPage)) 3 5 10 (refused 4) ∷ ages (under0 (flipped 255 committed03)) 3 5 10 (refused 4) ∷ ages (under0 (flipped 28 prepared03)) 3 5 10 (refused 4) ∷
     []
 
-abbrev pub pageTrials : List Trial
+unfoldable pub pageTrials : List Trial
 pageTrials =
     -- Records 0 and 3 as committed; all sixteen: k = 33 is cut, k = 34 whole.
     onFresh (on top 0x0000 ∷ on (locks 0 3) 0x0000 ∷ on (write 0 3 2 7) 0x0000 ∷ on (locks 0 0) 0x0000 ∷ on (write 0 0 2 7) 0x0000 ∷ on (commit 0 3) 0x0B03 ∷ []) (page 0 committed03 ∷ []) ∷
@@ -133,9 +134,9 @@ pageTrials =
     refuses 1055 4 8192 2 22 ∷ refuses 1057 4 8192 2 22 ∷ refuses 0 0 0 0 22 ∷ refuses 1056 4 8191 2 24 ∷ refuses 1056 4 8193 2 24 ∷ refuses 1056 4 4096 2 24 ∷
     refuses 1056 3 8192 2 20 ∷ refuses 1056 5 8192 2 20 ∷ refuses 1056 6 8192 4 20 ∷ refuses 1056 16385 8192 8194 20 ∷ refuses 1056 16388 8192 8194 20 ∷
     refuses 1056 4 8192 1 21 ∷ refuses 1056 4 8192 0 21 ∷ refuses 1056 16384 8192 8191 21 ∷
-    ageTrials
+    []
 
 -- Any one bit of a page 0 that is empty or committed makes it damaged; of one that is prepared any but those of the identity.
-abbrev pub bitTrials : List Trial
+unfoldable pub bitTrials : List Trial
 bitTrials =
     damagedAt emptyPage 0 256 ++ (damagedAt committed03 0 256 ++ (damagedAt prepared03 0 32 ++ damagedAt prepared03 40 216))

@@ -8,8 +8,8 @@ use Rattle.rules.specs.State.{down}
 use Rattle.rules.specs.Form.{Medium}
 use Rattle.rules.specs.Portion.{Lent, Portion, portion, Chain, chainFrom}
 use Rattle.rules.specs.Editions.{edition1}
-use Rattle.trials.specs.Rows.{Line, Trial, plays, refuses, takes, lays, ages, alike, freshBytes, eventsOf, answersOf, allDue}
-use Rattle.trials.specs.Trials.{trials}
+use Rattle.trials.specs.Rows.{Line, Due, Trial, plays, playsFresh, refuses, takes, lays, ages, damages, alike, freshBytes, numbers1, eventsOf, answersOf, allDue}
+use Rattle.trials.specs.Trials.{firstTrials}
 
 -- the buffers of a portion: some events, and an answer buffer of some bytes
 abbrev pub lent : List ℕ → ℕ → Lent
@@ -18,18 +18,23 @@ lent events n = record { events = events; work = replicate 8192 0; answers = rep
 -- each event a portion
 abbrev pub singles : List Line → List Lent
 singles [] = []
-singles (l ∷ ls) = lent (eventsOf (l ∷ [])) 2 ∷ singles ls
+singles (l ∷ ls) = lent (eventsOf numbers1 (l ∷ [])) 2 ∷ singles ls
 
 -- a chain whose states are all found sound
 abbrev pub chained : List ℕ → List Lent → Chain edition1
 chained store ls = chainFrom edition1 (λ s. true) store ls
 
+abbrev oneEach : List ℕ → List Line → List Due → Bool
+oneEach store ls ds = let c = chained store (singles ls) in alike (c .answers) (answersOf ls) && allDue edition1 numbers1 (c .store) ds
+
 abbrev pub onePasses : Trial → Bool
-onePasses (plays store ls ds) = let c = chained store (singles ls) in alike (c .answers) (answersOf ls) && allDue (c .store) ds
+onePasses (plays store ls ds) = oneEach store ls ds
+onePasses (playsFresh ls ds) = oneEach freshBytes ls ds
 onePasses (refuses a b c d n) = true
 onePasses (takes a b c d) = true
 onePasses (lays a n) = true
 onePasses (ages store r clock limit a) = true
+onePasses (damages head) = true
 
 abbrev pub oneByOne : List Trial → Bool
 oneByOne [] = true
@@ -37,7 +42,7 @@ oneByOne (t ∷ ts) = onePasses t && oneByOne ts
 
 -- the first trial of document 01: the worked list, to its eleventh event and in full
 abbrev pub worked : List Trial
-worked = take 2 trials
+worked = take 2 firstTrials
 
 -- Portions over a fresh store, with their own answers and the answer bytes of the joined list; or a verdict on the state, the lengths of
 -- store, events, working buffer and answer buffer, and the refusal due.

@@ -7,7 +7,7 @@ use lib.ListN.{drop, length, set, replicate}
 use lib.IntN.{negsuc}
 use Rattle.rules.specs.Event.{Event, begin, write, read, commit, crash, recover, prepare, decide, query}
 use Rattle.rules.specs.Age.{ahead, refused}
-use Rattle.trials.specs.Rows.{Line, Due, page, value, Trial, plays, ages, freshBytes, blank, emptyPage, withA5, on, top, locks, shares, aborts, onFresh, writesA5, childWrites11, writesTwo, bothA5, neither}
+use Rattle.trials.specs.Rows.{Line, word, Due, page, value, Trial, plays, ages, freshBytes, blank, emptyPage, withA5, on, top, locks, shares, aborts, onFresh, writesA5, childWrites11, writesTwo, bothA5, neither}
 
 -- a decision to commit, to abort
 abbrev pub decideCommit : ℕ → ℕ → Event
@@ -39,11 +39,11 @@ twoHeld = 0x13 ∷ 0x10 ∷ 0x40 ∷ 0x10 ∷ 0x07 ∷ 0x00 ∷ []
 abbrev pub twoStored : List ℕ
 twoStored = 0x15 ∷ 0x10 ∷ 0x40 ∷ 0x10 ∷ 0x00 ∷ 0x00 ∷ []
 
-abbrev pub preparedTrials : List Trial
+unfoldable pub preparedTrials : List Trial
 preparedTrials =
     -- The prepared page: records 0 and 3, identity 2A. What it settles is as before.
     onFresh (
-    on top 0x0000 ∷ on (locks 0 0) 0x0000 ∷ on (write 0 0 1 7) 0x0000 ∷ on (locks 0 3) 0x0000 ∷ on (write 0 3 2 0xA5) 0x0000 ∷ (0x90003F2A, 0x0003) ∷ []) (
+    on top 0x0000 ∷ on (locks 0 0) 0x0000 ∷ on (write 0 0 1 7) 0x0000 ∷ on (locks 0 3) 0x0000 ∷ on (write 0 3 2 0xA5) 0x0000 ∷ word 0x90003F2A 0x0003 ∷ []) (
     page 0 (0x13 ∷ 0x90 ∷ 0x00 ∷ 0x10 ∷ 0x2A ∷ replicate 27 0) ∷ page 4 withA5 ∷ value 0 blank ∷ value 3 blank ∷ []) ∷
     -- A count that isn't the map's, a map of 0, a byte behind: damaged. So is a fifth byte of an empty or a committed page. Identity 0 is one.
     damagedBy (0x13 ∷ 0x90 ∷ 0x00 ∷ 0x08 ∷ 0x2A ∷ []) ∷ damagedBy (0x13 ∷ 0x00 ∷ 0x00 ∷ 0x00 ∷ 0x2A ∷ []) ∷
@@ -61,8 +61,8 @@ preparedTrials =
     -- While one is prepared, 13 for a changed record: of a prepare, also by a child, tried after 10 and before 27; of a top commit, and not of a
     -- child's.
     onFresh (writesA5 ++ (
-    (0x90003F07, 0x0002) ∷ on top 0x0000 ∷ on (begin 0) 0x0001 ∷ (0x90803F08, 0x1B00) ∷ on (locks 1 4) 0x0000 ∷ on (write 1 4 2 7) 0x0000 ∷ (0x90803F08, 0x0D00) ∷
-    (0x90003F08, 0x0A00) ∷ (0x50803F00, 0x0000) ∷ (0x50003F00, 0x0D00) ∷ (0x90003F08, 0x0D00) ∷ (0xA0003F07, 0x0001) ∷ (0x50003F00, 0x0004) ∷ [])) (
+    word 0x90003F07 0x0002 ∷ on top 0x0000 ∷ on (begin 0) 0x0001 ∷ word 0x90803F08 0x1B00 ∷ on (locks 1 4) 0x0000 ∷ on (write 1 4 2 7) 0x0000 ∷ word 0x90803F08 0x0D00 ∷
+    word 0x90003F08 0x0A00 ∷ word 0x50803F00 0x0000 ∷ word 0x50003F00 0x0D00 ∷ word 0x90003F08 0x0D00 ∷ word 0xA0003F07 0x0001 ∷ word 0x50003F00 0x0004 ∷ [])) (
     value 3 blank ∷ value 4 (set blank 2 7) ∷ []) ∷
     -- A prepare ends the transaction; what it changed stays locked in every mode, through crashes, and its other locks go.
     onFresh (writesA5 ++ (
@@ -73,16 +73,16 @@ preparedTrials =
     plays prepared7 (on (recover 0) 0x0000 ∷ on crash 0x0000 ∷ on (recover 63) 0x0000 ∷ []) (page 0 (0x13 ∷ 0x10 ∷ 0x00 ∷ 0x08 ∷ 0x07 ∷ []) ∷ value 3 blank ∷ []) ∷
     -- A decision: offset 2 is 1, also while down; while down 2; for another nothing, whatever its count.
     plays prepared7 (
-    (0xA000BF07, 0x0100) ∷ (0xA0007F07, 0x0200) ∷ (0xB0000007, 0x0200) ∷ (0xB0000107, 0x0100) ∷ on (recover 63) 0x0000 ∷ (0xA000BF07, 0x0100) ∷
+    word 0xA000BF07 0x0100 ∷ word 0xA0007F07 0x0200 ∷ word 0xB0000007 0x0200 ∷ word 0xB0000107 0x0100 ∷ on (recover 63) 0x0000 ∷ word 0xA000BF07 0x0100 ∷
     on (decideCommit 0 8) 0x0000 ∷ on (decideAbort 0 8) 0x0000 ∷ on (query 7) 0x0001 ∷ on (query 8) 0x0000 ∷ []) (value 3 blank ∷ []) ∷
     -- To abort: cut after 0 it is still prepared; whole after 1, and again nothing.
     plays prepared7 (
-    on (recover 63) 0x0000 ∷ (0xA0000007, 0x0B00) ∷ on (query 7) 0x0200 ∷ on (recover 63) 0x0000 ∷ on (query 7) 0x0001 ∷ on (decideAbort 1 7) 0x0001 ∷ on (query 7) 0x0000 ∷
+    on (recover 63) 0x0000 ∷ word 0xA0000007 0x0B00 ∷ on (query 7) 0x0200 ∷ on (recover 63) 0x0000 ∷ on (query 7) 0x0001 ∷ on (decideAbort 1 7) 0x0001 ∷ on (query 7) 0x0000 ∷
     on (decideAbort 63 7) 0x0000 ∷ on (decideCommit 63 7) 0x0000 ∷ []) (value 3 blank ∷ page 0 emptyPage ∷ []) ∷
     -- To commit: cut after 0 still prepared; after 1 and 2 stored, and recovered; whole after 3.
     plays prepared7 (on (recover 63) 0x0000 ∷ on (decideCommit 0 7) 0x0B00 ∷ on (recover 63) 0x0000 ∷ on (query 7) 0x0001 ∷ []) (value 3 blank ∷ []) ∷
-    plays prepared7 (on (recover 63) 0x0000 ∷ (0xA0004107, 0x0B01) ∷ []) (value 3 withA5 ∷ page 0 (0x15 ∷ 0x10 ∷ 0x00 ∷ 0x08 ∷ 0x00 ∷ []) ∷ []) ∷
-    plays prepared7 (on (recover 63) 0x0000 ∷ (0xA0004107, 0x0B01) ∷ on (recover 63) 0x0002 ∷ on (query 7) 0x0000 ∷ []) (value 3 withA5 ∷ page 0 emptyPage ∷ []) ∷
+    plays prepared7 (on (recover 63) 0x0000 ∷ word 0xA0004107 0x0B01 ∷ []) (value 3 withA5 ∷ page 0 (0x15 ∷ 0x10 ∷ 0x00 ∷ 0x08 ∷ 0x00 ∷ []) ∷ []) ∷
+    plays prepared7 (on (recover 63) 0x0000 ∷ word 0xA0004107 0x0B01 ∷ on (recover 63) 0x0002 ∷ on (query 7) 0x0000 ∷ []) (value 3 withA5 ∷ page 0 emptyPage ∷ []) ∷
     plays prepared7 (on (recover 63) 0x0000 ∷ on (decideCommit 2 7) 0x0B02 ∷ []) (value 3 withA5 ∷ []) ∷
     plays prepared7 (on (recover 63) 0x0000 ∷ on (decideCommit 3 7) 0x0003 ∷ on (query 7) 0x0000 ∷ []) (value 3 withA5 ∷ page 0 emptyPage ∷ []) ∷
     -- A cut decision ends the live transactions.
@@ -145,7 +145,7 @@ preparedTrials =
     on (query 7) 0x0000 ∷ on (query 8) 0x0001 ∷ on (decideCommit 63 7) 0x0000 ∷ on (decideAbort 63 8) 0x0001 ∷ [])) (value 3 (set blank 2 0x11) ∷ []) ∷
     -- A prepare while down is 2; 24 to 31 are never live; what a kind doesn't use is 0, an offset of a decide 0 or 1; there is no kind above 11.
     plays freshBytes (
-    (0x90003F07, 0x0200) ∷ (0x90083F07, 0x0100) ∷ (0x90007F07, 0x0100) ∷ (0xA0807F07, 0x0100) ∷ (0xA0087F07, 0x0100) ∷ (0xA007FF07, 0x0100) ∷ (0xB0800007, 0x0100) ∷
-    (0xB0080007, 0x0100) ∷ (0xB0004007, 0x0100) ∷ []) [] ∷
-    onFresh ((0x9F803F07, 0x0500) ∷ (0x9C003F07, 0x0500) ∷ (0x90003F07, 0x0500) ∷ (0xA007FF07, 0x0100) ∷ (0xD0000000, 0x0100) ∷ (0xE0000000, 0x0100) ∷ (0xF0000000, 0x0100) ∷ []) [] ∷
+    word 0x90003F07 0x0200 ∷ word 0x90083F07 0x0100 ∷ word 0x90007F07 0x0100 ∷ word 0xA0807F07 0x0100 ∷ word 0xA0087F07 0x0100 ∷ word 0xA007FF07 0x0100 ∷ word 0xB0800007 0x0100 ∷
+    word 0xB0080007 0x0100 ∷ word 0xB0004007 0x0100 ∷ []) [] ∷
+    onFresh (word 0x9F803F07 0x0500 ∷ word 0x9C003F07 0x0500 ∷ word 0x90003F07 0x0500 ∷ word 0xA007FF07 0x0100 ∷ word 0xD0000000 0x0100 ∷ word 0xE0000000 0x0100 ∷ word 0xF0000000 0x0100 ∷ []) [] ∷
     []

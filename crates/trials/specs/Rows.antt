@@ -1,34 +1,56 @@
--- What a row of the table of trials says, when it passes, and the events, stores and lists that rows are made of. Words, pages, lengths and places
+-- What a row of a table of trials says, when it passes, and the events, stores and lists that rows are made of. Words, pages, lengths and places
 -- stand here in the papers' own numbers, and lists are compared here, so that a wrong definition of the rules can't make its own row right.
 use Prim.Native.Nat.{ℕ, zero, suc, _+_, _*_, _/_, _%_}
 use mathlib.Core.Bool.{Bool, true, false, cond, _&&_}
 use mathlib.Core.List.{List, [], _∷_, _++_}
-use lib.Dec.{eqb}
+use lib.Dec.{T, eqb}
 use lib.ListN.{take, drop, length, set, replicate}
 use lib.IntN.{ℤ, pos, negsuc}
-use Rattle.rules.specs.Store.{Page, settled, pagesOf}
+use Rattle.rules.specs.Store.{Page}
 use Rattle.rules.specs.Event.{Access, toWrite, toRead, Event, begin, lock, write, read, commit, abort, crash, recover, prepare, decide, query}
-use Rattle.rules.specs.Run.{Result, run, Laid, layFresh}
+use Rattle.rules.specs.Form.{Form}
+use Rattle.rules.specs.State.{down}
+use Rattle.rules.specs.Run.{answerBytes, Played, play, Result, run, Laid, layFresh}
 use Rattle.rules.specs.Age.{Age, ahead, live, stale, refused, ageOf}
-use Rattle.rules.specs.Editions.{geometry1, edition1}
 
--- an event word and its two answer bytes as one number
-abbrev pub Line : Type 0
-Line = ℕ × ℕ
+-- The papers' numbers for an edition.
+pub record Numbers : Type 0 where
+  -- the bytes of a fresh store
+  pub freshStore : List ℕ
+  -- how many bytes a working buffer and an event word have
+  pub workBytes : ℕ
+  pub wordBytes : ℕ
+  -- the word of a kind, a transaction, a record, an offset, a count and a value
+  pub wordOf : ℕ → ℕ → ℕ → ℕ → ℕ → ℕ → ℕ
+  -- the byte of the store at which a page begins, and the home page of record 0
+  pub pageAt : ℕ → ℕ
+  pub firstHome : ℕ
 
--- of the store at the end: how a page begins, what the settled value of a record is
+-- an event, a word, or the fields of a word (kind, transaction, record, offset, count, value); and its two answer bytes as one number
+pub data Line : Type 0 where
+  on : Event → ℕ → Line
+  word : ℕ → ℕ → Line
+  fields : ℕ → ℕ → ℕ → ℕ → ℕ → ℕ → ℕ → Line
+
+-- Of the store at the end: how a page begins, and how the home page of a record does; that the commit page is the empty one; what the settled value of a
+-- record is.
 pub data Due : Type 0 where
   page : ℕ → List ℕ → Due
+  home : ℕ → List ℕ → Due
+  emptied : Due
   value : ℕ → Page → Due
 
--- A row: a start store, events with the answers due, and what is due of the store at the end; or the lengths of store, events, working buffer
--- and answer buffer with the refusal due, or with none due; or the length of a store that is laid down, with the answer due; or an age.
+-- A row: a start store, events with the answers due, and what is due of the store at the end; the same from a fresh store; or the lengths of store,
+-- events, working buffer and answer buffer with the refusal due, or with none due; or the length of a store that is laid down, with the answer due; or
+-- an age; or a page 0 that is damaged. A row with neither a word nor a page by its number nor a store's bytes holds in any edition.
 pub data Trial : Type 0 where
   plays : List ℕ → List Line → List Due → Trial
+  playsFresh : List Line → List Due → Trial
   refuses : ℕ → ℕ → ℕ → ℕ → ℕ → Trial
   takes : ℕ → ℕ → ℕ → ℕ → Trial
   lays : ℕ → ℕ → Trial
   ages : List ℕ → ℕ → ℕ → ℕ → Age → Trial
+  damages : List ℕ → Trial
 
 -- two lists are the same
 abbrev pub alike : List ℕ → List ℕ → Bool
@@ -37,19 +59,57 @@ alike [] (y ∷ ys) = false
 alike (x ∷ xs) [] = false
 alike (x ∷ xs) (y ∷ ys) = eqb x y && alike xs ys
 
--- four bytes a word, most significant first
-abbrev pub eventsOf : List Line → List ℕ
-eventsOf [] = []
-eventsOf (l ∷ ls) = l .0 / 0x1000000 ∷ l .0 / 0x10000 % 256 ∷ l .0 / 0x100 % 256 ∷ l .0 % 256 ∷ eventsOf ls
+-- n bytes, most significant first
+abbrev pub bytesOf : ℕ → ℕ → List ℕ
+bytesOf zero w = []
+bytesOf (suc n) w = bytesOf n (w / 256) ++ (w % 256 ∷ [])
+
+-- the word of an event, by the papers' table
+abbrev pub spelled : Numbers → Event → ℕ
+spelled n (begin t) = n .wordOf 1 t 0 0 0 0
+spelled n (lock t r toWrite) = n .wordOf 2 t r 0 0 0
+spelled n (lock t r toRead) = n .wordOf 2 t r 0 0 1
+spelled n (write t r o v) = n .wordOf 3 t r o 0 v
+spelled n (read t r o) = n .wordOf 4 t r o 0 0
+spelled n (commit t k) = n .wordOf 5 t 0 0 k 0
+spelled n (abort t w) = n .wordOf 6 t 0 0 0 (cond w 1 0)
+spelled n crash = n .wordOf 7 0 0 0 0 0
+spelled n (recover k) = n .wordOf 8 0 0 0 k 0
+spelled n (prepare t k i) = n .wordOf 9 t 0 0 k i
+spelled n (decide d k i) = n .wordOf 10 0 0 (cond d 1 0) k i
+spelled n (query i) = n .wordOf 11 0 0 0 0 i
+
+abbrev pub wordIn : Numbers → Line → ℕ
+wordIn n (on e a) = spelled n e
+wordIn n (word w a) = w
+wordIn n (fields kind t r o k v a) = n .wordOf kind t r o k v
+
+abbrev pub answerIn : Line → ℕ
+answerIn (on e a) = a
+answerIn (word w a) = a
+answerIn (fields kind t r o k v a) = a
+
+abbrev pub eventsOf : Numbers → List Line → List ℕ
+eventsOf n [] = []
+eventsOf n (l ∷ ls) = bytesOf (n .wordBytes) (wordIn n l) ++ eventsOf n ls
 
 abbrev pub answersOf : List Line → List ℕ
 answersOf [] = []
-answersOf (l ∷ ls) = l .1 / 256 ∷ l .1 % 256 ∷ answersOf ls
+answersOf (l ∷ ls) = answerIn l / 256 ∷ answerIn l % 256 ∷ answersOf ls
 
-abbrev pub allDue : List ℕ → List Due → Bool
-allDue store [] = true
-allDue store (page p bs ∷ ds) = alike (take (length bs) (drop (32 * p) store)) bs && allDue store ds
-allDue store (value r bs ∷ ds) = alike (settled geometry1 (pagesOf store) r) bs && allDue store ds
+-- a store has these bytes at a place
+abbrev pub has : List ℕ → ℕ → List ℕ → Bool
+has store at bs = alike (take (length bs) (drop at store)) bs
+
+abbrev pub isDue : Form → Numbers → List ℕ → Due → Bool
+isDue f n store (page p bs) = has store (n .pageAt p) bs
+isDue f n store (home r bs) = has store (n .pageAt (n .firstHome + r)) bs
+isDue f n store emptied = has store (n .pageAt 0) (take 32 (drop (n .pageAt 0) (n .freshStore)))
+isDue f n store (value r bs) = alike (f .medium .settled (f .medium .fromBytes store) r) bs
+
+abbrev pub allDue : Form → Numbers → List ℕ → List Due → Bool
+allDue f n store [] = true
+allDue f n store (d ∷ ds) = isDue f n store d && allDue f n store ds
 
 abbrev pub sameℤ : ℤ → ℤ → Bool
 sameℤ (pos m) (pos n) = eqb m n
@@ -75,34 +135,87 @@ sameAge (refused a) (live b) = false
 sameAge (refused a) (stale b) = false
 sameAge (refused a) (refused b) = eqb a b
 
--- the bytes of a fresh store
-abbrev pub freshBytes : List ℕ
-freshBytes = 0x10 ∷ replicate 1055 0
-
 -- the answers to events that are all bad
 abbrev pub allBad : ℕ → List ℕ
 allBad zero = []
 allBad (suc n) = 1 ∷ 0 ∷ allBad n
 
--- The row holds of the run on bytes. A buffer of sevens is a damaged store, and a list of bad events.
-abbrev pub passes : Trial → Bool
-passes (plays store ls ds) =
-    let r = run edition1 store (eventsOf ls) (replicate 8192 0) (replicate (2 * length ls) 255) in
-    eqb (r .answer) 0 && alike (r .answers) (answersOf ls) && eqb (length (r .store)) 1056 && allDue (r .store) ds
-passes (refuses store events work answers n) =
-    let r = run edition1 (replicate store 7) (replicate events 7) (replicate work 7) (replicate answers 7) in
-    eqb (r .answer) n && alike (r .store) (replicate store 7) && alike (r .answers) (replicate answers 7)
-passes (takes store events work answers) =
-    let r = run edition1 (replicate store 7) (replicate events 7) (replicate work 7) (replicate answers 7) in
-    eqb (r .answer) 0 && alike (r .store) (replicate store 7) && alike (r .answers) (allBad (events / 4) ++ drop (2 * (events / 4)) (replicate answers 7))
-passes (lays store n) =
-    let l = layFresh edition1 (replicate store 7) in
-    eqb (l .answer) n && alike (l .store) (cond (eqb n 0) freshBytes (replicate store 7))
-passes (ages store r clock limit a) = sameAge (ageOf edition1 store r clock limit) a
+-- a run over this store has these answers, and leaves what is due
+abbrev pub played : Form → Numbers → List ℕ → List Line → List Due → Bool
+played f n store ls ds =
+    let r = run f store (eventsOf n ls) (replicate (n .workBytes) 0) (replicate (2 * length ls) 255) in
+    eqb (r .answer) 0 && alike (r .answers) (answersOf ls) && eqb (length (r .store)) (length (n .freshStore)) && allDue f n (r .store) ds
 
-abbrev pub allPass : List Trial → Bool
-allPass [] = true
-allPass (t ∷ ts) = passes t && allPass ts
+-- The row holds of the run on bytes. A buffer of sevens is a damaged store, and a list of bad events.
+abbrev pub passes : Form → Numbers → Trial → Bool
+passes f n (plays store ls ds) = played f n store ls ds
+passes f n (playsFresh ls ds) = played f n (n .freshStore) ls ds
+passes f n (refuses store events work answers a) =
+    let r = run f (replicate store 7) (replicate events 7) (replicate work 7) (replicate answers 7) in
+    eqb (r .answer) a && alike (r .store) (replicate store 7) && alike (r .answers) (replicate answers 7)
+passes f n (takes store events work answers) =
+    let r = run f (replicate store 7) (replicate events 7) (replicate work 7) (replicate answers 7) in
+    let count : ℕ = events / n .wordBytes in
+    eqb (r .answer) 0 && alike (r .store) (replicate store 7) && alike (r .answers) (allBad count ++ drop (2 * count) (replicate answers 7))
+passes f n (lays store a) =
+    let l = layFresh f (replicate store 7) in
+    eqb (l .answer) a && alike (l .store) (cond (eqb a 0) (n .freshStore) (replicate store 7))
+passes f n (ages store r clock limit a) = sameAge (ageOf f store r clock limit) a
+passes f n (damages head) = f .medium .damaged (f .medium .fromBytes head)
+
+abbrev pub allPass : Form → Numbers → List Trial → Bool
+allPass f n [] = true
+allPass f n (t ∷ ts) = passes f n t && allPass f n ts
+
+-- A row from a fresh store holds of its words, played one by one: what is due is told by the store itself, and no bytes are laid out.
+abbrev pub wordsOf : Numbers → List Line → List ℕ
+wordsOf n [] = []
+wordsOf n (l ∷ ls) = wordIn n l ∷ wordsOf n ls
+
+abbrev pub allTold : (f : Form) → f .medium .Store → List Due → Bool
+allTold f s [] = true
+allTold f s (page p bs ∷ ds) = false
+allTold f s (home r bs ∷ ds) = alike (take (length bs) (f .medium .home s r)) bs && allTold f s ds
+allTold f s (emptied ∷ ds) = f .medium .emptied s && allTold f s ds
+allTold f s (value r bs ∷ ds) = alike (f .medium .settled s r) bs && allTold f s ds
+
+abbrev pub goes : Form → Numbers → Trial → Bool
+goes f n (playsFresh ls ds) =
+    let p : Played f = play f (down (f .medium .fromBytes (n .freshStore))) (wordsOf n ls) in
+    alike (answerBytes (p .answers)) (answersOf ls) && allTold f (p .state .store) ds
+goes f n (plays store ls ds) = false
+goes f n (refuses store events work answers a) = false
+goes f n (takes store events work answers) = false
+goes f n (lays store a) = false
+goes f n (ages store r clock limit a) = false
+goes f n (damages head) = false
+
+abbrev pub allGo : Form → Numbers → List Trial → Bool
+allGo f n [] = true
+allGo f n (t ∷ ts) = goes f n t && allGo f n ts
+
+-- THE CLAIM about an edition's tables: every row of every one holds, on bytes; of its words
+abbrev pub AllHold : Form → Numbers → List (List Trial) → Type 0
+AllHold f n [] = Unit {0}
+AllHold f n (t ∷ ts) = T (allPass f n t) × AllHold f n ts
+
+abbrev pub AllGo : Form → Numbers → List (List Trial) → Type 0
+AllGo f n [] = Unit {0}
+AllGo f n (t ∷ ts) = T (allGo f n t) × AllGo f n ts
+
+-- Edition 1. The word has kind 4 bits, transaction 5, record 4, offset 5, count 6, value 8; pages of 32 bytes; home pages from page 17.
+abbrev pub freshBytes : List ℕ
+freshBytes = 0x10 ∷ replicate 1055 0
+
+abbrev pub numbers1 : Numbers
+numbers1 = record {
+  freshStore = freshBytes;
+  workBytes = 8192;
+  wordBytes = 4;
+  wordOf = λ kind t r o k v. kind * 0x10000000 + t * 0x800000 + r * 0x80000 + o * 0x4000 + k * 0x100 + v;
+  pageAt = λ p. 32 * p;
+  firstHome = 17;
+}
 
 abbrev pub blank : Page
 blank = replicate 32 0
@@ -112,27 +225,6 @@ emptyPage = 0x10 ∷ replicate 31 0
 
 abbrev pub withA5 : Page
 withA5 = set blank 2 0xA5
-
--- the word of an event, by the papers' table: kind 4 bits, transaction 5, record 4, offset 5, count 6, value 8
-abbrev pub word : ℕ → ℕ → ℕ → ℕ → ℕ → ℕ → ℕ
-word kind t r o k v = kind * 0x10000000 + t * 0x800000 + r * 0x80000 + o * 0x4000 + k * 0x100 + v
-
-abbrev pub spelled : Event → ℕ
-spelled (begin t) = word 1 t 0 0 0 0
-spelled (lock t r toWrite) = word 2 t r 0 0 0
-spelled (lock t r toRead) = word 2 t r 0 0 1
-spelled (write t r o v) = word 3 t r o 0 v
-spelled (read t r o) = word 4 t r o 0 0
-spelled (commit t k) = word 5 t 0 0 k 0
-spelled (abort t w) = word 6 t 0 0 0 (cond w 1 0)
-spelled crash = word 7 0 0 0 0 0
-spelled (recover k) = word 8 0 0 0 k 0
-spelled (prepare t k i) = word 9 t 0 0 k i
-spelled (decide d k i) = word 10 0 0 (cond d 1 0) k i
-spelled (query i) = word 11 0 0 0 0 i
-
-abbrev pub on : Event → ℕ → Line
-on e a = (spelled e, a)
 
 abbrev pub top : Event
 top = begin 31
@@ -153,18 +245,7 @@ reports t = abort t true
 
 -- a row on a fresh store that is brought up first
 abbrev pub onFresh : List Line → List Due → Trial
-onFresh ls ds = plays freshBytes (on (recover 63) 0x0000 ∷ ls) ds
-
--- the worked list, to its eleventh event and from there
-abbrev pub workedToCut : List Line
-workedToCut =
-    (0x80003F00, 0x0000) ∷ (0x1F800000, 0x0000) ∷ (0x10000000, 0x0001) ∷ (0x20980000, 0x0000) ∷ (0x309880A5, 0x0000) ∷
-    (0x50803F00, 0x0000) ∷ (0x10000000, 0x0001) ∷ (0x20980000, 0x0000) ∷ (0x30988011, 0x0000) ∷ (0x60800000, 0x0000) ∷
-    (0x50000200, 0x0B02) ∷ []
-
-abbrev pub workedFromCut : List Line
-workedFromCut =
-    (0x40188000, 0x0200) ∷ (0x80003F00, 0x0002) ∷ (0x1F800000, 0x0000) ∷ (0x20180000, 0x0000) ∷ (0x40188000, 0x00A5) ∷ []
+onFresh ls ds = playsFresh (on (recover 63) 0x0000 ∷ ls) ds
 
 -- transactions nested n deep below the first, each with its number
 abbrev pub nested : ℕ → List Line

@@ -12,7 +12,7 @@ use Rattle.rules.specs.State.{Bearer, free, active, Mode, nothing, reading, wri
 use Rattle.rules.specs.Step.{StateOf}
 use Rattle.rules.specs.Portion.{Portion, portion}
 use Rattle.rules.specs.Editions.{edition1}
-use Rattle.trials.specs.Rows.{Line, alike, eventsOf, answersOf, freshBytes, blank, withA5, on, top, locks, shares, aborts, reports, writesA5, childWrites11}
+use Rattle.trials.specs.Rows.{Line, word, alike, numbers1, eventsOf, answersOf, freshBytes, blank, withA5, on, top, locks, shares, aborts, reports, writesA5, childWrites11}
 
 -- of a state: whether it is up; a number that is free, or borne with a parent and a depth; what a transaction holds and retains of a record's lock; its
 -- version of a record, or that it has none
@@ -61,7 +61,7 @@ pub data StateTrial : Type 0 where
 
 abbrev pub passes : StateTrial → Bool
 passes (leaves store ls hs) =
-    let p : Portion edition1 = portion edition1 true (down (pagesOf store)) store (eventsOf ls) (replicate 8192 0) (replicate (2 * length ls) 255) in
+    let p : Portion edition1 = portion edition1 true (down (pagesOf store)) store (eventsOf numbers1 ls) (replicate 8192 0) (replicate (2 * length ls) 255) in
     eqb (p .answer) 0 && alike (p .answers) (answersOf ls) && hasAll (p .state) hs
 
 abbrev pub allPass : List StateTrial → Bool
@@ -125,6 +125,6 @@ stateTrials =
     -- A refusal changes nothing: 5, 6, 8, 9, 10, 14 and 1, one after the other.
     onFresh (writesA5 ++ (
     on (begin 9) 0x0500 ∷ on top 0x0001 ∷ on (locks 1 3) 0x0800 ∷ on (read 1 3 2) 0x0900 ∷ on (write 1 3 2 1) 0x0900 ∷ on (begin 0) 0x0002 ∷ on (commit 0 63) 0x0A00 ∷ on (write 0 3 2 1) 0x0E00 ∷
-    on (locks 0 4) 0x0E00 ∷ on (recover 63) 0x0300 ∷ (0x70000001, 0x0100) ∷ [])) (
+    on (locks 0 4) 0x0E00 ∷ on (recover 63) 0x0300 ∷ word 0x70000001 0x0100 ∷ [])) (
     isUp ∷ bears 0 31 1 ∷ bears 1 31 1 ∷ bears 2 0 2 ∷ vacant 3 ∷ holds 0 3 writing ∷ holds 1 3 nothing ∷ holds 0 4 nothing ∷ version 0 3 withA5 ∷ without 1 3 ∷ []) ∷
     []

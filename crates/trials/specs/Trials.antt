@@ -1,154 +1,58 @@
--- The trials at the edges that document 01 marks, as rows of one table, with rows that shut out its five shortcuts, and rows for the locks of
--- document 02: read locks, reports, live children. The rows of EdgeTrials, WordTrials, PageTrials and PreparedTrials belong to the same table.
+-- The table of trials of edition 1: the trials at the edges that document 01 marks, with rows that shut out its five shortcuts, and rows for the locks of
+-- document 02. What holds in every edition stands in CommonTrials and EdgeTrials; here, and in WordTrials, PageTrials and PreparedTrials, are the rows with
+-- edition 1's words, pages and lengths.
 use Prim.Native.Nat.{ℕ, _+_, _*_}
 use mathlib.Core.List.{List, [], _∷_, _++_}
 use lib.ListN.{set}
 use lib.IntN.{negsuc}
-use Rattle.rules.specs.Event.{begin, write, read, commit, crash, recover}
+use Rattle.rules.specs.Event.{begin, recover}
 use Rattle.rules.specs.Age.{ahead}
-use Rattle.trials.specs.Rows.{Trial, plays, refuses, ages, page, value, freshBytes, blank, emptyPage, withA5, on, top, locks, shares, aborts, reports, onFresh, workedToCut, workedFromCut, nested, writesA5, childWrites11, writesTwo, bothA5, neither}
+use Rattle.trials.specs.Rows.{Line, word, Trial, plays, refuses, ages, page, value, freshBytes, emptyPage, withA5, on, top, locks, onFresh}
+use Rattle.trials.specs.CommonTrials.{commonTrials}
 use Rattle.trials.specs.EdgeTrials.{edgeTrials}
 use Rattle.trials.specs.WordTrials.{wordTrials}
-use Rattle.trials.specs.PageTrials.{pageTrials, bitTrials}
+use Rattle.trials.specs.PageTrials.{pageTrials, ageTrials, bitTrials}
 use Rattle.trials.specs.PreparedTrials.{preparedTrials}
 
-abbrev pub trials : List Trial
-trials =
+-- document 01's worked list in words, to its eleventh event and from there
+abbrev pub wordsToCut : List Line
+wordsToCut =
+    word 0x80003F00 0x0000 ∷ word 0x1F800000 0x0000 ∷ word 0x10000000 0x0001 ∷ word 0x20980000 0x0000 ∷ word 0x309880A5 0x0000 ∷
+    word 0x50803F00 0x0000 ∷ word 0x10000000 0x0001 ∷ word 0x20980000 0x0000 ∷ word 0x30988011 0x0000 ∷ word 0x60800000 0x0000 ∷
+    word 0x50000200 0x0B02 ∷ []
+
+abbrev pub wordsFromCut : List Line
+wordsFromCut =
+    word 0x40188000 0x0200 ∷ word 0x80003F00 0x0002 ∷ word 0x1F800000 0x0000 ∷ word 0x20180000 0x0000 ∷ word 0x40188000 0x00A5 ∷ []
+
+unfoldable pub firstTrials : List Trial
+firstTrials =
     -- 1: the list in full, and its commit page after the eleventh event
-    plays freshBytes workedToCut (page 0 (0x15 ∷ 0x10 ∷ 0x00 ∷ 0x08 ∷ []) ∷ []) ∷
-    plays freshBytes (workedToCut ++ workedFromCut) (page 0 emptyPage ∷ value 3 withA5 ∷ []) ∷
-    -- 2: begin as first event
-    plays freshBytes (on top 0x0200 ∷ []) [] ∷
-    -- 3: the deepest begins, one deeper is refused
-    onFresh (nested 15 ++ (on (begin 15) 0x0600 ∷ [])) [] ∷
-    -- 5: two top transactions, one record
-    onFresh (on top 0x0000 ∷ on top 0x0001 ∷ on (locks 0 3) 0x0000 ∷ on (locks 1 3) 0x0800 ∷ []) [] ∷
-    -- 6: a child asks for what its parent holds; for what it only retains
-    onFresh (
-    on top 0x0000 ∷ on (locks 0 3) 0x0000 ∷ on (begin 0) 0x0001 ∷ on (locks 1 3) 0x0800 ∷
-    on (locks 1 4) 0x0000 ∷ on (commit 1 0) 0x0000 ∷ on (begin 0) 0x0001 ∷ on (locks 1 4) 0x0000 ∷ []) [] ∷
-    -- 7: one record, cut after 1 write: lost; after 2: survives
-    onFresh (writesA5 ++ (on (commit 0 1) 0x0B01 ∷ [])) (value 3 blank ∷ []) ∷
-    onFresh (writesA5 ++ (on (commit 0 1) 0x0B01 ∷ on (recover 63) 0x0000 ∷ [])) (value 3 blank ∷ []) ∷
-    onFresh (writesA5 ++ (on (commit 0 2) 0x0B02 ∷ [])) (value 3 withA5 ∷ []) ∷
-    onFresh (writesA5 ++ (on (commit 0 2) 0x0B02 ∷ on (recover 63) 0x0002 ∷ [])) (value 3 withA5 ∷ page 0 emptyPage ∷ []) ∷
-    -- 8: one record, cut after 3 writes; whole after 4
-    onFresh (writesA5 ++ (on (commit 0 3) 0x0B03 ∷ on top 0x0200 ∷ [])) (value 3 withA5 ∷ []) ∷
-    onFresh (writesA5 ++ (on (commit 0 4) 0x0004 ∷ on top 0x0000 ∷ [])) (value 3 withA5 ∷ page 0 emptyPage ∷ []) ∷
-    -- 10: recovery cut after 0 writes, twice, then whole: the same records
-    onFresh (writesA5 ++ (on (commit 0 2) 0x0B02 ∷ on (recover 0) 0x0B00 ∷ [])) (value 3 withA5 ∷ []) ∷
-    onFresh (writesA5 ++ (on (commit 0 2) 0x0B02 ∷ on (recover 0) 0x0B00 ∷ on (recover 0) 0x0B00 ∷ [])) (value 3 withA5 ∷ []) ∷
-    onFresh (writesA5 ++ (on (commit 0 2) 0x0B02 ∷ on (recover 0) 0x0B00 ∷ on (recover 0) 0x0B00 ∷ on (recover 2) 0x0002 ∷ [])) (
-    value 3 withA5 ∷ page 0 emptyPage ∷ []) ∷
+    plays freshBytes wordsToCut (page 0 (0x15 ∷ 0x10 ∷ 0x00 ∷ 0x08 ∷ []) ∷ []) ∷
+    plays freshBytes (wordsToCut ++ wordsFromCut) (page 0 emptyPage ∷ value 3 withA5 ∷ []) ∷
     -- 11: committed state with map 0
     plays (set freshBytes 0 0x15) (on (recover 63) 0x0400 ∷ []) (page 0 (0x15 ∷ 0x00 ∷ []) ∷ []) ∷
-    -- 12: crash while down
-    plays freshBytes (on crash 0x0000 ∷ []) [] ∷
-    -- 13: commit with a live child, then abort takes both
-    onFresh (
-    on top 0x0000 ∷ on (begin 0) 0x0001 ∷ on (commit 0 63) 0x0A00 ∷ on (aborts 0) 0x0000 ∷
-    on (locks 1 3) 0x0500 ∷ on (locks 0 3) 0x0500 ∷ []) [] ∷
     -- 14: clock 5, stamp 7
     ages (set freshBytes (32 * 20 + 3) 7) 3 5 10 (ahead (negsuc 1)) ∷
-    -- 16: abort of a parent undoes what a committed child left it
-    onFresh (
-    on top 0x0000 ∷ on (locks 0 3) 0x0000 ∷ on (write 0 3 2 0x22) 0x0000 ∷ on (begin 0) 0x0001 ∷ on (begin 1) 0x0002 ∷
-    on (locks 2 5) 0x0000 ∷ on (write 2 5 2 0x11) 0x0000 ∷ on (commit 2 0) 0x0000 ∷
-    on (locks 1 5) 0x0000 ∷ on (read 1 5 2) 0x0011 ∷ on (aborts 1) 0x0000 ∷
-    on (locks 0 5) 0x0000 ∷ on (read 0 5 2) 0x0000 ∷ on (read 0 3 2) 0x0022 ∷ []) [] ∷
-    -- Shortcut 1, a child's locks freed when it commits: a stranger is refused what the parent now retains.
-    onFresh (childWrites11 ++ (on top 0x0001 ∷ on (locks 1 3) 0x0800 ∷ [])) [] ∷
-    -- Shortcut 2, home pages before the commit page: at every cut both records or neither.
-    onFresh (writesTwo ++ (on (commit 0 2) 0x0B02 ∷ [])) (value 3 blank ∷ value 9 blank ∷ page 20 blank ∷ []) ∷
-    onFresh (writesTwo ++ (on (commit 0 3) 0x0B03 ∷ [])) (value 3 withA5 ∷ value 9 withA5 ∷ page 20 blank ∷ []) ∷
-    onFresh (writesTwo ++ (on (commit 0 4) 0x0B04 ∷ [])) bothA5 ∷
-    -- Shortcut 3, the commit page emptied before the last home page is copied, by a commit and by a recovery.
-    onFresh (writesTwo ++ (on (commit 0 5) 0x0B05 ∷ [])) bothA5 ∷
-    onFresh (writesTwo ++ (on (commit 0 5) 0x0B05 ∷ on (recover 63) 0x0003 ∷ [])) bothA5 ∷
-    onFresh (writesTwo ++ (on (commit 0 3) 0x0B03 ∷ on (recover 2) 0x0B02 ∷ [])) bothA5 ∷
-    onFresh (writesTwo ++ (on (commit 0 3) 0x0B03 ∷ on (recover 1) 0x0B01 ∷ on (recover 63) 0x0003 ∷ [])) bothA5 ∷
-    onFresh (writesTwo ++ (on (commit 0 1) 0x0B01 ∷ on (recover 63) 0x0000 ∷ [])) neither ∷
-    -- Shortcut 4, an aborted child's record restored from the home page: it is its ancestor's version again.
-    onFresh (childWrites11 ++ (
-    on (begin 0) 0x0001 ∷ on (locks 1 3) 0x0000 ∷ on (write 1 3 5 0x12) 0x0000 ∷ on (read 1 3 2) 0x0011 ∷ on (aborts 1) 0x0000 ∷
-    on (locks 0 3) 0x0000 ∷ on (read 0 3 2) 0x0011 ∷ on (read 0 3 5) 0x0000 ∷ [])) [] ∷
-    -- Shortcut 5, a retainer writes or reads without locking again.
-    onFresh (childWrites11 ++ (on (write 0 3 2 0x12) 0x0900 ∷ on (read 0 3 2) 0x0900 ∷ on (locks 0 3) 0x0000 ∷ on (read 0 3 2) 0x0011 ∷ [])) [] ∷
-    -- A parent that has a version takes its child's newer one.
-    onFresh (childWrites11 ++ (
-    on (begin 0) 0x0001 ∷ on (locks 1 3) 0x0000 ∷ on (write 1 3 2 0x22) 0x0000 ∷ on (commit 1 0) 0x0000 ∷
-    on (commit 0 63) 0x0004 ∷ [])) (value 3 (set blank 2 0x22) ∷ []) ∷
-    -- No changed record, no page write and no cut; a write of the byte that is there already counts; a child's count has no effect.
-    onFresh (on top 0x0000 ∷ on (locks 0 3) 0x0000 ∷ on (commit 0 0) 0x0000 ∷ on top 0x0000 ∷ []) [] ∷
-    onFresh (on top 0x0000 ∷ on (locks 0 3) 0x0000 ∷ on (write 0 3 2 0) 0x0000 ∷ on (commit 0 63) 0x0004 ∷ []) [] ∷
     -- Names: 24 to 30 are never live, 31 only in begin is no name; stray bits are 1 before all else.
     onFresh (
-    on (begin 24) 0x0500 ∷ on (begin 30) 0x0500 ∷ on (locks 31 3) 0x0500 ∷ (0x70000001, 0x0100) ∷ (0xC0000000, 0x0100) ∷ (0x00000000, 0x0100) ∷
-    (0x20000002, 0x0100) ∷ on (recover 63) 0x0300 ∷ []) [] ∷
+    on (begin 24) 0x0500 ∷ on (begin 30) 0x0500 ∷ on (locks 31 3) 0x0500 ∷ word 0x70000001 0x0100 ∷ word 0xC0000000 0x0100 ∷ word 0x00000000 0x0100 ∷
+    word 0x20000002 0x0100 ∷ on (recover 63) 0x0300 ∷ []) [] ∷
     -- Read locks. What is held and what is retained are apart: a retainer in write mode that holds to read does not write.
     plays freshBytes (
-    (0x80003F00, 0x0000) ∷ (0x1F800000, 0x0000) ∷ (0x10000000, 0x0001) ∷ (0x20980000, 0x0000) ∷ (0x50803F00, 0x0000) ∷
-    (0x20180001, 0x0000) ∷ (0x30180001, 0x0900) ∷ (0x20180000, 0x0000) ∷ (0x30180001, 0x0000) ∷ []) [] ∷
-    -- Two read together and neither writes; raising is refused and leaves the read hold, and is granted when the other has ended.
-    onFresh (
-    on top 0x0000 ∷ on top 0x0001 ∷ on (shares 0 3) 0x0000 ∷ on (shares 1 3) 0x0000 ∷ on (read 0 3 2) 0x0000 ∷ on (read 1 3 2) 0x0000 ∷
-    on (write 0 3 2 7) 0x0900 ∷ on (locks 0 3) 0x0800 ∷ on (locks 1 3) 0x0800 ∷ on (read 0 3 2) 0x0000 ∷ on (aborts 1) 0x0000 ∷
-    on (locks 0 3) 0x0000 ∷ on (write 0 3 2 7) 0x0000 ∷ []) [] ∷
-    -- Asking for less than is held changes nothing; nobody reads beside one that holds to write.
-    onFresh (writesA5 ++ (on (shares 0 3) 0x0000 ∷ on (write 0 3 2 7) 0x0000 ∷ on top 0x0001 ∷ on (shares 1 3) 0x0800 ∷ [])) [] ∷
-    -- A parent inherits the stronger mode, whichever comes first.
-    onFresh (
-    on top 0x0000 ∷ on (begin 0) 0x0001 ∷ on (locks 1 3) 0x0000 ∷ on (commit 1 0) 0x0000 ∷ on (begin 0) 0x0001 ∷ on (shares 1 3) 0x0000 ∷
-    on (commit 1 0) 0x0000 ∷ on top 0x0001 ∷ on (shares 1 3) 0x0800 ∷ []) [] ∷
-    onFresh (
-    on top 0x0000 ∷ on (begin 0) 0x0001 ∷ on (shares 1 3) 0x0000 ∷ on (commit 1 0) 0x0000 ∷ on (begin 0) 0x0001 ∷ on (locks 1 3) 0x0000 ∷
-    on (commit 1 0) 0x0000 ∷ on top 0x0001 ∷ on (shares 1 3) 0x0800 ∷ []) [] ∷
-    -- Who retains to read stops a stranger's write and not its read; a child of the retainer is stopped by the stranger alone.
-    onFresh (
-    on top 0x0000 ∷ on (begin 0) 0x0001 ∷ on (shares 1 3) 0x0000 ∷ on (commit 1 0) 0x0000 ∷ on top 0x0001 ∷ on (locks 1 3) 0x0800 ∷
-    on (shares 1 3) 0x0000 ∷ on (begin 0) 0x0002 ∷ on (locks 2 3) 0x0800 ∷ on (aborts 1) 0x0000 ∷ on (locks 2 3) 0x0000 ∷ []) [] ∷
-    -- Two that retain to read need not be on one line: a child of the one reads and does not write.
-    onFresh (
-    on top 0x0000 ∷ on top 0x0001 ∷ on (begin 0) 0x0002 ∷ on (begin 1) 0x0003 ∷ on (shares 2 3) 0x0000 ∷ on (shares 3 3) 0x0000 ∷
-    on (commit 2 0) 0x0000 ∷ on (commit 3 0) 0x0000 ∷ on (begin 0) 0x0002 ∷ on (shares 2 3) 0x0000 ∷ on (locks 2 3) 0x0800 ∷
-    on (commit 1 0) 0x0000 ∷ on (locks 2 3) 0x0000 ∷ []) [] ∷
+    word 0x80003F00 0x0000 ∷ word 0x1F800000 0x0000 ∷ word 0x10000000 0x0001 ∷ word 0x20980000 0x0000 ∷ word 0x50803F00 0x0000 ∷
+    word 0x20180001 0x0000 ∷ word 0x30180001 0x0900 ∷ word 0x20180000 0x0000 ∷ word 0x30180001 0x0000 ∷ []) [] ∷
     -- A lock takes the values 0 and 1; another is 1, also while down.
-    plays freshBytes ((0x20180002, 0x0100) ∷ (0x20180001, 0x0200) ∷ []) [] ∷
-    onFresh (on top 0x0000 ∷ (0x20180002, 0x0100) ∷ (0x201800FF, 0x0100) ∷ (0x20180001, 0x0000) ∷ []) [] ∷
-    -- Reports. The parent retains what the aborted child held, in the same mode: a stranger does not write, and reads.
-    onFresh (
-    on top 0x0000 ∷ on (begin 0) 0x0001 ∷ on (shares 1 3) 0x0000 ∷ (0x60800001, 0x0000) ∷ on top 0x0001 ∷ on (locks 1 3) 0x0800 ∷
-    on (shares 1 3) 0x0000 ∷ on (read 0 3 2) 0x0900 ∷ on (shares 0 3) 0x0000 ∷ []) [] ∷
-    -- Or in its own, if that is stronger.
-    onFresh (childWrites11 ++ (
-    on (begin 0) 0x0001 ∷ on (shares 1 3) 0x0000 ∷ on (reports 1) 0x0000 ∷ on top 0x0001 ∷ on (shares 1 3) 0x0800 ∷ [])) [] ∷
-    -- It retains without a version what the child retained with one, and reads its own byte.
-    onFresh (writesA5 ++ (
-    on (begin 0) 0x0001 ∷ on (begin 1) 0x0002 ∷ on (locks 2 4) 0x0000 ∷ on (write 2 4 2 0x11) 0x0000 ∷ on (commit 2 0) 0x0000 ∷
-    on (reports 1) 0x0000 ∷ on top 0x0001 ∷ on (shares 1 4) 0x0800 ∷ on (locks 0 4) 0x0000 ∷ on (read 0 4 2) 0x0000 ∷ on (commit 0 63) 0x0004 ∷ [])) (
-    value 3 withA5 ∷ value 4 blank ∷ []) ∷
-    -- What live descendants had is discarded; without a report so is what the child had.
-    onFresh (
-    on top 0x0000 ∷ on (begin 0) 0x0001 ∷ on (shares 1 3) 0x0000 ∷ on (begin 1) 0x0002 ∷ on (shares 2 3) 0x0000 ∷ on (locks 2 4) 0x0000 ∷ on (reports 1) 0x0000 ∷
-    on top 0x0001 ∷ on (locks 1 4) 0x0000 ∷ on (locks 1 3) 0x0800 ∷ on (read 2 4 2) 0x0500 ∷ []) [] ∷
-    onFresh (
-    on top 0x0000 ∷ on (begin 0) 0x0001 ∷ on (locks 1 3) 0x0000 ∷ on (aborts 1) 0x0000 ∷ on top 0x0001 ∷ on (locks 1 3) 0x0000 ∷ []) [] ∷
-    -- A top transaction has no parent and discards.
-    onFresh (on top 0x0000 ∷ on (locks 0 3) 0x0000 ∷ (0x60000001, 0x0000) ∷ on top 0x0000 ∷ on (locks 0 3) 0x0000 ∷ []) [] ∷
+    plays freshBytes (word 0x20180002 0x0100 ∷ word 0x20180001 0x0200 ∷ []) [] ∷
+    onFresh (on top 0x0000 ∷ word 0x20180002 0x0100 ∷ word 0x201800FF 0x0100 ∷ word 0x20180001 0x0000 ∷ []) [] ∷
     -- An abort takes the values 0 and 1; another is 1, also while down.
-    plays freshBytes ((0x60000002, 0x0100) ∷ (0x60000001, 0x0200) ∷ []) [] ∷
-    onFresh (on top 0x0000 ∷ (0x60000002, 0x0100) ∷ (0x600000FF, 0x0100) ∷ (0x60000000, 0x0000) ∷ []) [] ∷
-    -- While a child is live its parent neither locks, reads nor writes, also what it holds; it begins another, and a commit is 10.
-    onFresh (writesA5 ++ (
-    on (begin 0) 0x0001 ∷ (0x40180000, 0x0E00) ∷ on (write 0 3 2 7) 0x0E00 ∷ on (locks 0 3) 0x0E00 ∷ on (begin 0) 0x0002 ∷ on (commit 0 63) 0x0A00 ∷
-    on (aborts 1) 0x0000 ∷ on (read 0 3 2) 0x0E00 ∷ on (commit 2 0) 0x0000 ∷ on (read 0 3 2) 0x00A5 ∷ on (locks 0 3) 0x0000 ∷ [])) [] ∷
-    -- That is tried after 5 and before 8 and 9, and goes by a grandparent too; it does not stop an abort.
-    onFresh (
-    on top 0x0000 ∷ on top 0x0001 ∷ on (locks 1 3) 0x0000 ∷ on (begin 0) 0x0002 ∷ on (begin 2) 0x0003 ∷ on (locks 0 3) 0x0E00 ∷ on (read 0 3 2) 0x0E00 ∷
-    on (write 2 3 2 7) 0x0E00 ∷ on (locks 3 3) 0x0800 ∷ on (read 3 3 2) 0x0900 ∷ on (locks 4 3) 0x0500 ∷ on (aborts 0) 0x0000 ∷ on (read 0 3 2) 0x0500 ∷
-    on (read 1 3 2) 0x0000 ∷ []) [] ∷
+    plays freshBytes (word 0x60000002 0x0100 ∷ word 0x60000001 0x0200 ∷ []) [] ∷
+    onFresh (on top 0x0000 ∷ word 0x60000002 0x0100 ∷ word 0x600000FF 0x0100 ∷ word 0x60000000 0x0000 ∷ []) [] ∷
     -- Refused before the first event, in the order 22, 24, 20, 21, with nothing touched.
     refuses 1055 5 8191 0 22 ∷ refuses 1056 5 8191 0 24 ∷ refuses 1056 5 8192 0 20 ∷
     refuses 1056 16388 8192 8194 20 ∷ refuses 1056 8 8192 3 21 ∷
-    -- Transactions and locks at their edges, every bit of the event word, the store, prepared transactions.
-    (edgeTrials ++ (wordTrials ++ (pageTrials ++ (bitTrials ++ preparedTrials))))
+    []
+
+-- THE TABLES of edition 1: these rows, what holds in every edition, every bit of the event word, the store, prepared transactions.
+abbrev pub trials : List (List Trial)
+trials = firstTrials ∷ commonTrials ∷ edgeTrials ∷ wordTrials ∷ pageTrials ∷ ageTrials ∷ bitTrials ∷ preparedTrials ∷ []

@@ -14,7 +14,7 @@ use Rattle.rules.specs.Step.{firstOf}
 use Rattle.rules.specs.Run.{answerBytes, Played, play}
 use Rattle.rules.specs.Waiting.{WaitingRow, Pointings, pointsTo, isCycle, reportRefusals}
 use Rattle.rules.specs.Editions.{edition1}
-use Rattle.trials.specs.Rows.{Line, answersOf, on, top, locks, shares}
+use Rattle.trials.specs.Rows.{Line, numbers1, wordsOf, answersOf, on, top, locks, shares}
 
 -- On a fresh store, events with the answers due, and waiting rows. Then: of each transaction from 0, to whom it points, and nobody else points; a
 -- list that is a cycle, or is none; or the refusal due, with a state that is taken for sound or for unsound.
@@ -22,10 +22,6 @@ pub data WaitingTrial : Type 0 where
   points : List Line → List WaitingRow → List (List ℕ) → WaitingTrial
   turns : List Line → List WaitingRow → List ℕ → Bool → WaitingTrial
   refuses : List Line → Bool → List WaitingRow → Option ℕ → WaitingTrial
-
-abbrev wordsOf : List Line → List ℕ
-wordsOf [] = []
-wordsOf (l ∷ ls) = l .0 ∷ wordsOf ls
 
 -- transactions beyond these play no part in a trial
 abbrev few : ℕ
@@ -45,7 +41,7 @@ sameOption (some m) none = false
 sameOption (some m) (some n) = same m n
 
 abbrev playedOn : List Line → Played edition1
-playedOn ls = play edition1 (down (edition1 .medium .fresh)) (wordsOf ls)
+playedOn ls = play edition1 (down (edition1 .medium .fresh)) (wordsOf numbers1 ls)
 
 -- the events are answered so
 abbrev answered : List Line → Played edition1 → Bool

@@ -3,12 +3,12 @@
 use Prim.Native.Nat.{ℕ, zero, suc, _+_, _*_, _^_}
 use mathlib.Core.List.{List, [], _∷_, _++_}
 use Rattle.rules.specs.Event.{write, read, commit}
-use Rattle.trials.specs.Rows.{Line, Trial, plays, page, freshBytes, emptyPage, on, top, locks, onFresh}
+use Rattle.trials.specs.Rows.{Line, word, Trial, plays, page, freshBytes, emptyPage, on, top, locks, onFresh}
 
 -- the words that have one more bit than this one, at n places from i on, and their answer
 abbrev pub bits : ℕ → ℕ → ℕ → ℕ → List Line
 bits w i zero a = []
-bits w i (suc n) a = (w + 2 ^ i, a) ∷ bits w (suc i) n a
+bits w i (suc n) a = word (w + 2 ^ i) a ∷ bits w (suc i) n a
 
 abbrev pub whileDown : List Line → Trial
 whileDown ls = plays freshBytes ls (page 0 emptyPage ∷ [])
@@ -18,7 +18,7 @@ abbrev pub tops : ℕ → ℕ → List Line
 tops i zero = []
 tops i (suc n) = on top i ∷ tops (suc i) n
 
-abbrev pub wordTrials : List Trial
+unfoldable pub wordTrials : List Trial
 wordTrials =
     -- begin: the transaction, bits 23 to 27
     whileDown (bits 0x10000000 0 23 0x0100 ++ bits 0x10000000 23 5 0x0200) ∷
@@ -33,7 +33,7 @@ wordTrials =
     -- abort: transaction, and the value to 1
     whileDown (bits 0x60000000 0 1 0x0200 ++ (bits 0x60000000 1 22 0x0100 ++ bits 0x60000000 23 5 0x0200)) ∷
     -- crash: nothing
-    whileDown (bits 0x70000000 0 28 0x0100 ++ ((0x70000000, 0x0000) ∷ [])) ∷
+    whileDown (bits 0x70000000 0 28 0x0100 ++ (word 0x70000000 0x0000 ∷ [])) ∷
     -- recover: the count; each bit of it is a count that an empty commit page doesn't ask for, and then the store is up
     whileDown (bits 0x80000000 0 8 0x0100 ++ (bits 0x80000000 14 14 0x0100 ++ (bits 0x80000000 8 1 0x0000 ++ bits 0x80000000 9 5 0x0300))) ∷
     -- prepare: transaction, count and value
@@ -44,15 +44,15 @@ wordTrials =
     whileDown (bits 0xB0000000 0 8 0x0200 ++ bits 0xB0000000 8 20 0x0100) ∷
     -- there is no other kind
     whileDown (
-    (0x00000000, 0x0100) ∷ (0xC0000000, 0x0100) ∷ (0xD0000000, 0x0100) ∷ (0xE0000000, 0x0100) ∷ (0xF0000000, 0x0100) ∷ bits 0x00000000 0 28 0x0100 ++
+    word 0x00000000 0x0100 ∷ word 0xC0000000 0x0100 ∷ word 0xD0000000 0x0100 ∷ word 0xE0000000 0x0100 ∷ word 0xF0000000 0x0100 ∷ bits 0x00000000 0 28 0x0100 ++
     (bits 0xC0000000 0 28 0x0100)) ∷
     -- The last of each field: transaction 23, record 15, offset 31, value FF. A field is neither wider nor narrower, and stands beside its neighbour.
     onFresh (tops 0 24 ++ (
-    (0x2BF80000, 0x0000) ∷ (0x3BFFC0FF, 0x0000) ∷ (0x4BFFC000, 0x00FF) ∷ (0x4BFF8000, 0x0000) ∷ (0x4BF80000, 0x0000) ∷ (0x4BF7C000, 0x0900) ∷ (0x4B7FC000, 0x0900) ∷
-    (0x5B803F00, 0x0004) ∷ (0x4BFFC000, 0x0500) ∷ [])) (
+    word 0x2BF80000 0x0000 ∷ word 0x3BFFC0FF 0x0000 ∷ word 0x4BFFC000 0x00FF ∷ word 0x4BFF8000 0x0000 ∷ word 0x4BF80000 0x0000 ∷ word 0x4BF7C000 0x0900 ∷ word 0x4B7FC000 0x0900 ∷
+    word 0x5B803F00 0x0004 ∷ word 0x4BFFC000 0x0500 ∷ [])) (
     page 32 (0 ∷ 0 ∷ []) ∷ page 0 emptyPage ∷ []) ∷
     -- The first of each: transaction 0, record 0, offset 0.
-    onFresh (on top 0x0000 ∷ (0x20000000, 0x0000) ∷ (0x30000001, 0x0000) ∷ (0x40000000, 0x0001) ∷ (0x40004000, 0x0000) ∷ (0x50000400, 0x0004) ∷ []) (
+    onFresh (on top 0x0000 ∷ word 0x20000000 0x0000 ∷ word 0x30000001 0x0000 ∷ word 0x40000000 0x0001 ∷ word 0x40004000 0x0000 ∷ word 0x50000400 0x0004 ∷ []) (
     page 17 (1 ∷ 0 ∷ []) ∷ page 1 (1 ∷ 0 ∷ []) ∷ page 18 (0 ∷ 0 ∷ []) ∷ page 0 emptyPage ∷ []) ∷
     -- Transaction 3 and record 3 are two things; so are offset 3 and count 3.
     onFresh (tops 0 4 ++ (

@@ -2,7 +2,7 @@
 
 use crate::command::{digits, number, record, Command};
 use crate::failure::{Failure, Outcome};
-use crate::{files, say};
+use crate::{edition2, files, say};
 use nekahuiro::{Clock, Limit};
 
 /// The command.
@@ -24,8 +24,16 @@ fn run(words: &[String]) -> Outcome {
     let ([path, record, clock, limit], _) = COMMAND.read(words)?;
     let (clock, limit) = (minutes("clock", clock)?, minutes("limit", limit)?);
     digits("record", record)?;
-    let store = files::read_store(path)?;
-    match store.age(self::record(record)?, Clock(clock), Limit(limit)) {
+    let (clock, limit) = (Clock(clock), Limit(limit));
+    let told = match edition2::is_store(path) {
+        true => edition2::read_store(path)?
+            .age(edition2::record(record)?, clock, limit)
+            .map_err(|refusal| refusal.to_string()),
+        false => {
+            files::read_store(path)?.age(self::record(record)?, clock, limit).map_err(|refusal| refusal.to_string())
+        }
+    };
+    match told {
         Ok(verdict) => say(&format!("{verdict}\n")),
         Err(refusal) => {
             let reason = format!("{path}: {refusal}");

@@ -1,5 +1,6 @@
 //! Reading files.
 
+use crate::edition2;
 use crate::failure::{Failure, Outcome};
 use nekahuiro::limits::STORE_BYTES;
 use nekahuiro::Store;
@@ -17,10 +18,11 @@ pub fn read_store(path: &str) -> Outcome<Store> {
         .map_err(|error| cant_read(path, &error, "check the name; `./nekahuiro fresh STORE` makes a store"))?;
     Store::of(&bytes).map_err(|refusal| {
         let found = length_in_words(path, bytes.len(), STORE_BYTES);
-        Failure::refused(
-            &format!("{path} is no store: it has {found} ({refusal})"),
-            "name a store; `./nekahuiro fresh STORE` makes one",
-        )
+        let mend = match edition2::is_store(path) {
+            true => "it is as long as a store of edition 2, which `play`, `show` and `age` take",
+            false => "name a store; `./nekahuiro fresh STORE` makes one",
+        };
+        Failure::refused(&format!("{path} is no store: it has {found} ({refusal})"), mend)
     })
 }
 

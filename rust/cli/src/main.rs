@@ -9,6 +9,7 @@ mod command;
 mod commands;
 mod demo;
 mod depot;
+mod edition2;
 mod encode;
 mod failure;
 mod files;

@@ -7,7 +7,7 @@ use crate::files::cant_read;
 use crate::follow::Follower;
 use crate::pair::Pair;
 use crate::state_file::{self, Kept};
-use crate::{files, number_of, say};
+use crate::{edition2, files, number_of, say};
 use nekahuiro::limits::{PAGES, RECORDS};
 use nekahuiro::{CommitPage, Place, Record, Store};
 use std::fmt::Write;
@@ -33,6 +33,9 @@ fn run(words: &[String]) -> Outcome {
         (Some(_), Some(_)) => Err(COMMAND.misuse("--diff and --state don't go together")),
         (Some(other), None) => say(&difference(path, other)?),
         (None, Some(state)) => say(&with_state(path, state)?),
+        (None, None) if edition2::is_store(path) => {
+            say(&format!("{}\n{}", visible(path), edition2::records(&edition2::read_store(path)?)))
+        }
         (None, None) => say(&format!("{}\n{}", visible(path), records(&files::read_store(path)?))),
     }
 }
@@ -115,15 +118,9 @@ fn page_in_words(page: usize) -> String {
 pub fn commit_page(store: &Store) -> String {
     let head = store.page(0)[..4].iter().map(|byte| format!("{byte:02X}")).collect::<Vec<_>>().join(" ");
     match store.commit_page() {
-        CommitPage::Empty => format!("page 0 ({head} ..): empty, no commit is under way"),
+        CommitPage::Empty => empty(&head),
         CommitPage::Committed(map) => {
-            let named: Vec<String> = map.records().map(|record| record.to_string()).collect();
-            let (records, pages) = match named.len() {
-                1 => ("record", "its intention page"),
-                _ => ("records", "their intention pages"),
-            };
-            let named = named.join(", ");
-            format!("page 0 ({head} ..): committed, {records} {named}; a recover will copy {pages} home")
+            committed(&head, &map.records().map(|record| record.to_string()).collect::<Vec<_>>())
         }
         CommitPage::Prepared(map, identity) => {
             let named: Vec<String> = map.records().map(|record| record.to_string()).collect();
@@ -134,10 +131,28 @@ pub fn commit_page(store: &Store) -> String {
                 "page 0 ({head} ..): prepared with identity {identity}, {records} {named}; locked until its decision"
             )
         }
-        CommitPage::Damaged(why) => {
-            format!("page 0 ({head} ..): damaged, {why}; recover and age are refused with 4, home pages are shown")
-        }
+        CommitPage::Damaged(why) => damaged(&head, why),
     }
+}
+
+/// An empty commit page in words.
+pub fn empty(head: &str) -> String {
+    format!("page 0 ({head} ..): empty, no commit is under way")
+}
+
+/// One that names these records in words.
+pub fn committed(head: &str, named: &[String]) -> String {
+    let (records, pages) = match named.len() {
+        1 => ("record", "its intention page"),
+        _ => ("records", "their intention pages"),
+    };
+    let named = named.join(", ");
+    format!("page 0 ({head} ..): committed, {records} {named}; a recover will copy {pages} home")
+}
+
+/// One that is damaged in words.
+pub fn damaged(head: &str, why: &str) -> String {
+    format!("page 0 ({head} ..): damaged, {why}; recover and age are refused with 4, home pages are shown")
 }
 
 fn place(store: &Store, record: Record) -> String {

@@ -11,16 +11,21 @@
 //!   values of lost transactions' reads, and the same settled records ([`second_half`]).
 //!
 //! And that the run is as if one transaction came at a time ([`serial()`]).
+//!
+//! All this is said of the plain form, edition 1 on atomic pages; a [`Form`] says it of others. Where pages are pairs of
+//! copies, records are read through the pairs, on the [premise](Form::premise) of at most one bad copy in each.
 
+mod form;
 mod serial;
 mod settled;
 mod telling;
 mod word;
 
-pub use serial::{serial, Placed, Serial, Turn, Unlike};
-pub use settled::{prepared, settled, Prepared, Records};
+pub use form::Form;
+pub use serial::{serial, serial_of, Placed, Serial, Turn, Unlike};
+pub use settled::{prepared, settled, Page, Prepared, Records};
 pub use telling::{tell, tell_from, Absurd, Decision, Earlier, End, History, Transaction, Write};
-use word::{Kind, Word};
+use word::Kind;
 
 /// What demand 3 forbids.
 #[derive(Clone, Debug, PartialEq, Eq)]
@@ -60,7 +65,7 @@ impl From<Absurd> for Breach {
     }
 }
 
-/// A run that was played: four bytes an event, two bytes an answer.
+/// A run that was played: as many bytes an event as the form's words have, two bytes an answer.
 #[derive(Clone, Copy)]
 pub struct Run<'r> {
     /// The store before.
@@ -73,54 +78,63 @@ pub struct Run<'r> {
     pub after: &'r [u8],
 }
 
-/// Checks the first half and hands out the history.
+/// Checks the first half of a run of the plain form and hands out the history.
 pub fn first_half(run: Run) -> Result<History, Breach> {
-    let history = tell(run.events, run.answers)?;
-    let mut due = settled(run.before);
-    if let Some(decision) = history.decided_before {
-        let absurd = Absurd { at: decision.at, what: "decides, but nothing is prepared with its identity" };
-        let start = prepared(run.before).filter(|start| start.identity == decision.identity);
-        let start = start.ok_or(Breach::Absurd(absurd))?;
-        if decision.commit {
-            start.pages.into_iter().for_each(|(record, page)| due[record] = page);
+    Form::PLAIN.first_half(run)
+}
+
+impl Form {
+    /// Checks the first half and hands out the history.
+    pub fn first_half(self, run: Run) -> Result<History, Breach> {
+        let history = self.tell(run.events, run.answers)?;
+        let mut due = self.settled(run.before);
+        if let Some(decision) = history.decided_before {
+            let absurd = Absurd { at: decision.at, what: "decides, but nothing is prepared with its identity" };
+            let start = prepared(run.before).filter(|start| start.identity == decision.identity);
+            let start = start.ok_or(Breach::Absurd(absurd))?;
+            if decision.commit {
+                start.pages.into_iter().for_each(|(record, page)| due[record] = page);
+            }
         }
-    }
-    for write in history.surviving_writes() {
-        due[usize::from(write.record)][usize::from(write.offset)] = write.value;
-    }
-    let found = settled(run.after);
-    for (record, (due, found)) in due.iter().zip(&found).enumerate() {
-        if let Some(offset) = (0..due.len()).find(|offset| due[*offset] != found[*offset]) {
-            return Err(Breach::Settled { record, offset, due: due[offset], found: found[offset] });
+        for write in history.surviving_writes() {
+            due[usize::from(write.record)][usize::from(write.offset)] = write.value;
         }
+        let found = self.settled(run.after);
+        for (record, (due, found)) in due.iter().zip(&found).enumerate() {
+            if let Some(offset) = (0..due.len()).find(|offset| due[*offset] != found[*offset]) {
+                return Err(Breach::Settled { record, offset, due: due[offset], found: found[offset] });
+            }
+        }
+        Ok(history)
     }
-    Ok(history)
 }
 
 /// The list of a second run: the values of lost transactions' accepted writes go through `change`.
 /// None if there is no such write.
 pub fn second_list(history: &History, events: &[u8], mut change: impl FnMut(u8) -> u8) -> Option<Vec<u8>> {
     let lost = |write: &&Write| !history.transactions[write.transaction].survives;
-    let mut list = None;
+    let (form, mut list) = (history.form, None);
     for write in history.writes.iter().filter(lost) {
-        list.get_or_insert_with(|| events.to_vec())[4 * write.at + 3] = change(write.value);
+        let list: &mut Vec<u8> = list.get_or_insert_with(|| events.to_vec());
+        form.put_value(&mut list[form.word_bytes * write.at..][..form.word_bytes], change(write.value));
     }
     list
 }
 
 /// Checks the second half: `second` has the same start store and a list by [`second_list`].
 pub fn second_half(history: &History, first: Run, second: Run) -> Result<(), Breach> {
+    let form = history.form;
     let answers = first.answers.chunks_exact(2).zip(second.answers.chunks_exact(2));
-    for (at, ((one, two), word)) in answers.zip(first.events.chunks_exact(4)).enumerate() {
+    for (at, ((one, two), word)) in answers.zip(first.events.chunks_exact(form.word_bytes)).enumerate() {
         let (one, two) = ([one[0], one[1]], [two[0], two[1]]);
         let lost = history.owner[at].is_some_and(|owner| !history.transactions[owner].survives);
         let accepted = one[0] == 0 || one[0] == 11;
-        let free_value = lost && accepted && Word::of(word).kind == Kind::Read;
+        let free_value = lost && accepted && form.word(word).kind == Kind::Read;
         if one[0] != two[0] || (one[1] != two[1] && !free_value) {
             return Err(Breach::Answer { at, first: one, second: two });
         }
     }
-    let (one, two) = (settled(first.after), settled(second.after));
+    let (one, two) = (form.settled(first.after), form.settled(second.after));
     match (0..one.len()).find(|record| one[*record] != two[*record]) {
         Some(record) => Err(Breach::SecondSettled { record }),
         None => Ok(()),

@@ -5,32 +5,33 @@
 //! stands at its commit. Played over the same store, each commit whole, they leave the same settled
 //! records, and each surviving read gives the same byte.
 
-use crate::word::{Kind, Word, WORD};
-use crate::{settled, End, History, Run};
+use crate::word::{Kind, Word};
+use crate::{End, Form, History, Run};
 use std::collections::BTreeMap;
 
-/// The serial list of a run.
+/// The serial list of a run, in words of so many bytes.
 #[derive(Clone, Debug)]
-pub struct Serial {
+pub struct Serial<const WORD: usize = 4> {
     /// The top transactions that are played, one after the other.
-    pub turns: Vec<Turn>,
+    pub turns: Vec<Turn<WORD>>,
+    form: Form,
 }
 
 /// A top transaction's turn.
 #[derive(Clone, Debug)]
-pub struct Turn {
+pub struct Turn<const WORD: usize = 4> {
     /// The top transaction's place among the transactions; none for one that was prepared in the start
     /// store, of which the decision alone is played.
     pub transaction: Option<usize>,
     /// Its last event's place in the list: this one stored its commit record or the decision on it.
     pub stored: usize,
     /// The events of the top transaction and of its surviving descendants, in list order.
-    pub events: Vec<Placed>,
+    pub events: Vec<Placed<WORD>>,
 }
 
 /// An event of the serial list.
 #[derive(Clone, Copy, Debug, PartialEq, Eq)]
-pub struct Placed {
+pub struct Placed<const WORD: usize = 4> {
     /// Where it stood in the list.
     pub at: usize,
     /// How it is played: with the numbers that begins give now, and no page write cut.
@@ -69,17 +70,20 @@ pub enum Unlike {
     Longer,
 }
 
-/// A recover that nothing cuts.
-const RECOVER: [u8; WORD] = [0x80, 0, 63, 0];
-
-/// Finds the serial list of a run, whose history this is.
+/// Finds the serial list of a run of a form with words of four bytes, whose history this is.
 pub fn serial(history: &History, events: &[u8], answers: &[u8]) -> Serial {
+    serial_of(history, events, answers)
+}
+
+/// Finds the serial list of a run, whose history this is. The form's words have so many bytes.
+pub fn serial_of<const WORD: usize>(history: &History, events: &[u8], answers: &[u8]) -> Serial<WORD> {
+    let form = history.form;
     let mut turns = turns(history);
     let by_top: BTreeMap<_, _> = turns.iter().enumerate().map(|(turn, of)| (of.transaction, turn)).collect();
     let by_last: BTreeMap<_, _> = turns.iter().enumerate().map(|(turn, of)| (of.stored, turn)).collect();
     let mut numbers = vec![Numbers::default(); turns.len()];
     for (at, (bytes, answer)) in events.chunks_exact(WORD).zip(answers.chunks_exact(2)).enumerate() {
-        let word = Word::of(bytes);
+        let word = form.word(bytes);
         let accepted = answer[0] == 0 || answer[0] == 11;
         let owner = history.owner[at].filter(|owner| accepted && history.transactions[*owner].survives);
         let turn = match owner {
@@ -89,19 +93,19 @@ pub fn serial(history: &History, events: &[u8], answers: &[u8]) -> Serial {
         if let Some(turn) = turn {
             let (number, value) = owner.map_or((None, None), |owner| numbers[*turn].event(history, &word, owner));
             let value = if word.kind == Kind::Read { Some(answer[1]) } else { value };
-            turns[*turn].events.push(Placed { at, word: word.again(bytes, number), value });
+            turns[*turn].events.push(Placed { at, word: form.again(bytes, number), value });
         }
     }
-    Serial { turns }
+    Serial { turns, form }
 }
 
 /// The turns, still without their events.
-fn turns(history: &History) -> Vec<Turn> {
+fn turns<const WORD: usize>(history: &History) -> Vec<Turn<WORD>> {
     let tops = history.transactions.iter().enumerate();
     let survivors = tops.filter(|(_, told)| told.survives && told.parent.is_none());
     let last = survivors.filter_map(|(top, _)| stored(history, top).map(|stored| (Some(top), stored)));
     let last = last.chain(history.decided_before.map(|decision| (None, decision.at)));
-    let mut turns: Vec<Turn> =
+    let mut turns: Vec<Turn<WORD>> =
         last.map(|(transaction, stored)| Turn { transaction, stored, events: Vec::new() }).collect();
     turns.sort_by_key(|turn| turn.stored);
     turns
@@ -138,15 +142,15 @@ impl Numbers {
     }
 }
 
-impl Serial {
+impl<const WORD: usize> Serial<WORD> {
     /// The event words to play.
     pub fn words(&self) -> Vec<u8> {
         let events = self.events().map(|placed| placed.word);
-        std::iter::once(RECOVER).chain(events).flatten().collect()
+        std::iter::once(self.form.recover()).chain(events).flatten().collect()
     }
 
     /// All events but the recover.
-    pub fn events(&self) -> impl Iterator<Item = &Placed> {
+    pub fn events(&self) -> impl Iterator<Item = &Placed<WORD>> {
         self.turns.iter().flat_map(|turn| &turn.events)
     }
 
@@ -170,7 +174,7 @@ impl Serial {
                 _ => {}
             }
         }
-        let (due, found) = (settled(run.after), settled(again.after));
+        let (due, found) = (self.form.settled(run.after), self.form.settled(again.after));
         if let Some(record) = (0..due.len()).find(|record| due[*record] != found[*record]) {
             return Err(Unlike::Settled { record });
         }

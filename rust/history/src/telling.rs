@@ -1,6 +1,7 @@
 //! Transactions and writes, told from the events and their answers alone, in list order.
 
 use crate::word::{Kind, Word};
+use crate::Form;
 
 /// How a transaction ended.
 #[derive(Clone, Copy, Debug, PartialEq, Eq)]
@@ -100,6 +101,8 @@ pub struct History {
     pub decided_before: Option<Decision>,
     /// Transactions and the records that they had changed before the first event.
     carried: Vec<(usize, u8)>,
+    /// The form of the store.
+    pub(crate) form: Form,
 }
 
 /// An answer that no right run gives, at this event.
@@ -111,21 +114,34 @@ pub struct Absurd {
     pub what: &'static str,
 }
 
-/// Tells the history of a run; the list has four bytes an event, the answers two.
+/// Tells the history of a run of the plain form; the list has four bytes an event, the answers two.
 pub fn tell(events: &[u8], answers: &[u8]) -> Result<History, Absurd> {
-    tell_from(&[], events, answers)
+    Form::PLAIN.tell(events, answers)
 }
 
-/// Tells the history of a portion, before which these transactions are live, parents before children.
+/// Tells the history of a portion of the plain form, before which these transactions are live, parents before children.
 pub fn tell_from(earlier: &[Earlier], events: &[u8], answers: &[u8]) -> Result<History, Absurd> {
-    let mut teller = Teller { history: History::default(), bearers: [None; 32], waiting: None };
-    earlier.iter().for_each(|transaction| teller.earlier(transaction));
-    for (at, (word, answer)) in events.chunks_exact(4).zip(answers.chunks_exact(2)).enumerate() {
-        teller.event(at, Word::of(word), answer[0], answer[1])?;
+    Form::PLAIN.tell_from(earlier, events, answers)
+}
+
+impl Form {
+    /// Tells the history of a run.
+    pub fn tell(self, events: &[u8], answers: &[u8]) -> Result<History, Absurd> {
+        self.tell_from(&[], events, answers)
     }
-    let mut history = teller.history;
-    history.judge();
-    Ok(history)
+
+    /// Tells the history of a portion, before which these transactions are live, parents before children.
+    pub fn tell_from(self, earlier: &[Earlier], events: &[u8], answers: &[u8]) -> Result<History, Absurd> {
+        let history = History { form: self, ..History::default() };
+        let mut teller = Teller { history, bearers: [None; 32], waiting: None };
+        earlier.iter().for_each(|transaction| teller.earlier(transaction));
+        for (at, (word, answer)) in events.chunks_exact(self.word_bytes).zip(answers.chunks_exact(2)).enumerate() {
+            teller.event(at, self.word(word), answer[0], answer[1])?;
+        }
+        let mut history = teller.history;
+        history.judge();
+        Ok(history)
+    }
 }
 
 struct Teller {

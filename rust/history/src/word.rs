@@ -1,7 +1,6 @@
 //! An event word's fields, as far as the history needs them.
 
-/// The bytes of an event word.
-pub const WORD: usize = 4;
+use crate::Form;
 
 /// The kinds that matter for the history.
 #[derive(Clone, Copy, Debug, PartialEq, Eq)]
@@ -45,10 +44,50 @@ pub struct Word {
     pub value: u8,
 }
 
-impl Word {
-    /// Takes four bytes apart.
-    pub fn of(bytes: &[u8]) -> Word {
-        let kind = match bytes[0] >> 4 {
+/// Where a field of a word begins, counted in bits from the left, and how many it has.
+struct Field(u32, u32);
+
+const KIND: Field = Field(0, 4);
+const TRANSACTION: Field = Field(4, 5);
+
+impl Field {
+    fn of(&self, bits: u64) -> u8 {
+        (bits << self.0 >> (64 - self.1)) as u8
+    }
+
+    fn put(&self, bits: u64, number: u8) -> u64 {
+        let behind = 64 - self.0 - self.1;
+        let mask = ((1 << self.1) - 1) << behind;
+        bits & !mask | u64::from(number) << behind & mask
+    }
+}
+
+impl Form {
+    fn record_field(&self) -> Field {
+        Field(9, self.record_bits)
+    }
+
+    fn offset_field(&self) -> Field {
+        Field(9 + self.record_bits, 5)
+    }
+
+    fn count_field(&self) -> Field {
+        Field(14 + self.record_bits, self.count_bits)
+    }
+
+    fn value_field(&self) -> Field {
+        Field(14 + self.record_bits + self.count_bits, 8)
+    }
+
+    /// A count that cuts nothing: no event makes as many page writes.
+    fn whole(&self) -> u8 {
+        (1u16 << self.count_bits).wrapping_sub(1) as u8
+    }
+
+    /// Takes a word apart.
+    pub(crate) fn word(&self, bytes: &[u8]) -> Word {
+        let bits = bits(bytes);
+        let kind = match KIND.of(bits) {
             1 => Kind::Begin,
             2 => Kind::Lock,
             3 => Kind::Write,
@@ -56,29 +95,56 @@ impl Word {
             5 => Kind::Commit,
             6 => Kind::Abort,
             7 => Kind::Crash,
-            9 => Kind::Prepare,
-            10 => Kind::Decide,
-            11 => Kind::Query,
+            9 if self.two_phases => Kind::Prepare,
+            10 if self.two_phases => Kind::Decide,
+            11 if self.two_phases => Kind::Query,
             _ => Kind::Other,
         };
         Word {
             kind,
-            transaction: (bytes[0] & 15) << 1 | bytes[1] >> 7,
-            record: bytes[1] >> 3 & 15,
-            offset: (bytes[1] & 7) << 2 | bytes[2] >> 6,
-            value: bytes[3],
+            transaction: TRANSACTION.of(bits),
+            record: self.record_field().of(bits),
+            offset: self.offset_field().of(bits),
+            value: self.value_field().of(bits),
         }
     }
 
-    /// The same event with this transaction number, or its own, and with nothing cut: no event makes as many
-    /// page writes as the greatest count.
-    pub fn again(&self, bytes: &[u8], number: Option<u8>) -> [u8; WORD] {
-        let number = number.unwrap_or(self.transaction);
-        let whole = matches!(self.kind, Kind::Commit | Kind::Prepare | Kind::Decide);
-        let count = if whole { 63 } else { bytes[2] & 63 };
-        [bytes[0] & 0xF0 | number >> 1, bytes[1] & 0x7F | number << 7, bytes[2] & 0xC0 | count, bytes[3]]
+    /// Puts a value into a word.
+    pub(crate) fn put_value(&self, word: &mut [u8], value: u8) {
+        let bits = self.value_field().put(bits(word), value);
+        word.copy_from_slice(&bits.to_be_bytes()[..word.len()]);
     }
 
+    /// The same event with this transaction number, or its own, and with nothing cut.
+    pub(crate) fn again<const WORD: usize>(&self, bytes: &[u8], number: Option<u8>) -> [u8; WORD] {
+        let old = bits(bytes);
+        let named = number.map_or(old, |number| TRANSACTION.put(old, number));
+        match self.word(bytes).kind {
+            Kind::Commit | Kind::Prepare | Kind::Decide => word_of(self.count_field().put(named, self.whole())),
+            _ => word_of(named),
+        }
+    }
+
+    /// A recover that nothing cuts.
+    pub(crate) fn recover<const WORD: usize>(&self) -> [u8; WORD] {
+        word_of(self.count_field().put(KIND.put(0, 8), self.whole()))
+    }
+}
+
+/// The bits of a word, the first on top.
+fn bits(bytes: &[u8]) -> u64 {
+    let mut word = [0; 8];
+    word[..bytes.len()].copy_from_slice(bytes);
+    u64::from_be_bytes(word)
+}
+
+fn word_of<const WORD: usize>(bits: u64) -> [u8; WORD] {
+    let mut word = [0; WORD];
+    word.copy_from_slice(&bits.to_be_bytes()[..WORD]);
+    word
+}
+
+impl Word {
     /// A crash, a recover, a decide and a query name no transaction, though they have the field.
     pub fn names_transaction(&self) -> bool {
         !matches!(self.kind, Kind::Crash | Kind::Decide | Kind::Query | Kind::Other)

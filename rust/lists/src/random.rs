@@ -2,9 +2,9 @@
 //! numbers, cuts at every count, crashes in recovery, prepares and decisions, bad events.
 
 use crate::sketch::{Pair, Sketch};
-use crate::{stores, Rng};
-use nekahuiro::limits::{COUNT_LIMIT, EVENT_BYTES, PAGE_BYTES, RECORDS, TRANSACTIONS, TRANSACTION_NAMES};
-use nekahuiro::{CommitPage, Event, Fields, Transaction};
+use crate::{stores, Form, Rng, Word};
+use nekahuiro::limits::{PAGE_BYTES, TRANSACTIONS, TRANSACTION_NAMES};
+use nekahuiro::{CommitPage, Fields, Transaction};
 
 /// What a list is like, in percent where nothing else is said.
 #[derive(Clone, Debug)]
@@ -13,6 +13,8 @@ pub struct Taste {
     pub length: usize,
     /// Records in use; few make contention.
     pub records: usize,
+    /// The first of them.
+    pub first: usize,
     /// Offsets in use.
     pub offsets: usize,
     /// Begins that have a parent.
@@ -45,16 +47,29 @@ const MOODS: [[usize; 6]; 5] =
     [[8, 4, 3, 1, 1, 0], [2, 5, 7, 4, 1, 0], [0, 1, 2, 1, 9, 0], [1, 2, 3, 2, 2, 4], [3, 5, 6, 3, 4, 1]];
 
 impl Taste {
-    /// A random taste.
+    /// A random taste for lists of the plain form.
     pub fn any(rng: &mut Rng) -> Taste {
+        Taste::any_of(Form::PLAIN, rng)
+    }
+
+    /// A random taste for lists of a form.
+    pub fn any_of(form: Form, rng: &mut Rng) -> Taste {
         let length = match rng.below(10) {
             0..=5 => 8 + rng.below(40),
             6..=8 => 30 + rng.below(90),
             _ => 100 + rng.below(200),
         };
+        let records = rng.one_of([1, 2, 3, 5, form.records]);
+        // Where there are more than the plain form's, any of them, and often the last.
+        let first = match form.records - Form::PLAIN.records {
+            0 => 0,
+            _ if rng.percent(30) => form.records - records,
+            _ => rng.below(form.records - records + 1),
+        };
         Taste {
             length,
-            records: rng.one_of([1, 2, 3, 5, RECORDS]),
+            records,
+            first,
             offsets: rng.one_of([1, 2, PAGE_BYTES]),
             nested: rng.one_of([20, 60, 90, 98]),
             reading: rng.one_of([0, 20, 50, 80]),
@@ -71,17 +86,27 @@ impl Taste {
     }
 }
 
-/// A random list for a store with this page 0.
+/// A random list for a plain store with this page 0.
 pub fn list(rng: &mut Rng, taste: &Taste, page: CommitPage) -> Vec<u8> {
-    let mut maker = Maker { sketch: Sketch::new(page), rng, taste, mood: MOODS[0] };
-    let mut words = Vec::with_capacity(taste.length * EVENT_BYTES);
+    make(Form::PLAIN, rng, taste, Sketch::new(page))
+}
+
+/// A random list for a store of a form, whose page 0 names so many records as committed.
+pub fn list_of(form: Form, rng: &mut Rng, taste: &Taste, committed: u32) -> Vec<u8> {
+    make(form, rng, taste, Sketch::down(form.records, committed, None))
+}
+
+fn make(form: Form, rng: &mut Rng, taste: &Taste, sketch: Sketch) -> Vec<u8> {
+    let mut maker = Maker { form, sketch, rng, taste, mood: MOODS[0] };
+    let mut words = Vec::with_capacity(taste.length * form.event_bytes);
     for _ in 0..taste.length {
-        words.extend(maker.word());
+        words.extend(&maker.word()[..form.event_bytes]);
     }
     words
 }
 
 struct Maker<'m> {
+    form: Form,
     sketch: Sketch,
     rng: &'m mut Rng,
     taste: &'m Taste,
@@ -89,7 +114,7 @@ struct Maker<'m> {
 }
 
 impl Maker<'_> {
-    fn word(&mut self) -> [u8; EVENT_BYTES] {
+    fn word(&mut self) -> Word {
         if self.rng.percent(self.taste.bad) {
             return self.bad();
         }
@@ -98,7 +123,7 @@ impl Maker<'_> {
             fields = self.astray(fields);
         }
         self.follow(fields);
-        fields.word()
+        self.form.word(fields)
     }
 
     /// The same with a number that is likely to be refused.
@@ -111,33 +136,40 @@ impl Maker<'_> {
             2..=4 if names_transaction(fields) => {
                 Fields { transaction: self.rng.pick(&live).copied().unwrap_or(0), ..fields }
             }
-            5..=6 if (2..=4).contains(&fields.kind) => Fields { record: self.rng.below(RECORDS) as u8, ..fields },
+            5..=6 if (2..=4).contains(&fields.kind) => {
+                Fields { record: self.rng.below(self.form.records) as u8, ..fields }
+            }
             7 => Fields { kind: 8, count: self.count(4), ..Fields::default() },
             _ => fields,
         }
     }
 
     /// A word with a kind that there isn't or a bit too many; rarely it is good by chance.
-    fn bad(&mut self) -> [u8; EVENT_BYTES] {
+    fn bad(&mut self) -> Word {
+        let Form { event_bytes, .. } = self.form;
         let mut word = match self.rng.below(3) {
-            0 => (self.rng.bits() as u32).to_be_bytes(),
-            _ => self.sensible().word(),
+            0 => (self.rng.bits() << (64 - 8 * event_bytes)).to_be_bytes(),
+            _ => {
+                let fields = self.sensible();
+                self.form.word(fields)
+            }
         };
-        word[self.rng.below(EVENT_BYTES)] ^= 1 << self.rng.below(8);
-        if Event::of(word).is_some() {
-            self.follow(Fields::of(word));
+        word[self.rng.below(event_bytes)] ^= 1 << self.rng.below(8);
+        if let Some(fields) = self.form.good(word) {
+            self.follow(fields);
         }
         word
     }
 
     fn sensible(&mut self) -> Fields {
         if !self.sketch.up && !self.rng.percent(8) {
-            return Fields { kind: 8, count: self.count(self.sketch.committed + 1), ..Fields::default() };
+            let count = self.count(self.sketch.committed + 1);
+            return Fields { kind: 8, count, value: self.tear(), ..Fields::default() };
         }
         if self.rng.percent(self.taste.crashes) {
             return Fields { kind: 7, ..Fields::default() };
         }
-        if self.rng.percent(self.taste.joint) {
+        if self.rng.percent(self.taste.joint) && self.form.two_phases {
             if let Some(fields) = self.joint() {
                 return fields;
             }
@@ -194,7 +226,10 @@ impl Maker<'_> {
                 let value = if kind == 3 { self.rng.byte() } else { 0 };
                 Fields { transaction, record, offset: self.rng.below(self.taste.offsets) as u8, value, ..fields }
             }
-            5 => Fields { transaction: leaf, count: self.count(self.sketch.due(leaf)), ..fields },
+            5 => {
+                let count = self.count(self.sketch.due(leaf));
+                Fields { transaction: leaf, count, value: self.tear(), ..fields }
+            }
             _ => {
                 let transaction = if self.rng.percent(70) { leaf } else { anyone };
                 Fields { kind: 6, transaction, value: u8::from(self.rng.percent(self.taste.reports)), ..fields }
@@ -243,7 +278,7 @@ impl Maker<'_> {
             _ => (Vec::new(), to_write),
         };
         let wanted = self.mostly_leaves(wanted);
-        let any = (asker, self.rng.below(self.taste.records) as u8);
+        let any = (asker, (self.taste.first + self.rng.below(self.taste.records)) as u8);
         (self.rng.pick(&wanted).copied().unwrap_or(any), to_write)
     }
 
@@ -273,21 +308,35 @@ impl Maker<'_> {
         if self.rng.percent(self.taste.cuts) {
             self.rng.below(due as usize + 2) as u8
         } else {
-            COUNT_LIMIT
+            self.form.count_limit
+        }
+    }
+
+    /// How the next page write is torn, where that can be: in each way, and rarely in one that there isn't.
+    fn tear(&mut self) -> u8 {
+        match self.form.tears {
+            true if self.rng.percent(1) => self.rng.byte(),
+            true => self.rng.one_of([0, 1, 2, 3]),
+            false => 0,
         }
     }
 
     fn follow(&mut self, fields: Fields) {
         let Fields { kind, transaction, record, offset, count, value } = fields;
+        if self.form.tears && matches!(kind, 5 | 8) && value > 3 {
+            return;
+        }
         let count = u32::from(count);
+        // A write whose first copy is made counts as made.
+        let made = count + u32::from(self.form.tears && value >= 2);
         match kind {
-            8 => self.sketch.recover(count),
+            8 => self.sketch.recover(count, made),
             7 => self.sketch.crash(),
             _ if !self.sketch.up => {}
             1 => self.sketch.begin((transaction != Transaction::NONE.number()).then_some(transaction)),
             2 => self.sketch.lock(transaction, record, value == 0),
             3 => self.sketch.write(transaction, record),
-            5 => self.sketch.commit(transaction, count),
+            5 => self.sketch.commit(transaction, count, made),
             6 => self.sketch.abort(transaction, value == 1),
             9 => self.sketch.prepare(transaction, count, value),
             10 => self.sketch.decide(offset == 1, count, value),

@@ -8,7 +8,7 @@ use nekahuiro::CommitPage;
 struct Live {
     parent: Option<u8>,
     depth: usize,
-    wrote: u16,
+    wrote: u64,
 }
 
 /// Who has to do with a lock: one bit for each transaction.
@@ -21,16 +21,15 @@ struct Lock {
 }
 
 /// The guessed state.
-#[derive(Default)]
 pub struct Sketch {
     /// Whether the store is up.
     pub up: bool,
     /// Records named by a committed page 0.
     pub committed: u32,
     /// What a transaction that is prepared changed, and its identity.
-    pub prepared: Option<(u16, u8)>,
+    pub prepared: Option<(u64, u8)>,
     live: [Option<Live>; TRANSACTIONS],
-    locks: [Lock; RECORDS],
+    locks: Vec<Lock>,
     denied: Option<Pair>,
 }
 
@@ -172,16 +171,22 @@ impl Sketch {
         std::iter::successors(Some(transaction), |t| self.at(*t)?.parent).fold(0, |line, t| line | bit(t))
     }
 
-    /// A run starts down, over this page 0.
+    /// A run starts down, over this page 0 of a plain store.
     pub fn new(page: CommitPage) -> Sketch {
         match page {
-            CommitPage::Committed(map) => Sketch { committed: map.records().count() as u32, ..Sketch::default() },
+            CommitPage::Committed(map) => Sketch::down(RECORDS, map.records().count() as u32, None),
             CommitPage::Prepared(map, identity) => {
                 let map = map.records().fold(0, |map, record| map | 1 << record.number());
-                Sketch { prepared: Some((map, identity.0)), ..Sketch::default() }
+                Sketch::down(RECORDS, 0, Some((map, identity.0)))
             }
-            CommitPage::Empty | CommitPage::Damaged(_) => Sketch::default(),
+            CommitPage::Empty | CommitPage::Damaged(_) => Sketch::down(RECORDS, 0, None),
         }
+    }
+
+    /// Down, with so many records, of which so many are named by a committed page 0.
+    pub fn down(records: usize, committed: u32, prepared: Option<(u64, u8)>) -> Sketch {
+        let (live, locks) = ([None; TRANSACTIONS], vec![Lock::default(); records]);
+        Sketch { up: false, committed, prepared, live, locks, denied: None }
     }
 
     /// A begin.
@@ -225,8 +230,8 @@ impl Sketch {
         }
     }
 
-    /// A commit with a count.
-    pub fn commit(&mut self, transaction: u8, count: u32) {
+    /// A commit with a count; so many page writes count as made.
+    pub fn commit(&mut self, transaction: u8, count: u32, made: u32) {
         let Some(live) = self.at(transaction) else { return };
         if !self.leaves().contains(&transaction) {
             return;
@@ -237,7 +242,8 @@ impl Sketch {
         }
         if count < due {
             self.crash();
-            self.committed = if count > live.wrote.count_ones() { live.wrote.count_ones() } else { 0 };
+            let stored = made > live.wrote.count_ones() && made < due;
+            self.committed = if stored { live.wrote.count_ones() } else { 0 };
             return;
         }
         let heir = live.parent.map_or(0, bit);
@@ -295,14 +301,14 @@ impl Sketch {
 
     /// A crash.
     pub fn crash(&mut self) {
-        *self = Sketch { committed: self.committed, prepared: self.prepared, ..Sketch::default() };
+        *self = Sketch::down(self.locks.len(), self.committed, self.prepared);
     }
 
-    /// A recover with a count.
-    pub fn recover(&mut self, count: u32) {
-        if !self.up && (self.committed == 0 || count > self.committed) {
-            self.up = true;
-            self.committed = 0;
+    /// A recover with a count; so many page writes count as made, if so many are due.
+    pub fn recover(&mut self, count: u32, made: u32) {
+        if !self.up {
+            self.up = self.committed == 0 || count > self.committed;
+            self.committed = if made > self.committed { 0 } else { self.committed };
         }
     }
 }

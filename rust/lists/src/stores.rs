@@ -1,4 +1,8 @@
-//! Start stores: fresh, used, with a commit under way, with a transaction prepared, and damaged in every way.
+//! Start stores: fresh, used, with a commit under way, with a transaction prepared, and damaged in every way. Those of
+//! other forms than the plain one have a module each.
+
+pub mod edition2;
+pub mod pairs;
 
 use crate::Rng;
 use nekahuiro::limits::{PAGE_BYTES, RECORDS, STORE_BYTES};

@@ -69,6 +69,8 @@
 //! [`State`] and a [`Work`] that the caller keeps from one portion to the next. A [`Session`] keeps all three,
 //! and has a method for each thing to do.
 //!
+//! A store of edition 2 has sixty-four records: the feature `edition2` has a module for it.
+//!
 //! All this changes a copy of the store in memory. A [`Device`] brings it to a [`Medium`], page write by page
 //! write, so that the power may go at any moment; `docs/DEVICE.md` says what a medium owes.
 //!
@@ -97,6 +99,8 @@ pub mod audit;
 mod commit_page;
 mod depot;
 mod device;
+#[cfg(feature = "edition2")]
+pub mod edition2;
 mod event;
 pub mod limits;
 mod numbers;

@@ -4,6 +4,9 @@
 //! They take anything: a slice of a wrong length is refused with the number of the refusal.
 //! Slices can't be null and can't overlap, which is all that the C interface asks of its caller.
 
+#[cfg(feature = "edition2")]
+pub mod edition2;
+
 use crate::waiting::{Ring, Row};
 use crate::State;
 

@@ -23,8 +23,11 @@ impl fmt::Display for BadWords {
 
 impl std::error::Error for BadWords {}
 
-/// How each event is written.
-const FORMS: [(&str, &str); 12] = [
+/// An event's name, and how it is written.
+pub(crate) type Form = (&'static str, &'static str);
+
+/// How each event is written; those of the second edition come first.
+pub(crate) const FORMS: [Form; 12] = [
     ("begin", "begin none | begin PARENT"),
     ("lock", "lock TRANSACTION RECORD"),
     ("read-lock", "read-lock TRANSACTION RECORD"),
@@ -95,13 +98,8 @@ impl FromStr for Event {
     type Err = BadWords;
 
     fn from_str(line: &str) -> Result<Event, BadWords> {
-        let mut words = Words { rest: line.split_whitespace(), form: "" };
-        let name = words.rest.next().unwrap_or_default();
-        let Some((name, form)) = FORMS.iter().find(|(known, _)| known.eq_ignore_ascii_case(name)) else {
-            return Err(unknown(name));
-        };
-        words.form = form;
-        let event = match *name {
+        let (name, mut words) = Words::of(line, &FORMS, COUNT_LIMIT)?;
+        let event = match name {
             "begin" => Event::Begin { parent: words.parent()? },
             "lock" => Event::Lock { transaction: words.transaction()?, record: words.record()? },
             "read-lock" => Event::ReadLock { transaction: words.transaction()?, record: words.record()? },
@@ -133,8 +131,8 @@ impl FromStr for Event {
     }
 }
 
-fn unknown(name: &str) -> BadWords {
-    let names: Vec<&str> = FORMS.iter().map(|(name, _)| *name).collect();
+fn unknown(name: &str, forms: &[Form]) -> BadWords {
+    let names: Vec<&str> = forms.iter().map(|(name, _)| *name).collect();
     let reason = match name {
         "" => "no event".to_string(),
         _ => format!("`{name}` is no event"),
@@ -143,12 +141,23 @@ fn unknown(name: &str) -> BadWords {
 }
 
 /// The words after the event's name.
-struct Words<'l> {
+pub(crate) struct Words<'l> {
     rest: SplitWhitespace<'l>,
     form: &'static str,
+    count_limit: u8,
 }
 
-impl Words<'_> {
+impl<'l> Words<'l> {
+    /// The name of a line's event, which is one of these, and the words after it.
+    pub(crate) fn of(line: &'l str, forms: &[Form], count_limit: u8) -> Result<(&'static str, Words<'l>), BadWords> {
+        let mut rest = line.split_whitespace();
+        let name = rest.next().unwrap_or_default();
+        match forms.iter().find(|(known, _)| known.eq_ignore_ascii_case(name)) {
+            Some((name, form)) => Ok((name, Words { rest, form, count_limit })),
+            None => Err(unknown(name, forms)),
+        }
+    }
+
     fn bad<T>(&self, reason: String) -> Result<T, BadWords> {
         Err(BadWords { reason, mend: format!("write `{}`", self.form) })
     }
@@ -170,7 +179,7 @@ impl Words<'_> {
         }
     }
 
-    fn named<N>(&mut self, what: &str, limit: usize, number: fn(u8) -> Option<N>) -> Result<N, BadWords> {
+    pub(crate) fn named<N>(&mut self, what: &str, limit: usize, number: fn(u8) -> Option<N>) -> Result<N, BadWords> {
         let plain = self.below(what, limit, 10)?;
         match number(plain) {
             Some(number) => Ok(number),
@@ -178,11 +187,11 @@ impl Words<'_> {
         }
     }
 
-    fn transaction(&mut self) -> Result<Transaction, BadWords> {
+    pub(crate) fn transaction(&mut self) -> Result<Transaction, BadWords> {
         self.named("transaction", TRANSACTION_NAMES, Transaction::new)
     }
 
-    fn parent(&mut self) -> Result<Transaction, BadWords> {
+    pub(crate) fn parent(&mut self) -> Result<Transaction, BadWords> {
         match self.rest.clone().next() {
             Some(word) if word.eq_ignore_ascii_case("none") => {
                 self.rest.next();
@@ -193,7 +202,7 @@ impl Words<'_> {
     }
 
     /// Whether the word `report` comes.
-    fn report(&mut self) -> bool {
+    pub(crate) fn report(&mut self) -> bool {
         let said = self.rest.clone().next().is_some_and(|word| word.eq_ignore_ascii_case("report"));
         if said {
             self.rest.next();
@@ -219,23 +228,23 @@ impl Words<'_> {
         self.named("record", RECORDS, Record::new)
     }
 
-    fn offset(&mut self) -> Result<u8, BadWords> {
+    pub(crate) fn offset(&mut self) -> Result<u8, BadWords> {
         self.below("offset", PAGE_BYTES, 10)
     }
 
-    fn value(&mut self) -> Result<u8, BadWords> {
+    pub(crate) fn value(&mut self) -> Result<u8, BadWords> {
         self.below("value", 256, 16)
     }
 
     /// The count, unless only the `after` words are left that come after it.
-    fn count(&mut self, after: usize) -> Result<u8, BadWords> {
+    pub(crate) fn count(&mut self, after: usize) -> Result<u8, BadWords> {
         if self.rest.clone().count() <= after {
-            return Ok(COUNT_LIMIT);
+            return Ok(self.count_limit);
         }
-        self.below("count", usize::from(COUNT_LIMIT) + 1, 10)
+        self.below("count", usize::from(self.count_limit) + 1, 10)
     }
 
-    fn end(&mut self) -> Result<(), BadWords> {
+    pub(crate) fn end(&mut self) -> Result<(), BadWords> {
         match self.rest.next() {
             None => Ok(()),
             Some(word) => self.bad(format!("`{word}` is one word too many")),

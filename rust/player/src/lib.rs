@@ -19,8 +19,10 @@
 //! ```
 
 pub mod event;
+pub mod form;
 pub mod limits;
 mod locks;
+pub mod medium;
 pub mod planted;
 mod player;
 pub mod sheet;
@@ -30,13 +32,13 @@ mod tree;
 mod volatile;
 pub mod waiting;
 
-use event::Record;
-use limits::{ANSWER_BYTES, EVENTS, EVENT_BYTES, PAGE_BYTES, RECORDS, STORE_BYTES, WORK_BYTES};
+pub use form::{Edition2, Form, Pairs, Plain};
+use limits::EVENT_BYTES;
 pub use player::{Answer, Player};
-use store::{Page, Store};
+use store::Page;
 pub use volatile::Volatile;
 
-/// Refused: page 0 is damaged.
+/// Refused: page 0 is damaged, or nothing of some page is good.
 pub const DAMAGED: u8 = 4;
 /// Refused: the event list is no whole number of words, or too long.
 pub const BAD_LIST: u8 = 20;
@@ -51,16 +53,12 @@ pub const BAD_WORK: u8 = 24;
 /// Refused: the state isn't sound.
 pub const BAD_STATE: u8 = 25;
 
-/// Plays a list of event words. The working buffer is only measured: versions live in maps.
+/// [`Form::run`] of the plain form.
 pub fn run(store: &mut [u8], events: &[u8], work: &mut [u8], answers: &mut [u8]) -> u8 {
-    match open(store, events, work, answers) {
-        Ok(store) => play(Player::new(store, &mut Volatile::default()), events, answers),
-        Err(number) => number,
-    }
+    Plain::run(store, events, work, answers)
 }
 
-/// Plays a portion of event words from what the volatile remembers, and leaves it to the next portion.
-/// All that can be wrong with a volatile is the store that comes with it.
+/// [`Form::portion`] of the plain form.
 ///
 /// ```
 /// use nekahuiro_player::{fresh, limits, portion, Volatile};
@@ -75,67 +73,23 @@ pub fn run(store: &mut [u8], events: &[u8], work: &mut [u8], answers: &mut [u8])
 /// }
 /// ```
 pub fn portion(volatile: &mut Volatile, store: &mut [u8], events: &[u8], work: &mut [u8], answers: &mut [u8]) -> u8 {
-    match open(store, events, work, answers).map(|store| Player::new(store, volatile)) {
-        Ok(player) if !player.is_sound() => BAD_STATE,
-        Ok(player) => play(player, events, answers),
-        Err(number) => number,
-    }
+    Plain::portion(volatile, store, events, work, answers)
 }
 
-/// The page writes that an event word makes if nothing cuts it, in their order: the number of each page, and its
-/// bytes. None at all where the store has the wrong length or the volatile can't be with it.
+/// [`Form::page_writes`] of the plain form.
 pub fn page_writes(volatile: &Volatile, store: &[u8], word: [u8; EVENT_BYTES]) -> Option<Vec<(u8, Page)>> {
-    let (mut volatile, mut store) = (volatile.clone(), store.to_vec());
-    let player = Player::new(Store::over(&mut store)?, &mut volatile);
-    let script = player.is_sound().then(|| player.page_writes(event::uncut(word)))?;
-    Some(script.into_iter().map(|(place, page)| (place.number(), page)).collect())
+    Plain::page_writes(volatile, store, word)
 }
 
-/// As [`run`], with a bug.
+/// [`Form::run_with_bug`] of the plain form.
 #[cfg(feature = "planted")]
 pub fn run_with_bug(bug: planted::Bug, store: &mut [u8], events: &[u8], work: &mut [u8], answers: &mut [u8]) -> u8 {
-    match open(store, events, work, answers) {
-        Ok(store) => {
-            let mut volatile = Volatile::default();
-            let mut player = Player::new(store, &mut volatile);
-            player.plant(Some(bug));
-            play(player, events, answers)
-        }
-        Err(number) => number,
-    }
+    Plain::run_with_bug(bug, store, events, work, answers)
 }
 
-/// The refusals before the first event, in their order.
-fn open<'s>(store: &'s mut [u8], events: &[u8], work: &[u8], answers: &[u8]) -> Result<Store<'s>, u8> {
-    let store = Store::over(store).ok_or(BAD_STORE)?;
-    if work.len() != WORK_BYTES {
-        return Err(BAD_WORK);
-    }
-    if events.len() % EVENT_BYTES != 0 || events.len() > EVENTS * EVENT_BYTES {
-        return Err(BAD_LIST);
-    }
-    if answers.len() < events.len() / EVENT_BYTES * ANSWER_BYTES {
-        return Err(SHORT_ANSWERS);
-    }
-    Ok(store)
-}
-
-fn play(mut player: Player, events: &[u8], answers: &mut [u8]) -> u8 {
-    for (word, place) in events.chunks_exact(EVENT_BYTES).zip(answers.chunks_exact_mut(ANSWER_BYTES)) {
-        let Answer(number, value) = player.step([word[0], word[1], word[2], word[3]]);
-        place.copy_from_slice(&[number, value]);
-    }
-    0
-}
-
-/// Lays down a fresh store.
+/// [`Form::fresh`] of the plain form.
 pub fn fresh(store: &mut [u8]) -> u8 {
-    if store.len() != STORE_BYTES {
-        return BAD_STORE;
-    }
-    store.fill(0);
-    store[..PAGE_BYTES].copy_from_slice(&store::empty_page());
-    0
+    Plain::fresh(store)
 }
 
 /// How old a record is, in minutes.
@@ -149,17 +103,7 @@ pub enum Age {
     Stale(i64),
 }
 
-/// Tells the age of a record at a clock reading, or the number of the refusal.
+/// [`Form::age`] of the plain form.
 pub fn age(store: &[u8], record: u8, clock: u32, limit: u32) -> Result<Age, u8> {
-    let store: &[u8; STORE_BYTES] = store.try_into().map_err(|_| BAD_STORE)?;
-    if record as usize >= RECORDS {
-        return Err(BAD_RECORD);
-    }
-    let page = store::settled_if_sound(store, Record(record)).ok_or(DAMAGED)?;
-    let stamp = u32::from_be_bytes([page[0], page[1], page[2], page[3]]);
-    Ok(match i64::from(clock) - i64::from(stamp) {
-        age if age < 0 => Age::Ahead(age),
-        age if age <= i64::from(limit) => Age::Live(age),
-        age => Age::Stale(age),
-    })
+    Plain::age(store, record, clock, limit)
 }

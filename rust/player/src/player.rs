@@ -2,10 +2,13 @@
 
 mod pages;
 
-use crate::event::{decode, Decision, Event, Identity, Mode, Record, Transaction};
-use crate::limits::EVENT_BYTES;
+use crate::event::{decode_as, CutOf, Decision, Event, Identity, Mode, Record, Transaction};
+use crate::form::Form;
+use crate::medium::Medium;
 use crate::planted::Bug;
-use crate::store::{committed_page, empty_page, prepared_page, CommitPage, Page, Place, Store};
+#[cfg(feature = "planted")]
+use crate::planted::Planted;
+use crate::store::{committed_page, empty_page, prepared_page, CommitPage, Page, Place, Stable};
 use crate::volatile::Volatile;
 
 /// An answer: its number, then its value.
@@ -39,69 +42,57 @@ type Outcome = Result<Answer, Refusal>;
 type Script = Vec<(Place, Page)>;
 
 /// A run under way: a store, and a volatile that outlasts the run.
-pub struct Player<'s> {
-    store: Store<'s>,
-    volatile: &'s mut Volatile,
+pub struct Player<'s, F: Form> {
+    store: Stable<'s, F>,
+    volatile: &'s mut Volatile<F>,
     /// What page 0 says.
     page: CommitPage,
     /// The page writes made, where somebody wants to know them.
     log: Option<Script>,
-    #[cfg(feature = "planted")]
-    bug: Option<Bug>,
 }
 
-impl<'s> Player<'s> {
+impl<'s, F: Form> Player<'s, F> {
     /// A run on a store, from what the volatile remembers.
-    pub fn new(store: Store<'s>, volatile: &'s mut Volatile) -> Self {
-        Player {
-            page: store.commit_page(),
-            store,
-            volatile,
-            log: None,
-            #[cfg(feature = "planted")]
-            bug: None,
-        }
+    pub fn new(store: Stable<'s, F>, volatile: &'s mut Volatile<F>) -> Self {
+        Player { page: store.commit_page(), store, volatile, log: None }
     }
 
-    /// Whether the run can go on from what the volatile remembers.
+    /// Whether the run can go on from what the volatile remembers. While up there is nothing to mend.
     pub fn is_sound(&self) -> bool {
-        self.volatile.goes_with(&self.page)
+        let even = !F::Medium::TEARS || !self.volatile.up || self.store.is_even();
+        even && self.volatile.goes_with(&self.page)
     }
 
     /// Plants a bug.
     #[cfg(feature = "planted")]
     pub fn plant(&mut self, bug: Option<Bug>) {
-        self.bug = bug;
+        self.store.planted = Planted::with(bug);
+        self.page = self.store.commit_page();
     }
 
-    #[cfg(feature = "planted")]
     fn planted(&self, bug: Bug) -> bool {
-        self.bug == Some(bug)
+        self.store.planted.is(bug)
     }
 
-    #[cfg(not(feature = "planted"))]
-    fn planted(&self, _: Bug) -> bool {
-        false
-    }
-
-    /// Plays one event word.
-    pub fn step(&mut self, word: [u8; EVENT_BYTES]) -> Answer {
+    /// Plays one event word. It is the benchmark's yardstick: a function of its own, wherever it is called from.
+    #[inline(never)]
+    pub fn step(&mut self, word: F::Word) -> Answer {
         self.outcome(word).unwrap_or_else(|refusal| Answer(refusal as u8, 0))
     }
 
-    fn outcome(&mut self, word: [u8; EVENT_BYTES]) -> Outcome {
-        match decode(word).ok_or(Refusal::Bad)? {
+    fn outcome(&mut self, word: F::Word) -> Outcome {
+        match decode_as::<F>(word, self.store.planted).ok_or(Refusal::Bad)? {
             Event::Crash => Ok(self.crash()),
-            Event::Recover(count) => self.recover(count),
+            Event::Recover(cut) => self.recover(cut),
             _ if !self.volatile.up => Err(Refusal::Down),
             Event::Begin(parent) => self.begin(parent),
             Event::Lock(transaction, record, mode) => self.lock(transaction, record, mode),
             Event::Write(transaction, record, offset, value) => self.write(transaction, record, offset, value),
             Event::Read(transaction, record, offset) => self.read(transaction, record, offset),
-            Event::Commit(transaction, count) => self.commit(transaction, count),
+            Event::Commit(transaction, cut) => self.commit(transaction, cut),
             Event::Abort(transaction, report) => self.abort(transaction, report),
-            Event::Prepare(transaction, count, identity) => self.prepare(transaction, count, identity),
-            Event::Decide(decision, count, identity) => Ok(self.decide(decision, count, identity)),
+            Event::Prepare(transaction, cut, identity) => self.prepare(transaction, cut, identity),
+            Event::Decide(decision, cut, identity) => Ok(self.decide(decision, cut, identity)),
             Event::Query(identity) => Ok(Answer(DONE, u8::from(self.waits(identity)))),
         }
     }
@@ -194,7 +185,7 @@ impl<'s> Player<'s> {
         Ok(Answer(DONE, byte))
     }
 
-    fn commit(&mut self, transaction: Transaction, count: u8) -> Outcome {
+    fn commit(&mut self, transaction: Transaction, cut: CutOf<F>) -> Outcome {
         self.live(transaction)?;
         self.has_no_child(transaction)?;
         if self.is_top(transaction) {
@@ -203,7 +194,7 @@ impl<'s> Player<'s> {
         let Some(ended) = self.volatile.tree.remove(transaction) else { return Err(Refusal::NotLive) };
         let Some(parent) = ended.parent else {
             self.volatile.locks.discard(&[transaction]);
-            return Ok(self.write_pages(&self.commit_script(ended.versions), count));
+            return Ok(self.write_pages(&self.commit_script(ended.versions), cut));
         };
         if self.planted(Bug::ChildCommitFreesLocks) {
             self.volatile.locks.discard(&[transaction]);
@@ -223,7 +214,7 @@ impl<'s> Player<'s> {
     }
 
     /// Ends a top transaction whose changes then wait for the decision; one without changes just commits.
-    fn prepare(&mut self, transaction: Transaction, count: u8, identity: Identity) -> Outcome {
+    fn prepare(&mut self, transaction: Transaction, cut: CutOf<F>, identity: Identity) -> Outcome {
         self.live(transaction)?;
         self.has_no_child(transaction)?;
         let child_is_tried_early = self.planted(Bug::ChildTriedBeforePrepared);
@@ -240,20 +231,20 @@ impl<'s> Player<'s> {
             ended.versions.iter().map(|(record, page)| (Place::Intention(*record), *page)).collect();
         if !ended.versions.is_empty() {
             let changed: Vec<Record> = ended.versions.keys().copied().collect();
-            script.push((Place::Commit, prepared_page(&changed, identity)));
+            script.push((Place::Commit, prepared_page::<F>(&changed, identity, self.store.planted)));
         }
-        Ok(self.write_pages(&script, count))
+        Ok(self.write_pages(&script, cut))
     }
 
     /// Carries out the decision on what is prepared; a decision for another does nothing.
-    fn decide(&mut self, decision: Decision, count: u8, identity: Identity) -> Answer {
+    fn decide(&mut self, decision: Decision, cut: CutOf<F>, identity: Identity) -> Answer {
         if !self.waits(identity) && !self.planted(Bug::DecisionForAnother) {
             return Answer(DONE, 0);
         }
         let CommitPage::Prepared(changed, _) = self.store.commit_page() else { return Answer(DONE, 0) };
         let mut home = self.copies_home(&changed);
-        let committed = (Place::Commit, committed_page(&changed));
-        let emptied = (Place::Commit, empty_page());
+        let committed = (Place::Commit, committed_page::<F>(&changed, self.store.planted));
+        let emptied = (Place::Commit, empty_page::<F>());
         let script = match decision {
             Decision::Commit => {
                 home.insert(0, committed);
@@ -266,7 +257,7 @@ impl<'s> Player<'s> {
             }
             Decision::Abort => vec![emptied],
         };
-        self.write_pages(&script, count)
+        self.write_pages(&script, cut)
     }
 
     fn waits(&self, identity: Identity) -> bool {
@@ -333,24 +324,33 @@ impl<'s> Player<'s> {
         Answer(DONE, 0)
     }
 
-    fn recover(&mut self, count: u8) -> Outcome {
+    fn recover(&mut self, cut: CutOf<F>) -> Outcome {
         if self.volatile.up {
             return Err(Refusal::Up);
         }
+        if self.planted(Bug::RefusedRecoverMends) {
+            self.store.mend();
+        }
+        if matches!(self.page, CommitPage::Damaged) || !self.store.is_mendable() {
+            return Err(Refusal::Damaged);
+        }
+        // What is mended isn't counted, and nothing cuts it.
+        let mended = if F::Medium::TEARS { self.store.mend() } else { 0 };
         let script = match &self.page {
-            CommitPage::Damaged => return Err(Refusal::Damaged),
             CommitPage::Prepared(..) if self.planted(Bug::RecoverEmptiesPrepared) => {
-                vec![(Place::Commit, empty_page())]
+                vec![(Place::Commit, empty_page::<F>())]
             }
-            CommitPage::Empty | CommitPage::Prepared(..) => Vec::new(),
             CommitPage::Committed(named) => {
                 let mut script = self.copies_home(named);
-                script.push((Place::Commit, empty_page()));
+                script.push((Place::Commit, empty_page::<F>()));
                 script
             }
+            _ => Vec::new(),
         };
         self.volatile.up = true;
-        Ok(self.write_pages(&script, count))
+        let Answer(number, value) = self.write_pages(&script, cut);
+        let counted = if self.planted(Bug::MendingCounted) { mended as u8 } else { 0 };
+        Ok(Answer(number, value + counted))
     }
 
     fn live(&self, transaction: Transaction) -> Result<(), Refusal> {

@@ -1,21 +1,27 @@
 //! What the player remembers between two events, and the same as plain facts.
 
 use crate::event::Record;
-use crate::limits::RECORDS;
+use crate::form::{Form, Plain};
 use crate::locks::{Locks, Share};
 use crate::soundness::{Begun, Facts};
 use crate::store::CommitPage;
 use crate::tree::{Node, Tree};
 
 /// What the player remembers; at the start it is down and nothing is live.
-#[derive(Clone, Default)]
-pub struct Volatile {
+#[derive(Clone)]
+pub struct Volatile<F: Form = Plain> {
     pub(crate) up: bool,
     pub(crate) tree: Tree,
-    pub(crate) locks: Locks,
+    pub(crate) locks: Locks<F>,
 }
 
-impl Volatile {
+impl<F: Form> Default for Volatile<F> {
+    fn default() -> Self {
+        Volatile { up: false, tree: Tree::default(), locks: Locks::default() }
+    }
+}
+
+impl<F: Form> Volatile<F> {
     /// All that it remembers.
     pub fn facts(&self) -> Facts {
         let mut facts = Facts { up: self.up, ..Facts::default() };
@@ -24,7 +30,7 @@ impl Volatile {
             facts.live.insert(transaction, Begun { parent: node.parent, depth: node.depth });
             facts.versions.extend(node.versions.iter().map(|(record, page)| ((transaction, *record), *page)));
         }
-        for record in (0..RECORDS as u8).map(Record) {
+        for record in (0..F::RECORDS as u8).map(Record) {
             for Share { transaction, held, retained } in self.locks.shares(record) {
                 facts.holders.extend(held.map(|mode| ((record, *transaction), mode)));
                 facts.retainers.extend(retained.map(|mode| ((record, *transaction), mode)));
@@ -45,7 +51,7 @@ impl Volatile {
     }
 
     /// A volatile that remembers these facts, if they are sound over a store with this page 0.
-    pub fn of(facts: &Facts, page: &CommitPage) -> Option<Volatile> {
+    pub fn of(facts: &Facts, page: &CommitPage) -> Option<Self> {
         if facts.fault(page).is_some() {
             return None;
         }

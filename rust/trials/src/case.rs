@@ -1,5 +1,6 @@
 //! A case: a start store and a list. A program plays it.
 
+use crate::check::Left;
 use nekahuiro::limits::{ANSWER_BYTES, EVENT_BYTES, WORK_BYTES};
 use nekahuiro_lists::stores::Bytes;
 use nekahuiro_player::planted::Bug;
@@ -70,6 +71,13 @@ impl Program {
         let mut answers = vec![TAIL; case.length() * ANSWER_BYTES + TAIL_BYTES];
         let number = self.run(&mut store, &case.events, &mut work, &mut answers);
         Played { number, store, answers }
+    }
+}
+
+impl Played {
+    /// The same in parts.
+    pub(crate) fn left(&self) -> Left<'_> {
+        (self.number, &self.answers, &self.store)
     }
 }
 

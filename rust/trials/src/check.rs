@@ -21,33 +21,40 @@ pub enum Fault {
     Demand(Breach),
     /// It isn't as if one transaction came at a time.
     Serial(Unlike),
+    /// Where pages are pairs of copies: a page is left without a good copy, or one without was touched.
+    Premise,
 }
 
 /// Plays a case on a program and compares it with a reference and with demand 3.
 pub fn check(program: Program, reference: Program, case: &Case) -> Result<Played, Fault> {
     let played = program.play(case, 0x5A);
-    compare(case, &played, &reference.play(case, 0))?;
+    compare(case.length(), played.left(), reference.play(case, 0).left())?;
     let history = first_half(run_of(case, &played)).map_err(Fault::Demand)?;
     check_second(program, case, &played, &history)?;
     Ok(played)
 }
 
-fn compare(case: &Case, played: &Played, due: &Played) -> Result<(), Fault> {
+/// What a program left: what the run itself answered, the whole answer buffer, the store.
+pub(crate) type Left<'l> = (u8, &'l [u8], &'l [u8]);
+
+/// How what a program left after so many events differs from what is due.
+pub(crate) fn compare(events: usize, played: Left, due: Left) -> Result<(), Fault> {
     if played == due {
         return Ok(());
     }
-    if played.number != due.number {
-        return Err(Fault::Number(played.number, due.number));
+    let ((number, answers, store), (due, due_answers, due_store)) = (played, due);
+    if number != due {
+        return Err(Fault::Number(number, due));
     }
-    let end = case.length() * ANSWER_BYTES;
+    let end = events * ANSWER_BYTES;
     let differs = |(one, two): (&u8, &u8)| one != two;
-    if let Some(at) = played.answers[..end].iter().zip(&due.answers).position(differs) {
+    if let Some(at) = answers[..end].iter().zip(due_answers).position(differs) {
         return Err(Fault::Answer(at / ANSWER_BYTES));
     }
-    if played.answers[end..].iter().any(|byte| *byte != TAIL) {
+    if answers[end..].iter().any(|byte| *byte != TAIL) {
         return Err(Fault::Tail);
     }
-    let at = played.store.iter().zip(&due.store).position(differs);
+    let at = store.iter().zip(due_store).position(differs);
     Err(Fault::Store(at.unwrap_or(0)))
 }
 

@@ -5,6 +5,7 @@ pub mod check;
 pub mod ends;
 pub mod every_order;
 pub mod exhaustive;
+pub mod forms;
 pub mod lent;
 pub mod listed;
 pub mod lives;

@@ -23,24 +23,30 @@ pub fn minimise(mut case: Case, fails: impl Fn(&Case) -> bool) -> Case {
     }
 }
 
-fn fewer_events(mut case: Case, fails: &impl Fn(&Case) -> bool) -> Case {
-    let mut chunk = case.length().next_power_of_two();
+fn fewer_events(case: Case, fails: &impl Fn(&Case) -> bool) -> Case {
+    let Case { store, events } = case;
+    let events = fewer(events, EVENT_BYTES, &|events| fails(&Case { store, events: events.to_vec() }));
+    Case { store, events }
+}
+
+/// Event words of so many bytes, without those that the failure doesn't need.
+pub(crate) fn fewer(mut events: Vec<u8>, word: usize, fails: &impl Fn(&[u8]) -> bool) -> Vec<u8> {
+    let mut chunk = (events.len() / word).next_power_of_two();
     while chunk > 0 {
         let mut at = 0;
-        while at < case.length() {
-            let end = (at + chunk).min(case.length());
-            let mut events = case.events.clone();
-            events.drain(at * EVENT_BYTES..end * EVENT_BYTES);
-            let shorter = Case { events, ..case };
+        while at < events.len() / word {
+            let end = (at + chunk).min(events.len() / word);
+            let mut shorter = events.clone();
+            shorter.drain(at * word..end * word);
             if fails(&shorter) {
-                case = shorter;
+                events = shorter;
             } else {
                 at += chunk;
             }
         }
         chunk /= 2;
     }
-    case
+    events
 }
 
 /// Leaves out whole transactions; the rest keep their parents but may get other numbers.

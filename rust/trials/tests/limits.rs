@@ -11,7 +11,10 @@ fn header() -> String {
 
 /// A number that the C header defines.
 fn defined(name: &str) -> usize {
-    let header = header();
+    defined_in(&header(), name)
+}
+
+fn defined_in(header: &str, name: &str) -> usize {
     let start = format!("#define {name} ");
     let line = header.lines().find(|line| line.starts_with(&start)).unwrap_or_else(|| panic!("{name} isn't defined"));
     let number = line[start.len()..].split("/*").next().unwrap_or_default();
@@ -40,6 +43,26 @@ fn header_wrapper_and_player_have_the_same_numbers() {
     assert_eq!(defined("NEKAHUIRO_PAGE_WRITE_BYTES"), limits::PAGE_WRITE_BYTES);
     assert_eq!(defined("NEKAHUIRO_NO_SUCH_WRITE"), usize::from(NO_SUCH_WRITE));
     assert_eq!(defined("NEKAHUIRO_NO_CUT"), usize::from(limits::COUNT_LIMIT));
+}
+
+#[test]
+fn edition_2_has_the_same_numbers_in_all_three() {
+    use nekahuiro::edition2::limits::{COUNT_LIMIT, EVENT_BYTES, LIST_BYTES, RECORDS, STORE_BYTES, WORK_BYTES};
+    use nekahuiro_player::{Edition2, Form};
+    let path = concat!(env!("CARGO_MANIFEST_DIR"), "/../../include/nekahuiro_edition2.h");
+    let header = std::fs::read_to_string(path).expect("include/nekahuiro_edition2.h");
+    let rows = [
+        ("RECORDS", RECORDS, Edition2::RECORDS),
+        ("STORE_BYTES", STORE_BYTES, Edition2::STORE_BYTES),
+        ("WORK_BYTES", WORK_BYTES, Edition2::WORK_BYTES),
+        ("EVENT_BYTES", EVENT_BYTES, Edition2::EVENT_BYTES),
+        ("LIST_BYTES", LIST_BYTES, player::EVENTS * Edition2::EVENT_BYTES),
+        ("NO_CUT", usize::from(COUNT_LIMIT), (1 << Edition2::COUNT_BITS) - 1),
+    ];
+    for (name, wrapper, player) in rows {
+        let defined = defined_in(&header, &format!("NEKAHUIRO_EDITION2_{name}"));
+        assert_eq!((defined, player), (wrapper, wrapper), "{name}");
+    }
 }
 
 #[test]

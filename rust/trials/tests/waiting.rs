@@ -160,7 +160,8 @@ fn random_reports_are_those_of_an_independent_search() {
 }
 
 /// Every state of so many transactions and records, sound or not, with every choice of at most one row for each
-/// transaction.
+/// transaction. Of states that differ only in which record is which, one is tried: all rows are tried on each, so
+/// the others would ask the same with the records exchanged.
 fn every_state(count: usize, records: usize) -> Tally {
     let (tally, ways) = (Tally::default(), ways(count));
     let states = forests(count) * ways.pow(records as u32);
@@ -170,6 +171,9 @@ fn every_state(count: usize, records: usize) -> Tally {
         for _ in 0..records {
             locks.push(rest % ways);
             rest /= ways;
+        }
+        if !locks.is_sorted() {
+            return Ok(());
         }
         let Some(facts) = small(count, choice, &locks) else { return Ok(()) };
         let state = encode(&facts);

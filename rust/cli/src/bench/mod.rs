@@ -2,6 +2,7 @@
 
 mod cold;
 mod counts;
+mod edition2;
 mod lists;
 mod programs;
 mod sizes;
@@ -31,9 +32,10 @@ const NO_PROGRAM: &str = "none";
 fn run(arguments: &[String]) -> Outcome {
     let words: Vec<&str> = arguments.iter().map(String::as_str).collect();
     match words[..] {
-        ["--quick"] => say(&times::text()?),
+        ["--quick"] => say(&times::text()?).and_then(|()| say(&edition2::text()?)),
         [] => {
             say(&times::text()?)?;
+            say(&edition2::text()?)?;
             say(&cold::text()?)?;
             say(&counts::text()?)?;
             say(&sizes::text())

@@ -42,7 +42,8 @@ pub fn text() -> Outcome<String> {
     Ok(text)
 }
 
-fn least_and_median(taken: &mut [f64]) -> (f64, f64) {
+/// The least and the median of some times.
+pub fn least_and_median(taken: &mut [f64]) -> (f64, f64) {
     taken.sort_by(f64::total_cmp);
     (taken[0], taken[taken.len() / 2])
 }

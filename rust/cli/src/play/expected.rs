@@ -1,10 +1,9 @@
 //! `--expect FILE`: the answers that should be given, two bytes each.
 
-use super::Played;
 use crate::failure::{Failure, Outcome, Status};
 use crate::files::{cant_read, read_up_to};
-use nekahuiro::limits::{ANSWER_BYTES, EVENT_BYTES};
-use nekahuiro::{describe, Answer};
+use nekahuiro::limits::ANSWER_BYTES;
+use nekahuiro::Answer;
 
 /// More than the answers of any list that is read.
 const LIMIT: usize = 1 << 28;
@@ -20,16 +19,16 @@ pub fn read(name: &str) -> Outcome<Vec<Answer>> {
     Ok(bytes.chunks_exact(ANSWER_BYTES).map(|pair| Answer::of([pair[0], pair[1]])).collect())
 }
 
-/// Fails at the first answer that isn't the expected one.
-pub fn compare(name: &str, expected: &[Answer], Played { words, answers, .. }: &Played) -> Outcome {
+/// Fails at the first answer that isn't the expected one; `event` tells an event in words.
+pub fn compare(name: &str, expected: &[Answer], answers: &[Answer], event: &dyn Fn(usize) -> String) -> Outcome {
     let mend = "look at the list, at the store before it, or at the expected answers";
     let differs = |reason: &str| Err(Failure::with(Status::OtherAnswers, reason, mend));
     let hex = |answer: &Answer| format!("{:02X}{:02X}", answer.number, answer.value);
-    let pairs = words.chunks_exact(EVENT_BYTES).zip(answers.iter().zip(expected));
-    for (at, (word, (found, due))) in (1..).zip(pairs) {
+    for (at, (found, due)) in answers.iter().zip(expected).enumerate() {
         if found != due {
-            let event = describe([word[0], word[1], word[2], word[3]]);
-            let reason = format!("event {at}, {event}: the answer is {}, and {name} has {}", hex(found), hex(due));
+            let event = event(at);
+            let reason =
+                format!("event {}, {event}: the answer is {}, and {name} has {}", at + 1, hex(found), hex(due));
             return Err(Failure::with(Status::OtherAnswers, &reason, &format!("{found} and not {due}; {mend}")));
         }
     }

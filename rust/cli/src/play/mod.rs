@@ -1,5 +1,6 @@
 //! `play STORE EVENTS`: plays a list on a store file.
 
+mod edition2;
 mod expected;
 mod options;
 mod outputs;
@@ -16,7 +17,7 @@ use crate::pair::Pair;
 use crate::state_file::{self, Kept};
 use crate::{list, names, number_of, page, say, sheet, trace};
 use nekahuiro::limits::{EVENTS, EVENT_BYTES};
-use nekahuiro::{Answer, Event, Refusal, Store};
+use nekahuiro::{describe, Answer, Event, Refusal, Store};
 use nekahuiro_history::{tell_from, Earlier, History};
 use options::Options;
 use outputs::Outputs;
@@ -60,6 +61,10 @@ with another, or if the store was changed since, nothing is played. Store and st
 copied together. A play that is stopped leaves the old pair or the new pair: the new state is first
 written to `.FILE.nekahuiro`, and where the state file doesn't fit the store and that one does, it is
 taken and put in its place. To give up what is live, play a crash and a recover.
+
+A store of edition 2, which `fresh --edition 2` makes, is known by its length. Its records are 0 to 63, its
+counts go up to 255, its event words have 8 bytes or 16 hex digits; there are no names, no prepare, decide and
+query, and no --trace, --picture, --page, --portions, --state and --sheet.
 ",
     run,
 };
@@ -93,6 +98,9 @@ impl Played {
 pub fn run(words: &[String]) -> Outcome {
     let options = Options::of(words)?;
     options.check_files()?;
+    if crate::edition2::is_store(options.store) {
+        return edition2::run(&options);
+    }
     // The list may come slowly, and the files are read when they are needed.
     let list = match options.sheet {
         true => List { words: sheet::read(options.events)?, ..List::default() },
@@ -124,19 +132,31 @@ pub fn run(words: &[String]) -> Outcome {
         true => failure,
         false => failure.after(&format!("the list was played on {}, so don't play it again", options.store)),
     })?;
-    verdict(&options, &played, expected.as_deref())
+    let event =
+        |at: usize| played.words[at * EVENT_BYTES..].first_chunk().map(|word| describe(*word)).unwrap_or_default();
+    let first = played.refusals().next();
+    verdict(&options, &played.answers, first, expected.as_deref(), &event)
 }
 
-/// What --expect and --strict ask for.
-fn verdict(options: &Options, played: &Played, expected: Option<&[Answer]>) -> Outcome {
+/// What is said if something fails after the point of no return.
+const PLAYED: &str = "the list was played, so don't play it again";
+
+/// What --expect and --strict ask for; `first` is the first refusal in words, and `event` tells an event.
+fn verdict(
+    options: &Options,
+    answers: &[Answer],
+    first: Option<(usize, String)>,
+    expected: Option<&[Answer]>,
+    event: &dyn Fn(usize) -> String,
+) -> Outcome {
     let kept = if options.dry { "nothing was changed" } else { "the list was played all the same" };
     if let (Some(name), Some(expected)) = (options.expect, expected) {
-        expected::compare(name, expected, played).map_err(|failure| failure.and(kept))?;
+        expected::compare(name, expected, answers, event).map_err(|failure| failure.and(kept))?;
     }
-    let refused = played.answers.iter().filter(|answer| !answer.is_accepted()).count();
+    let refused = answers.iter().filter(|answer| !answer.is_accepted()).count();
     if options.strict && refused > 0 {
         let verb = if refused == 1 { "was" } else { "were" };
-        let first = played.refusals().next().map(|(at, what)| format!("event {}, {what}", at + 1)).unwrap_or_default();
+        let first = first.map(|(at, what)| format!("event {}, {what}", at + 1)).unwrap_or_default();
         let reason = format!("{} {verb} refused; the first is {first}", number_of(refused, "event"));
         return Err(Failure::with(Status::EventRefused, &reason, "--trace tells of each why").and(kept));
     }

@@ -5,6 +5,7 @@ use crate::failure::visible;
 use crate::{number_of, show, trace};
 use nekahuiro::limits::EVENT_BYTES;
 use nekahuiro::Answer;
+use nekahuiro_history::History;
 use std::collections::BTreeMap;
 use std::fmt::Write;
 
@@ -23,7 +24,7 @@ pub fn text(options: &Options, played: &Played) -> String {
             let _ = writeln!(text, "{bits:08X} {:02X}{:02X}", answer.number, answer.value);
         }
     }
-    text.push_str(&counts(played));
+    text.push_str(&counts(answers, history));
     if !options.trace {
         text.push_str(&refusals(answers));
     }
@@ -46,7 +47,7 @@ pub fn text(options: &Options, played: &Played) -> String {
 }
 
 /// How many events were done, refused and cut, and what became of the transactions.
-fn counts(Played { answers, history, .. }: &Played) -> String {
+pub fn counts(answers: &[Answer], history: &History) -> String {
     let count = |wanted: fn(&Answer) -> bool| answers.iter().filter(|answer| wanted(answer)).count();
     let (accepted, cut) = (count(|answer| answer.is_accepted()), count(|answer| answer.is_cut()));
     let (events, refused) = (number_of(answers.len(), "event"), answers.len() - accepted);
@@ -55,7 +56,7 @@ fn counts(Played { answers, history, .. }: &Played) -> String {
 }
 
 /// Each refusal in words, once, and where it was given.
-fn refusals(answers: &[Answer]) -> String {
+pub fn refusals(answers: &[Answer]) -> String {
     let mut places: BTreeMap<u8, Vec<usize>> = BTreeMap::new();
     for (at, answer) in (1..).zip(answers).filter(|(_, answer)| !answer.is_accepted()) {
         places.entry(answer.number).or_default().push(at);

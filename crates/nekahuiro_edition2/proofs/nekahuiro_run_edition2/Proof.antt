@@ -1,0 +1,76 @@
+-- The lengths decide; where they are right a portion from the start is the run.
+use borrow.Author.Needs.{needs}
+use mathlib.Core.Path.{_≡_, refl, sym, _∙_}
+use mathlib.Core.List.{List}
+use Prim.Native.Nat.{ℕ}
+use native.Mathlib.Omega.{arith}
+use Rattle.rules.specs.Editions.{geometry2, edition2}
+use Rattle.history.specs.Demand3.{Demand-3}
+use Rattle.history.proofs.Editions.{demand-3-edition2}
+use Rattle.serial.specs.OneAtATime.{One-run-at-a-time}
+use Rattle.serial.proofs.Runs.{one-run-at-a-time-edition2}
+use Rattle.commitpage.proofs.Places.{layout2}
+use Rattle.event.proofs.Words.{bytes2}
+use Rattle.lengths.proofs.Lengths.{lengths-of}
+use Rattle.running.specs.Running.{Ran}
+use Rattle.running.proofs.Running.{run-refused, run-played, from-start, ran-demand, ran-serial}
+use Rattle.nekahuiro_edition2.proofs.nekahuiro_run_edition2.Statement.{statement}
+use Rattle.nekahuiro_edition2.proofs.nekahuiro_run_edition2.Tie as tie
+use Rattle.nekahuiro_edition2.proofs.nekahuiro_run_edition2.Reads as reads
+use Rattle.nekahuiro_edition2.proofs.nekahuiro_run_edition2.Lts as lts
+use Rattle.portions_edition2.proofs.portion.Reads as portion-reads
+use Rattle.portions_edition2.proofs.start.Reads as start-reads
+use Rattle.lengths.proofs.refusal.Reads as refusal-reads
+
+-- a run, with what holds of it where it is played
+signed : {store events work answers store′ work′ answers′ : List ℕ} {n : ℕ} → Ran edition2 store events work answers n store′ work′ answers′
+    → Ran edition2 store events work answers n store′ work′ answers′ × ((n ≡ 0 → Demand-3 edition2 store events work answers) × (n ≡ 0 → One-run-at-a-time edition2 store events work answers))
+signed R = (R, (ran-demand edition2 demand-3-edition2 R, ran-serial edition2 one-run-at-a-time-edition2 R))
+
+refusal-requires : tie.Need-refusal-requires
+refusal-requires c κs = (omega arith, omega arith, omega arith)
+
+returns : tie.Need-returns
+returns c =
+    let a = c .before .before .before .before .before .before .args in
+    signed (run-refused 64 8 geometry2 (layout2 .many) bytes2 refl (a .store .now) (a .events .now) (a .work .now) (a .answers .now) (c .before .refusal .result) (c .before .refusal .ensures) (c .if1 .taken))
+
+start-requires : tie.Need-start-requires
+start-requires c κs = search needs
+
+portion-requires : tie.Need-portion-requires
+portion-requires c κs =
+    let a = c .before .before .before .before .before .before .before .before .before .before .args in
+    let l = lengths-of 64 8 _ _ _ _ (sym (c .before .before .before .before .before .refusal .ensures) ∙ c .before .before .before .before .if1 .left) in
+    (c .before .before .before .start .ensures (a .work .now) (a .store .now) (l .work) (l .store) .0, l .short, l .room)
+
+same-length : tie.Need-same-length
+same-length c = search needs
+
+same-length-2 : tie.Need-same-length-2
+same-length-2 c = search needs
+
+same-length-3 : tie.Need-same-length-3
+same-length-3 c = search needs
+
+returns-2 : tie.Need-returns-2
+returns-2 c =
+    let a = c .before .before .before .before .before .before .before .before .before .before .before .before .before .before .before .before .before .args in
+    let none = sym (c .before .before .before .before .before .before .before .before .before .before .before .before .refusal .ensures) ∙ c .before .before .before .before .before .before .before .before .before .before .before .if1 .left in
+    let l = lengths-of 64 8 _ _ _ _ none in
+    let begun = c .before .before .before .before .before .before .before .before .before .before .start .ensures (a .work .now) (a .store .now) (l .work) (l .store) in
+    let left = from-start edition2 (a .store .now) (a .events .now) (a .answers .now) _ _ _ (begun .1) (c .before .before .before .before .before .before .portion .ensures .0) in
+    signed (run-played 64 8 geometry2 (layout2 .many) bytes2 refl (a .store .now) (a .events .now) (a .work .now) (a .answers .now) _ _ _ none left (search needs))
+
+pub nekahuiro-run-edition2-spec : {M : Type 1} → statement M
+nekahuiro-run-edition2-spec =
+    tie.close
+    (tie.spec
+    refusal-requires
+    returns
+    start-requires
+    portion-requires
+    same-length
+    same-length-2
+    same-length-3
+    returns-2)

@@ -1,0 +1,2 @@
+-- What is lent as a state.
+pub mod Portion
