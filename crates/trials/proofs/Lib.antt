@@ -1,6 +1,5 @@
 -- Every row holds, by computing; the test of sound states decides soundness.
 pub mod Trials
-pub mod Edition2Trials
 pub mod PortionTrials
 pub mod WaitingTrials
 pub mod SoundTrials

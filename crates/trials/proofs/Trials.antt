@@ -15,9 +15,9 @@ use Rattle.rules.specs.Step.{open-step}
 use Rattle.rules.specs.Run.{open-run}
 use Rattle.rules.specs.Age.{open-age}
 use Rattle.rules.specs.Editions.{edition1}
-use Rattle.trials.specs.Rows.{allPass, AllHold, numbers1}
-use Rattle.trials.specs.CommonTrials.{commonTrials}
-use Rattle.trials.specs.EdgeTrials.{edgeTrials}
+use Rattle.trials_rows.specs.Rows.{allPass, AllHold, numbers1}
+use Rattle.trials_rows.specs.CommonTrials.{commonTrials}
+use Rattle.trials_rows.specs.EdgeTrials.{edgeTrials}
 use Rattle.trials.specs.WordTrials.{wordTrials}
 use Rattle.trials.specs.PageTrials.{pageTrials, ageTrials, bitTrials}
 use Rattle.trials.specs.PreparedTrials.{preparedTrials}

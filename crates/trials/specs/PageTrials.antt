@@ -7,11 +7,7 @@ use lib.ListN.{getD, take, drop, length, set, replicate}
 use lib.IntN.{pos, negsuc}
 use Rattle.rules.specs.Event.{write, read, commit, crash, recover, query}
 use Rattle.rules.specs.Age.{ahead, live, stale, refused}
-use Rattle.trials.specs.Rows.{Line, Due, page, value, Trial, plays, refuses, takes, lays, ages, damages, freshBytes, blank, emptyPage, withA5, on, top, locks, onFresh}
-
--- a store with these bytes at a place
-abbrev pub put : ℕ → List ℕ → List ℕ → List ℕ
-put at bs store = take at store ++ (bs ++ drop (at + length bs) store)
+use Rattle.trials_rows.specs.Rows.{Line, Due, page, value, Trial, plays, refuses, takes, lays, ages, damages, freshBytes, blank, emptyPage, withA5, on, top, locks, onFresh, put, flipped, damagedAt, writesAll}
 
 -- page 0 as committed for records 0 and 3, for records 3 and 9, and for all
 abbrev pub committed03 : List ℕ
@@ -30,18 +26,6 @@ prepared03 = 0x13 ∷ 0x90 ∷ 0x00 ∷ 0x10 ∷ 0x2A ∷ replicate 27 0
 -- a store that is fresh but for page 0
 abbrev pub under0 : List ℕ → List ℕ
 under0 head = put 0 head freshBytes
-
--- bit i of some bytes, the most significant first, is the other one
-abbrev pub flipped : ℕ → List ℕ → List ℕ
-flipped i bs =
-    let b : ℕ = getD bs (i / 8) 0 in
-    let m : ℕ = 2 ^ (7 - i % 8) in
-    set bs (i / 8) (cond (eqb (b / m % 2) 1) (b - m) (b + m))
-
--- with any one of n bits from i on the other way, this page 0 is damaged
-abbrev pub damagedAt : List ℕ → ℕ → ℕ → List Trial
-damagedAt head i zero = []
-damagedAt head i (suc n) = damages (flipped i head) ∷ damagedAt head (suc i) n
 
 -- so is this one, for a recovery: it changes nothing and leaves the store down
 abbrev pub stays : List ℕ → Trial
@@ -62,11 +46,6 @@ owed = put 0 committed39 (set (set freshBytes (32 * 4 + 2) 0xA5) (32 * 10 + 2) 0
 
 abbrev pub recoversOwed : ℕ → ℕ → List Due → Trial
 recoversOwed k a ds = plays owed (on (recover k) a ∷ []) ds
-
--- transaction 0 writes into the n records from r on
-abbrev pub writesAll : ℕ → ℕ → List Line
-writesAll r zero = []
-writesAll r (suc n) = on (locks 0 r) 0x0000 ∷ on (write 0 r 2 0xA5) 0x0000 ∷ writesAll (suc r) n
 
 -- the bytes 0, 1, .. as a page
 abbrev pub rising : ℕ → ℕ → List ℕ

@@ -8,7 +8,7 @@ use Rattle.rules.specs.State.{down}
 use Rattle.rules.specs.Form.{Medium}
 use Rattle.rules.specs.Portion.{Lent, Portion, portion, Chain, chainFrom}
 use Rattle.rules.specs.Editions.{edition1}
-use Rattle.trials.specs.Rows.{Line, Due, Trial, plays, playsFresh, refuses, takes, lays, ages, damages, alike, freshBytes, numbers1, eventsOf, answersOf, allDue}
+use Rattle.trials_rows.specs.Rows.{Line, Due, Trial, plays, playsFresh, refuses, takes, lays, ages, damages, alike, freshBytes, numbers1, eventsOf, answersOf, allDue}
 use Rattle.trials.specs.Trials.{firstTrials}
 
 -- the buffers of a portion: some events, and an answer buffer of some bytes

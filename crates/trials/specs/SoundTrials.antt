@@ -14,7 +14,7 @@ use Rattle.rules.specs.Versions.{isSome}
 use Rattle.rules.specs.Step.{StateOf}
 use Rattle.rules.specs.Sound.{inLine, isCalm}
 use Rattle.rules.specs.Editions.{edition1}
-use Rattle.trials.specs.Rows.{freshBytes, blank}
+use Rattle.trials_rows.specs.Rows.{freshBytes, blank}
 
 abbrev pub Desk : Type 0
 Desk = StateOf edition1

@@ -12,7 +12,7 @@ use Rattle.rules.specs.State.{Bearer, free, active, Mode, nothing, reading, wri
 use Rattle.rules.specs.Step.{StateOf}
 use Rattle.rules.specs.Portion.{Portion, portion}
 use Rattle.rules.specs.Editions.{edition1}
-use Rattle.trials.specs.Rows.{Line, word, alike, numbers1, eventsOf, answersOf, freshBytes, blank, withA5, on, top, locks, shares, aborts, reports, writesA5, childWrites11}
+use Rattle.trials_rows.specs.Rows.{Line, word, alike, numbers1, eventsOf, answersOf, freshBytes, blank, withA5, on, top, locks, shares, aborts, reports, writesA5, childWrites11}
 
 -- of a state: whether it is up; a number that is free, or borne with a parent and a depth; what a transaction holds and retains of a record's lock; its
 -- version of a record, or that it has none

@@ -7,9 +7,9 @@ use lib.ListN.{set}
 use lib.IntN.{negsuc}
 use Rattle.rules.specs.Event.{begin, recover}
 use Rattle.rules.specs.Age.{ahead}
-use Rattle.trials.specs.Rows.{Line, word, Trial, plays, refuses, ages, page, value, freshBytes, emptyPage, withA5, on, top, locks, onFresh}
-use Rattle.trials.specs.CommonTrials.{commonTrials}
-use Rattle.trials.specs.EdgeTrials.{edgeTrials}
+use Rattle.trials_rows.specs.Rows.{Line, word, Trial, plays, refuses, ages, page, value, freshBytes, emptyPage, withA5, on, top, locks, onFresh, bits}
+use Rattle.trials_rows.specs.CommonTrials.{commonTrials}
+use Rattle.trials_rows.specs.EdgeTrials.{edgeTrials}
 use Rattle.trials.specs.WordTrials.{wordTrials}
 use Rattle.trials.specs.PageTrials.{pageTrials, ageTrials, bitTrials}
 use Rattle.trials.specs.PreparedTrials.{preparedTrials}

@@ -14,7 +14,7 @@ use Rattle.rules.specs.Step.{firstOf}
 use Rattle.rules.specs.Run.{answerBytes, Played, play}
 use Rattle.rules.specs.Waiting.{WaitingRow, Pointings, pointsTo, isCycle, reportRefusals}
 use Rattle.rules.specs.Editions.{edition1}
-use Rattle.trials.specs.Rows.{Line, numbers1, wordsOf, answersOf, on, top, locks, shares}
+use Rattle.trials_rows.specs.Rows.{Line, numbers1, wordsOf, answersOf, on, top, locks, shares}
 
 -- On a fresh store, events with the answers due, and waiting rows. Then: of each transaction from 0, to whom it points, and nobody else points; a
 -- list that is a cycle, or is none; or the refusal due, with a state that is taken for sound or for unsound.

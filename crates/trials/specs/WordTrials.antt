@@ -3,20 +3,10 @@
 use Prim.Native.Nat.{ℕ, zero, suc, _+_, _*_, _^_}
 use mathlib.Core.List.{List, [], _∷_, _++_}
 use Rattle.rules.specs.Event.{write, read, commit}
-use Rattle.trials.specs.Rows.{Line, word, Trial, plays, page, freshBytes, emptyPage, on, top, locks, onFresh}
-
--- the words that have one more bit than this one, at n places from i on, and their answer
-abbrev pub bits : ℕ → ℕ → ℕ → ℕ → List Line
-bits w i zero a = []
-bits w i (suc n) a = word (w + 2 ^ i) a ∷ bits w (suc i) n a
+use Rattle.trials_rows.specs.Rows.{Line, word, Trial, plays, page, freshBytes, emptyPage, on, top, locks, onFresh, bits, tops}
 
 abbrev pub whileDown : List Line → Trial
 whileDown ls = plays freshBytes ls (page 0 emptyPage ∷ [])
-
--- n top transactions, the first of which gets number i
-abbrev pub tops : ℕ → ℕ → List Line
-tops i zero = []
-tops i (suc n) = on top i ∷ tops (suc i) n
 
 unfoldable pub wordTrials : List Trial
 wordTrials =

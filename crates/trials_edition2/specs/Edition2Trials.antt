@@ -5,11 +5,9 @@ use lib.ListN.{take, set, replicate}
 use lib.IntN.{pos, negsuc}
 use Rattle.rules.specs.Event.{begin, write, read, commit, crash, recover}
 use Rattle.rules.specs.Age.{ahead, live, refused}
-use Rattle.trials.specs.Rows.{Numbers, Line, word, fields, page, home, emptied, value, Trial, plays, playsFresh, refuses, takes, lays, ages, damages, blank, withA5, on, top, locks, onFresh, writesA5}
-use Rattle.trials.specs.WordTrials.{bits, tops}
-use Rattle.trials.specs.PageTrials.{put, writesAll, damagedAt}
-use Rattle.trials.specs.CommonTrials.{commonTrials}
-use Rattle.trials.specs.EdgeTrials.{edgeTrials}
+use Rattle.trials_rows.specs.Rows.{Numbers, Line, word, fields, page, home, emptied, value, Trial, plays, playsFresh, refuses, takes, lays, ages, damages, blank, withA5, on, top, locks, onFresh, writesA5, bits, tops, put, damagedAt, writesAll}
+use Rattle.trials_rows.specs.CommonTrials.{commonTrials}
+use Rattle.trials_rows.specs.EdgeTrials.{edgeTrials}
 
 -- The word has kind 4 bits, transaction 5, record 6, offset 5, count 8, value 8, and 28 zero bits; pages of 32 bytes; home pages from page 65.
 abbrev pub fresh2 : List ℕ

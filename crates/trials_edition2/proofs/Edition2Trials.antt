@@ -15,10 +15,10 @@ use Rattle.rules.specs.Step.{open-step}
 use Rattle.rules.specs.Run.{open-run}
 use Rattle.rules.specs.Age.{open-age}
 use Rattle.rules.specs.Editions.{edition2}
-use Rattle.trials.specs.Rows.{allPass, AllHold, allGo, AllGo}
-use Rattle.trials.specs.CommonTrials.{commonTrials}
-use Rattle.trials.specs.EdgeTrials.{edgeTrials}
-use Rattle.trials.specs.Edition2Trials.{numbers2, wordTrials2, byteTrials2, commitTrials2, pageTrials2, lengthTrials2, ageTrials2, bitTrials2, trials2, played2}
+use Rattle.trials_rows.specs.Rows.{allPass, AllHold, allGo, AllGo}
+use Rattle.trials_rows.specs.CommonTrials.{commonTrials}
+use Rattle.trials_rows.specs.EdgeTrials.{edgeTrials}
+use Rattle.trials_edition2.specs.Edition2Trials.{numbers2, wordTrials2, byteTrials2, commitTrials2, pageTrials2, lengthTrials2, ageTrials2, bitTrials2, trials2, played2}
 
 bytes-hold : T (allPass edition2 numbers2 byteTrials2)
 unfolding open-tests open-counting open-functions open-bytes open-geometry open-store open-event open-state open-locks open-versions open-commit open-step open-run open-age byteTrials2

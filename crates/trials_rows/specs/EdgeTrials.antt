@@ -3,8 +3,7 @@ use Prim.Native.Nat.{ℕ, zero, suc, _+_}
 use mathlib.Core.List.{List, [], _∷_, _++_}
 use lib.ListN.{set}
 use Rattle.rules.specs.Event.{begin, write, read, commit, crash, recover}
-use Rattle.trials.specs.Rows.{Line, Trial, playsFresh, home, emptied, value, blank, withA5, on, top, locks, shares, aborts, reports, onFresh, nested, writesA5, childWrites11}
-use Rattle.trials.specs.WordTrials.{tops}
+use Rattle.trials_rows.specs.Rows.{Line, Trial, playsFresh, home, emptied, value, blank, withA5, on, top, locks, shares, aborts, reports, onFresh, nested, writesA5, childWrites11, tops}
 
 -- n transactions nested beneath t, which get the numbers from i on
 abbrev pub beneath : ℕ → ℕ → ℕ → List Line

@@ -1,10 +1,10 @@
 -- What a row of a table of trials says, when it passes, and the events, stores and lists that rows are made of. Words, pages, lengths and places
 -- stand here in the papers' own numbers, and lists are compared here, so that a wrong definition of the rules can't make its own row right.
-use Prim.Native.Nat.{ℕ, zero, suc, _+_, _*_, _/_, _%_}
+use Prim.Native.Nat.{ℕ, zero, suc, _+_, _-_, _*_, _/_, _%_, _^_}
 use mathlib.Core.Bool.{Bool, true, false, cond, _&&_}
 use mathlib.Core.List.{List, [], _∷_, _++_}
 use lib.Dec.{T, eqb}
-use lib.ListN.{take, drop, length, set, replicate}
+use lib.ListN.{getD, take, drop, length, set, replicate}
 use lib.IntN.{ℤ, pos, negsuc}
 use Rattle.rules.specs.Store.{Page}
 use Rattle.rules.specs.Event.{Access, toWrite, toRead, Event, begin, lock, write, read, commit, abort, crash, recover, prepare, decide, query}
@@ -268,3 +268,34 @@ bothA5 = value 3 withA5 ∷ value 9 withA5 ∷ []
 
 abbrev pub neither : List Due
 neither = value 3 blank ∷ value 9 blank ∷ []
+
+-- the words that have one more bit than this one, at n places from i on, and their answer
+abbrev pub bits : ℕ → ℕ → ℕ → ℕ → List Line
+bits w i zero a = []
+bits w i (suc n) a = word (w + 2 ^ i) a ∷ bits w (suc i) n a
+
+-- n top transactions, the first of which gets number i
+abbrev pub tops : ℕ → ℕ → List Line
+tops i zero = []
+tops i (suc n) = on top i ∷ tops (suc i) n
+
+-- a store with these bytes at a place
+abbrev pub put : ℕ → List ℕ → List ℕ → List ℕ
+put at bs store = take at store ++ (bs ++ drop (at + length bs) store)
+
+-- bit i of some bytes, the most significant first, is the other one
+abbrev pub flipped : ℕ → List ℕ → List ℕ
+flipped i bs =
+    let b : ℕ = getD bs (i / 8) 0 in
+    let m : ℕ = 2 ^ (7 - i % 8) in
+    set bs (i / 8) (cond (eqb (b / m % 2) 1) (b - m) (b + m))
+
+-- with any one of n bits from i on the other way, this page 0 is damaged
+abbrev pub damagedAt : List ℕ → ℕ → ℕ → List Trial
+damagedAt head i zero = []
+damagedAt head i (suc n) = damages (flipped i head) ∷ damagedAt head (suc i) n
+
+-- transaction 0 writes into the n records from r on
+abbrev pub writesAll : ℕ → ℕ → List Line
+writesAll r zero = []
+writesAll r (suc n) = on (locks 0 r) 0x0000 ∷ on (write 0 r 2 0xA5) 0x0000 ∷ writesAll (suc r) n

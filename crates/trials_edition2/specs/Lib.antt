@@ -1,0 +1,2 @@
+-- The rows of edition 2.
+pub mod Edition2Trials

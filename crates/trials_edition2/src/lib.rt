@@ -1,0 +1,1 @@
+// Rows of edition 2, decided by computing. No code.
