@@ -1,20 +1,22 @@
 -- The tests of the code decide the clauses.
 use mathlib.Core.Path.{_≡_, refl, sym, ap, ap₂, subst, _∙_, fun-ext}
-use mathlib.Core.Bool.{Bool, true, false, not, _&&_, _||_, true≢false}
+use mathlib.Core.Bool.{Bool, true, false, not, cond, _&&_, _||_, true≢false}
 use mathlib.Core.List.{List}
 use mathlib.Core.Option.{Option, none, some}
 use native.Mathlib.Omega.{arith}
-use Prim.Native.Nat.{ℕ, _+_, _*_, _<_}
+use Prim.Native.Nat.{ℕ, _+_, _*_, _-_, _/_, _%_, _^_, _<_}
 use lib.Dec.{ltb, leb}
 use lib.Bits.{bitOr}
 use lib.ListN.{getD}
 use Rattle.laws.specs.Tests.{same}
 use Rattle.laws.specs.Counting.{all}
 use Rattle.laws.specs.Bits.{bits}
-use Rattle.laws.proofs.Tests.{same-refl, ne-false}
+use Rattle.laws.specs.Bytes.{sameList, number}
+use Rattle.laws.proofs.Tests.{same?, Same, is, isnt, same-refl, ne-false}
 use Rattle.laws.proofs.Booleans.{clash}
 use Rattle.laws.proofs.Bits.{bits-zero, bits-or}
-use Rattle.rules.specs.Store.{Page, pagesOf, named, readCommit, isEmptied, emptied, Prepared, readPrepared, identityIn, preparedMap}
+use Rattle.rules.specs.Geometry.{Geometry, records, pageSize}
+use Rattle.rules.specs.Store.{Page, pagesOf, named, behindMap, commitPage, readCommit, isEmptied, emptied, Prepared, preparedPage, readPrepared, identityIn, preparedMap}
 use Rattle.rules.specs.Step.{isBusy}
 use Rattle.rules.specs.Sound.{isCalm}
 use Rattle.rules.specs.Editions.{geometry1, edition1, depths}
@@ -22,9 +24,9 @@ use Rattle.rules.proofs.Map.{named-zero}
 use Rattle.rules.proofs.PreparedPage.{prepared-is}
 use Rattle.sets.specs.Sets.{sets}
 use Rattle.arrays.specs.View.{anyMode}
+use Rattle.arrays.specs.Kin.{livesIn}
 use Rattle.commitpage.specs.Heard.{heard, overheard}
 use Rattle.commitpage.specs.declared.CommitMap.{CommitMap}
-use Rattle.commitpage.specs.declared.PreparedMap.{PreparedMap}
 use Rattle.clauses.specs.Decides.{Decides}
 use Rattle.clauses.specs.Clauses.{Vacant, Seated, Entry, Within, Lock, Share, UnlockedOf, Unlocked, Phase}
 use Rattle.clauses.proofs.Decides.{decides-as, decides-by, decides-self, decides-and, decides-or, decides-if, decides-unless, decides-same, decides-less, decides-most, decides-within}
@@ -134,7 +136,7 @@ share-decided above beneath held heldWriting retained retainedWriting t one e f 
     (decides-if (bits retained t) (within-either retainedWriting above beneath d))))
 
 -- what is read of a page as a map's, and as a prepared transaction's: whether it is empty, whether it is prepared and with which map
-empty-is : (o : Option ℕ) → (heard o .good && same (heard o .map) 0) ≡ isEmptied o
+pub empty-is : (o : Option ℕ) → (heard o .good && same (heard o .map) 0) ≡ isEmptied o
 unfolding heard isEmptied
 empty-is none = refl
 empty-is (some m) = refl
@@ -143,6 +145,25 @@ prepared-map-is : (q : Option Prepared) → overheard q .map ≡ preparedMap q
 unfolding overheard preparedMap
 prepared-map-is none = refl
 prepared-map-is (some p) = refl
+
+emptied-map : (b : Bool) (m : ℕ) → isEmptied (cond b (some m) none) ≡ true → same m 0 ≡ true
+unfolding isEmptied
+emptied-map true m e = e
+emptied-map false m e = clash e refl
+
+mapless : (j z b : Bool) (p : Prepared) → z ≡ true → overheard (cond (j && not z && b) (some p) none) .map ≡ 0
+unfolding overheard
+mapless true true b p e = refl
+mapless false true b p e = refl
+mapless j false b p e = clash e refl
+
+-- an empty commit page has no prepared transaction: both are read of the same map
+pub empty-none : (g : Geometry) (page : Page) → isEmptied (readCommit g page) ≡ true → overheard (readPrepared g page) .map ≡ 0
+unfolding readCommit readPrepared
+empty-none g page e =
+    let map = number page / 2 ^ behindMap g % 2 ^ records g in
+    let p : Prepared = record { map = map; identity = number page / 2 ^ (8 * (pageSize - 5)) % 256 } in
+    mapless (g .joint) (same map 0) (sameList page (preparedPage g p)) p (emptied-map (sameList page (commitPage g map)) map e)
 
 busy-is : (page : Page) → not (same (preparedMap (readPrepared geometry1 page)) 0) ≡ isBusy (identityIn (readPrepared geometry1 page))
 unfolding preparedMap identityIn isBusy
@@ -170,14 +191,30 @@ unlocked-decided map held retained r e =
     joined : (u : ℕ) → bits (bitOr (getD held (2 * r) 0) (getD retained (2 * r) 0)) u ≡ (anyMode (sets held) r u || anyMode (sets retained) r u)
     joined u = bits-or (getD held (2 * r) 0) (getD retained (2 * r) 0) u
 
-pub phase-decided : (up : ℕ) (depth held retained store : List ℕ) (c : CommitMap) (p : PreparedMap) {idle unlocked : Bool}
-    → c ≡ heard (readCommit geometry1 (pagesOf store 0)) → p ≡ overheard (readPrepared geometry1 (pagesOf store 0))
-    → Decides idle ((t : ℕ) → t < 24 → getD depth t 0 ≡ 0) → Decides unlocked (Unlocked (p .map) held retained)
+-- nobody is live, by the set of the live transactions
+pub idle-decided : {b : Bool} (live : ℕ) (depth : List ℕ) → bits live ≡ livesIn depth → b ≡ all 24 (λ k. not (bits live k) || bits 0 k)
+    → Decides b ((t : ℕ) → t < 24 → getD depth t 0 ≡ 0)
+idle-decided live depth e q =
+    decides-as
+    (λ f t h. free t (f t h) (same? (getD depth t 0) 0))
+    (λ f t h l. clash l (at t ∙ ap (λ (n : ℕ). not (same n 0)) (f t h) ∙ ap not (same-refl 0)))
+    (within-as live 0 (λ k. false) no-bits q)
+  where
+    at : (t : ℕ) → bits live t ≡ not (same (getD depth t 0) 0)
+    at t = ap (λ (f : ℕ → Bool). f t) e
+
+    free : (t : ℕ) → (bits live t ≡ true → false ≡ true) → Same (getD depth t 0) 0 → getD depth t 0 ≡ 0
+    free t f (is p s _) = p
+    free t f (isnt p s _) = clash (f (at t ∙ ap not s)) refl
+
+pub phase-decided : (up : ℕ) (depth held retained store : List ℕ) (c : CommitMap) (map : ℕ) {idle unlocked : Bool}
+    → c ≡ heard (readCommit geometry1 (pagesOf store 0)) → map ≡ overheard (readPrepared geometry1 (pagesOf store 0)) .map
+    → Decides idle ((t : ℕ) → t < 24 → getD depth t 0 ≡ 0) → Decides unlocked (Unlocked map held retained)
     → Decides
-    (((leb up 1 && (same up 1 || idle)) && (not (same up 1) || ((c .good && same (c .map) 0) || not (same (p .map) 0)))) && unlocked)
+    (((leb up 1 && (same up 1 || idle)) && (not (same up 1) || ((c .good && same (c .map) 0) || not (same map 0)))) && unlocked)
     (Phase up depth held retained store)
 unfolding isCalm emptied
-phase-decided up depth held retained store c p e f i u =
+phase-decided up depth held retained store c map e f i u =
     decides-as
     (λ x. record { flag = x .0 .0 .0; idle = x .0 .0 .1; calm = x .0 .1; reserved = subst (λ (m : ℕ). Unlocked m held retained) map-is (x .1) })
     (λ q. (((q .flag, q .idle), q .calm), subst (λ (m : ℕ). Unlocked m held retained) (sym map-is) (q .reserved)))
@@ -187,10 +224,10 @@ phase-decided up depth held retained store c p e f i u =
     (decides-if (same up 1) (decides-by calm-is (decides-self (isCalm (edition1 .medium) (pagesOf store))))))
     u)
   where
-    map-is : p .map ≡ preparedMap (readPrepared geometry1 (pagesOf store 0))
-    map-is = ap (λ (q : PreparedMap). q .map) f ∙ prepared-map-is (readPrepared geometry1 (pagesOf store 0))
+    map-is : map ≡ preparedMap (readPrepared geometry1 (pagesOf store 0))
+    map-is = f ∙ prepared-map-is (readPrepared geometry1 (pagesOf store 0))
 
-    calm-is : ((c .good && same (c .map) 0) || not (same (p .map) 0)) ≡ (isEmptied (readCommit geometry1 (pagesOf store 0)) || isBusy (identityIn (readPrepared geometry1 (pagesOf store 0))))
+    calm-is : ((c .good && same (c .map) 0) || not (same map 0)) ≡ (isEmptied (readCommit geometry1 (pagesOf store 0)) || isBusy (identityIn (readPrepared geometry1 (pagesOf store 0))))
     calm-is = ap₂ _||_
         (ap (λ (m : CommitMap). m .good && same (m .map) 0) e ∙ empty-is (readCommit geometry1 (pagesOf store 0)))
         (ap (λ (m : ℕ). not (same m 0)) map-is ∙ busy-is (pagesOf store 0))

@@ -2,5 +2,6 @@
 pub mod Tree
 pub mod Locks
 pub mod Beneath
+pub mod Sole
 pub mod Whole
 pub mod Unique

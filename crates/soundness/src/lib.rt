@@ -14,6 +14,7 @@ ghost use Rattle.clauses.specs.Decides.{Decides};
 ghost use Rattle.clauses.specs.Clauses.{Entries, Locks, Share, SharesOf, Shares, LinedOf, Lined};
 ghost use Rattle.state.specs.Whole.{arrays, Intact};
 ghost use Rattle.soundness.specs.Sizes.{Sized};
+ghost use Rattle.soundness.specs.Sole.{SoleOf, Sole};
 
 // The parents, depths and lines are those of a tree of transactions.
 fn is_tree(parent: &[u8; 24], depth: &[u8; 24], line: &[u32; 24]) -> bool
@@ -109,25 +110,37 @@ fn are_shares_of(
     ok
 }
 
+// More than one transaction has the lock of record r.
+fn is_crowded_at(held: &[u32; 32], retained: &[u32; 32], r: usize) -> bool
+    requires { ⌜ (r < 16) × (length (now held) ≡ 32) × (length (now retained) ≡ 32) ⌝ }
+    ensures { λ b. ⌜ (b ≡ false → SoleOf (now (held .entry)) (now (retained .entry)) r) ⌝ }
+{
+    let any = 2 * r;
+    let writing = any + 1;
+    shares::is_crowded(held[any] | held[writing] | retained[any] | retained[writing])
+}
+
 // The same of the lock of record r, with one look where a single transaction has it, or nobody: it goes with itself, being on its own line.
 fn are_shares_at(line: &[u32; 24], held: &[u32; 32], retained: &[u32; 32], r: usize) -> bool
     requires { ⌜ (r < 16) × (length (now line) ≡ 24) × (length (now held) ≡ 32) × (length (now retained) ≡ 32) ⌝ }
     ensures { λ b. ⌜ (LinedOf (now (line .entry)) (now (held .entry)) (now (retained .entry)) r → Decides b (SharesOf (now (line .entry)) (now (held .entry)) (now (retained .entry)) r)) ⌝ }
 {
-    let any = 2 * r;
-    let writing = any + 1;
-    let h = held[any];
-    let hw = held[writing];
-    let m = retained[any];
-    let mw = retained[writing];
-    if shares::is_crowded(h | hw | m | mw) {
-        return are_shares_of(line, h, hw, m, mw);
+    if is_crowded_at(held, retained, r) {
+        let any = 2 * r;
+        let writing = any + 1;
+        return are_shares_of(
+            line,
+            held[any],
+            held[writing],
+            retained[any],
+            retained[writing],
+        );
     }
     true
 }
 
-// What each transaction has of each lock goes with what others have, if who has one is on its own line.
-fn are_shares(line: &[u32; 24], held: &[u32; 32], retained: &[u32; 32]) -> bool
+// What each transaction has of each lock goes with what others have, if who has one is on its own line: lock by lock.
+fn are_shares_each(line: &[u32; 24], held: &[u32; 32], retained: &[u32; 32]) -> bool
     requires { ⌜ (length (now line) ≡ 24) × (length (now held) ≡ 32) × (length (now retained) ≡ 32) ⌝ }
     ensures { λ b. ⌜ (Lined (now (line .entry)) (now (held .entry)) (now (retained .entry)) → Decides b (Shares (now (line .entry)) (now (held .entry)) (now (retained .entry)))) ⌝ }
 {
@@ -136,6 +149,30 @@ fn are_shares(line: &[u32; 24], held: &[u32; 32], retained: &[u32; 32]) -> bool
         ok = ok & are_shares_at(line, held, retained, r);
     }
     ok
+}
+
+// Some lock has more than one transaction.
+fn is_some_crowded(held: &[u32; 32], retained: &[u32; 32]) -> bool
+    requires { ⌜ (length (now held) ≡ 32) × (length (now retained) ≡ 32) ⌝ }
+    ensures { λ b. ⌜ (b ≡ false → Sole (now (held .entry)) (now (retained .entry))) ⌝ }
+{
+    let mut some = false;
+    for r in 0..16usize {
+        some = some | is_crowded_at(held, retained, r);
+    }
+    some
+}
+
+// What each transaction has of each lock goes with what others have, if who has one is on its own line. Where no lock has more than one transaction,
+// as with most states, one look at all locks is enough, without what a sweep over each lock's transactions sets up.
+fn are_shares(line: &[u32; 24], held: &[u32; 32], retained: &[u32; 32]) -> bool
+    requires { ⌜ (length (now line) ≡ 24) × (length (now held) ≡ 32) × (length (now retained) ≡ 32) ⌝ }
+    ensures { λ b. ⌜ (Lined (now (line .entry)) (now (held .entry)) (now (retained .entry)) → Decides b (Shares (now (line .entry)) (now (held .entry)) (now (retained .entry)))) ⌝ }
+{
+    if is_some_crowded(held, retained) {
+        return are_shares_each(line, held, retained);
+    }
+    true
 }
 
 // The arrays are those of a sound state, written in the one way that it has, whatever the working buffer holds.
@@ -158,6 +195,6 @@ pub fn is_sound(
     let live = transactions::live_set(depth);
     let locks = are_locks(live, held, retained, writers);
     let shares = are_shares(line, held, retained);
-    let phase = phase::is_phase(up, depth, held, retained, store);
+    let phase = phase::is_phase(up, live, held, retained, store);
     tree & locks & shares & phase
 }

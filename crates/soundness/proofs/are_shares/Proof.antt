@@ -1,44 +1,26 @@
--- So far what each transaction has of each lock is right.
-use Prim.Native.Nat.{ℕ, _-_, _<_, _≤_}
-use native.Mathlib.Omega.{arith}
+-- Where some lock has more than one transaction, lock by lock; elsewhere each goes with itself.
 use borrow.Author.Needs.{needs}
-use Rattle.clauses.specs.Decides.{Decides}
-use Rattle.clauses.specs.Clauses.{SharesOf, Lined}
-use Rattle.clauses.proofs.Decides.{decides-none, decides-more, decides-bound}
+use Rattle.clauses.proofs.Decides.{decides-true}
+use Rattle.soundness.proofs.Sole.{shares-sole}
 use Rattle.soundness.proofs.are_shares.Statement.{statement}
 use Rattle.soundness.proofs.are_shares.Tie as tie
 use Rattle.soundness.proofs.are_shares.Reads as reads
 use Rattle.soundness.proofs.are_shares.Lts as lts
-use Rattle.soundness.proofs.are_shares_at.Reads as are-shares-at-reads
+use Rattle.soundness.proofs.is_some_crowded.Reads as is-some-crowded-reads
+use Rattle.soundness.proofs.are_shares_each.Reads as are-shares-each-reads
 
-abbrev Inv-loop : tie.InvT-loop
-Inv-loop line held retained ok₀ r₀ ok r =
-    (r ≤ 16) × (Lined line held retained → Decides ok ((k : ℕ) → k < r → SharesOf line held retained k))
+is-some-crowded-requires : tie.Need-is-some-crowded-requires
+is-some-crowded-requires c κs = search needs
 
-abbrev μ-loop : tie.MeasureT-loop
-μ-loop line held retained ok₀ r₀ ok r = 16 - r
+are-shares-each-requires : tie.Need-are-shares-each-requires
+are-shares-each-requires c κs = search needs
 
-loop-holds : tie.Need-loop-holds Inv-loop μ-loop
-loop-holds c = (search needs, λ lined. decides-none _)
+returns : tie.Need-returns
+returns c = c .are-shares-each .ensures
 
-are-shares-at-requires : tie.Need-are-shares-at-requires Inv-loop μ-loop
-are-shares-at-requires c κs = search needs
-
-add-r : tie.Need-add-r Inv-loop μ-loop
-add-r c = search needs
-
-loop-less : tie.Need-loop-less Inv-loop μ-loop
-loop-less c = search needs
-
-loop-again : tie.Need-loop-again Inv-loop μ-loop
-loop-again c = let a = c .before .before .before .args in let l = c .before .before .loop in (
-  search needs,
-  λ lined. decides-more (SharesOf (a .line .now) (a .held .now) (a .retained .now)) (l .r) (l .inv .1 lined) (c .are-shares-at .ensures (lined (l .r) (omega arith))),
-)
-
-returns : tie.Need-returns Inv-loop μ-loop
-returns c = λ lined. let a = c .before .before .args in let l = c .before .loop in
-    decides-bound (SharesOf (a .line .now) (a .held .now) (a .retained .now)) (l .r) 16 (omega arith) (l .inv .1 lined)
+returns-2 : tie.Need-returns-2
+returns-2 c = λ lined. let a = c .before .before .args in
+    decides-true (shares-sole (a .line .now) (a .held .now) (a .retained .now) lined (c .before .is-some-crowded .ensures (c .if1 .left)))
 
 pub are-shares-spec : {M : Type 1} → statement M
-are-shares-spec = tie.close (tie.spec Inv-loop μ-loop loop-holds are-shares-at-requires add-r loop-less loop-again returns)
+are-shares-spec = tie.close (tie.spec is-some-crowded-requires are-shares-each-requires returns returns-2)

@@ -36,7 +36,7 @@ returns c = λ work long. let a = c .before .before .before .before .before .bef
     whole-decided (a .up) (a .parent .now) (a .depth .now) (a .line .now) (a .held .now) (a .retained .now) (a .writers .now) work (a .store .now) (c .before .before .before .before .before .before .pre) long
     (c .before .before .before .before .is-tree .ensures)
     (subst (λ (f : ℕ → Bool). Decides (c .before .before .are-locks .result) (Locks f (a .held .now) (a .retained .now) (a .writers .now))) (c .before .before .before .live-set .ensures) (c .before .before .are-locks .ensures))
-    (c .before .are-shares .ensures) (c .is-phase .ensures)
+    (c .before .are-shares .ensures) (c .is-phase .ensures (a .depth .now) (c .before .before .before .live-set .ensures))
 
 pub is-sound-spec : {M : Type 1} → statement M
 is-sound-spec =
