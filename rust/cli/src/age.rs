@@ -2,7 +2,7 @@
 
 use crate::command::{digits, number, record, Command};
 use crate::failure::{Failure, Outcome};
-use crate::{edition2, files, say};
+use crate::{files, say};
 use nekahuiro::{Clock, Limit};
 
 /// The command.
@@ -23,17 +23,9 @@ after `put STORE 4 00000003`, `age STORE 4 5 10` answers `live 2`.
 fn run(words: &[String]) -> Outcome {
     let ([path, record, clock, limit], _) = COMMAND.read(words)?;
     let (clock, limit) = (minutes("clock", clock)?, minutes("limit", limit)?);
-    digits("record", record)?;
-    let (clock, limit) = (Clock(clock), Limit(limit));
-    let told = match edition2::is_store(path) {
-        true => edition2::read_store(path)?
-            .age(edition2::record(record)?, clock, limit)
-            .map_err(|refusal| refusal.to_string()),
-        false => {
-            files::read_store(path)?.age(self::record(record)?, clock, limit).map_err(|refusal| refusal.to_string())
-        }
-    };
-    match told {
+    digits(files::edition_of(path), record)?;
+    let store = files::read_store(path)?;
+    match store.age(self::record(store.edition, record)?, Clock(clock), Limit(limit)) {
         Ok(verdict) => say(&format!("{verdict}\n")),
         Err(refusal) => {
             let reason = format!("{path}: {refusal}");

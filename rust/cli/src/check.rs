@@ -2,9 +2,11 @@
 
 use crate::command::Command;
 use crate::failure::{visible, Failure, Outcome};
+use crate::store::Store;
 use crate::{files, number_of, say, show};
-use nekahuiro::limits::{COUNT_LIMIT, PAGE_BYTES, RECORDS};
-use nekahuiro::{page_writes, CommitPage, Event, Map, Page, Record, Refusal, Store};
+use nekahuiro::any::{CommitPage, Event, Map};
+use nekahuiro::limits::PAGE_BYTES;
+use nekahuiro::{page_writes, Page, Refusal};
 use std::fmt::Write;
 
 /// The command.
@@ -24,7 +26,7 @@ fn run(words: &[String]) -> Outcome {
     let ([path], _) = COMMAND.read(words)?;
     let store = files::read_store(path)?;
     let mut after = store.clone();
-    let answers = after.play(&[Event::Recover { count: COUNT_LIMIT }]).map_err(|refusal| {
+    let answers = after.play(&[Event::Recover { count: store.edition.count_limit() }]).map_err(|refusal| {
         Failure::refused(&format!("{path}: {refusal}"), "name a store; `./nekahuiro fresh STORE` makes one")
     })?;
     let value = answers.first().map_or(0, |answer| answer.value);
@@ -53,7 +55,7 @@ fn run(words: &[String]) -> Outcome {
 
 /// The store after the decision to commit.
 fn decided(store: &Store, identity: nekahuiro::Identity) -> Store {
-    let (mut after, count) = (store.clone(), COUNT_LIMIT);
+    let (mut after, count) = (store.clone(), store.edition.count_limit());
     // Nothing refuses it: page 0 is prepared with this identity.
     let _ = after.play(&[Event::Recover { count }, Event::Decide { commit: true, count, identity }]);
     after
@@ -63,20 +65,11 @@ fn decided(store: &Store, identity: nekahuiro::Identity) -> Store {
 fn home_pages(before: &Store, after: &Store, map: Map) -> String {
     let mut text = String::new();
     for record in map.records() {
-        let (old, new) = (before.page(home(record)), after.page(home(record)));
-        let from = 1 + usize::from(record.number());
-        let _ = writeln!(
-            text,
-            "  home page {} from intention page {from}: record {record}, {}",
-            home(record),
-            changes(&old, &new)
-        );
+        let (home, from) = (before.home(record), Store::intention(record));
+        let changes = changes(&before.page(home), &after.page(home));
+        let _ = writeln!(text, "  home page {home} from intention page {from}: record {record}, {changes}");
     }
     text
-}
-
-fn home(record: Record) -> usize {
-    1 + RECORDS + usize::from(record.number())
 }
 
 /// The bytes that differ.

@@ -1,8 +1,9 @@
 //! A command of the command line: the words that it takes, its help, and what it does.
 
 use crate::failure::{Failure, Outcome};
-use nekahuiro::limits::RECORDS;
-use nekahuiro::{Record, Refusal};
+use crate::store::Refused;
+use nekahuiro::any::Record;
+use nekahuiro::{Edition, Refusal};
 use std::fmt::Write;
 use std::time::Duration;
 
@@ -30,6 +31,9 @@ pub type Choice = (&'static str, &'static str, &'static str);
 
 /// How long to wait for another command.
 pub const WAIT: Choice = ("--wait", "SECONDS", "wait so long while another command has the store; else 5 seconds");
+
+/// The name of the option for an edition.
+pub const EDITION: &str = "--edition";
 
 /// The words of a call, told apart.
 pub struct Given<'w> {
@@ -144,6 +148,17 @@ impl<'w> Given<'w> {
         self.options.iter().find(|(given, _)| *given == option).map(|(_, value)| *value)
     }
 
+    /// The edition that was asked for, which is the first if none was.
+    pub fn edition(&self) -> Outcome<Edition> {
+        match self.value(EDITION) {
+            None | Some("1") => Ok(Edition::FIRST),
+            Some("2") => Ok(Edition::SECOND),
+            Some(other) => {
+                Err(Failure::usage(&format!("there is no edition `{other}`"), "write `--edition 1` or `--edition 2`"))
+            }
+        }
+    }
+
     /// How long to wait for another command.
     pub fn wait(&self) -> Outcome<Duration> {
         let Some(word) = self.value(WAIT.0) else { return Ok(Duration::from_secs(5)) };
@@ -164,21 +179,23 @@ pub fn number(word: &str) -> Option<u32> {
     word.bytes().all(|digit| digit.is_ascii_digit()).then(|| word.parse().ok()).flatten()
 }
 
-/// A word in digits alone, which is to be a number of something.
-pub fn digits(what: &str, word: &str) -> Outcome {
+/// A word in digits alone, which is to be the number of a record.
+pub fn digits(edition: Edition, word: &str) -> Outcome {
     match !word.is_empty() && word.bytes().all(|digit| digit.is_ascii_digit()) {
         true => Ok(()),
         false => {
-            let reason = format!("the {what} `{word}` isn't a number");
-            Err(Failure::usage(&reason, &format!("give a number from 0 to {}", RECORDS - 1)))
+            let reason = format!("the record `{word}` isn't a number");
+            Err(Failure::usage(&reason, &format!("give a number from 0 to {}", edition.records - 1)))
         }
     }
 }
 
 /// A record by its number.
-pub fn record(word: &str) -> Outcome<Record> {
-    word.parse().ok().and_then(Record::new).ok_or_else(|| {
-        let reason = format!("there is no record {word} ({})", Refusal::Record);
-        Failure::refused(&reason, &format!("give a number from 0 to {}", RECORDS - 1))
+pub fn record(edition: Edition, word: &str) -> Outcome<Record> {
+    let found = word.parse().ok().and_then(Record::new);
+    found.filter(|record| usize::from(record.number()) < edition.records).ok_or_else(|| {
+        let refused = Refused { edition, number: Refusal::Record.number() };
+        let reason = format!("there is no record {word} ({refused})");
+        Failure::refused(&reason, &format!("give a number from 0 to {}", edition.records - 1))
     })
 }

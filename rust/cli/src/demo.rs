@@ -3,9 +3,12 @@
 use crate::command::Command;
 use crate::failure::{Failure, Outcome};
 use crate::follow::Follower;
+use crate::show::digits;
+use crate::store::Store;
 use crate::{say, show, trace};
+use nekahuiro::any::Record;
 use nekahuiro::limits::EVENT_BYTES;
-use nekahuiro::{Answer, Event, Record, Store};
+use nekahuiro::{Answer, Edition};
 use nekahuiro_history::{tell, History};
 use nekahuiro_lists::worked;
 use std::fmt::Write;
@@ -13,6 +16,9 @@ use std::fmt::Write;
 /// The command.
 pub const COMMAND: Command =
     Command { name: "demo", names: &[], options: &[], summary: "the worked list, told step by step", help: "", run };
+
+/// The worked list is of edition 1.
+const EDITION: Edition = Edition::FIRST;
 
 /// What each event of the worked list shows.
 const STEPS: [&str; 16] = [
@@ -38,7 +44,7 @@ const STEPS: [&str; 16] = [
 fn run(words: &[String]) -> Outcome {
     let ([], _) = COMMAND.read(words)?;
     let words = worked::events();
-    let mut store = Store::fresh();
+    let mut store = Store::fresh(EDITION);
     let answers = store.play_words(&words).map_err(|refusal| wrong(&refusal.to_string()))?;
     let bytes: Vec<u8> = answers.iter().flat_map(|answer| answer.bytes()).collect();
     let history = tell(&words, &bytes).map_err(|absurd| wrong(absurd.what))?;
@@ -55,23 +61,14 @@ fn wrong(what: &str) -> Failure {
 
 fn text(words: &[u8], answers: &[Answer], history: &History, end: &Store) -> Outcome<String> {
     let mut text = String::from("Sixteen events on a fresh store, played by the proved engine.\n\n");
-    let mut follower = Follower::default();
+    let mut follower = Follower::down(EDITION);
     let endings = trace::endings(history);
     for (at, (word, answer)) in words.chunks_exact(EVENT_BYTES).zip(answers).enumerate() {
-        let word = [word[0], word[1], word[2], word[3]];
-        let event = Event::of(word);
-        let bits = u32::from_be_bytes(word);
-        let words_of_event = nekahuiro::describe(word);
-        let what = trace::what_happened(event, word, *answer);
-        let _ = writeln!(
-            text,
-            "{:2}  {words_of_event:16} {bits:08X} -> {:02X}{:02X}  {what}",
-            at + 1,
-            answer.number,
-            answer.value
-        );
+        let (described, what) = (EDITION.describe(word), trace::what_happened(EDITION, word, *answer));
+        let (word_digits, answered) = (digits(word), digits(&answer.bytes()));
+        let _ = writeln!(text, "{:2}  {described:16} {word_digits} -> {answered}  {what}", at + 1);
         let _ = writeln!(text, "      {}", STEPS[at]);
-        if let Some(event) = event {
+        if let Some(event) = EDITION.event(word) {
             follower.event(event, *answer);
         }
         for line in endings.get(&at).map(trace::Ending::lines).unwrap_or_default() {
@@ -92,7 +89,7 @@ fn text(words: &[u8], answers: &[Answer], history: &History, end: &Store) -> Out
 
 /// The store after the first events of the list.
 fn store_after(words: &[u8]) -> Outcome<Store> {
-    let mut store = Store::fresh();
+    let mut store = Store::fresh(EDITION);
     store.play_words(words).map_err(|refusal| wrong(&refusal.to_string()))?;
     Ok(store)
 }

@@ -1,24 +1,24 @@
 //! `encode`: events in words to event words and back.
 
-use crate::command::Command;
+use crate::command::{Command, EDITION};
 use crate::failure::{Failure, Outcome};
 use crate::list::{self, hex_word, line_words};
 use crate::{files, say, say_bytes};
-use nekahuiro::limits::EVENT_BYTES;
-use nekahuiro::{describe, why_bad};
+use nekahuiro::Edition;
 
 /// The command.
 pub const COMMAND: Command = Command {
     name: "encode",
     names: &["[EVENT]"],
     options: &[
+        (EDITION, "NUMBER", "1 or 2: whose event words; without it those of edition 1"),
         ("--raw", "", "write raw event words of 4 bytes, for `play --raw`"),
         ("--from-raw", "", "take standard input as raw event words, and write them in words"),
     ],
     summary: "words to event words and back",
     help: "\
 An event in words becomes 8 hex digits, and 8 hex digits become words. Without EVENT each line of standard
-input is taken.
+input is taken. With --edition 2 a word has 16 hex digits or 8 raw bytes.
 ",
     run,
 };
@@ -26,6 +26,7 @@ input is taken.
 /// Turns the event given, or each line of standard input.
 fn run(words: &[String]) -> Outcome {
     let given = COMMAND.split(words)?;
+    let edition = given.edition()?;
     let is_input = matches!(given.names[..], [] | ["-"]);
     for option in ["--raw", "--from-raw"] {
         if given.has(option) && !is_input {
@@ -35,42 +36,42 @@ fn run(words: &[String]) -> Outcome {
     }
     let name = files::name_of("-");
     match (given.has("--raw"), given.has("--from-raw")) {
-        (true, from_raw) => say_bytes(&list::read("-", from_raw)?),
-        (false, true) => say(&all_in_words(&list::read("-", true)?)),
-        (false, false) if is_input => say(&turn(Some(name), list::text(name, &files::read_list("-")?)?)?),
+        (true, from_raw) => say_bytes(&list::read(edition, "-", from_raw)?),
+        (false, true) => say(&all_in_words(edition, &list::read(edition, "-", true)?)),
+        (false, false) if is_input => say(&turn(edition, Some(name), list::text(name, &files::read_list("-")?)?)?),
         (false, false) => match given.names.join(" ") {
             event if event.trim().is_empty() => Err(COMMAND.misuse("EVENT is empty")),
-            event => say(&turn(None, &event)?),
+            event => say(&turn(edition, None, &event)?),
         },
     }
 }
 
 /// Turns each line of a list, or of the event given.
-fn turn(name: Option<&str>, text: &str) -> Outcome<String> {
+fn turn(edition: Edition, name: Option<&str>, text: &str) -> Outcome<String> {
     let mut out = String::new();
     for (number, whole) in (1..).zip(text.lines()) {
         let line = list::without_comment(whole);
-        let words = line_words(line).map_err(|bad| {
+        let words = line_words(edition, line).map_err(|bad| {
             let place = name.map_or("the event given".to_string(), |name| format!("{name}, line {number}"));
             list::bad_line(&place, line, &bad)
         })?;
-        if line.split_whitespace().next().is_some_and(|first| hex_word(first).is_some()) {
-            out.push_str(&all_in_words(&words));
-        } else if let [a, b, c, d] = words[..] {
-            out.push_str(&format!("{:08X}\n", u32::from_be_bytes([a, b, c, d])));
+        if line.split_whitespace().next().is_some_and(|first| hex_word(edition, first).is_some()) {
+            out.push_str(&all_in_words(edition, &words));
+        } else if !words.is_empty() {
+            out.extend(words.iter().map(|byte| format!("{byte:02X}")).chain(["\n".to_string()]));
         }
     }
     Ok(out)
 }
 
 /// Each event word in words, one to a line.
-pub fn all_in_words(words: &[u8]) -> String {
-    words.chunks_exact(EVENT_BYTES).map(|w| in_words([w[0], w[1], w[2], w[3]]) + "\n").collect()
+pub fn all_in_words(edition: Edition, words: &[u8]) -> String {
+    words.chunks_exact(edition.event_bytes).map(|word| in_words(edition, word) + "\n").collect()
 }
 
-fn in_words(word: [u8; EVENT_BYTES]) -> String {
-    match why_bad(word) {
-        None => describe(word),
-        Some(why) => format!("{}  # bad, answered 1: {why}", describe(word)),
+fn in_words(edition: Edition, word: &[u8]) -> String {
+    match edition.why_bad(word) {
+        None => edition.describe(word),
+        Some(why) => format!("{}  # bad, answered 1: {why}", edition.describe(word)),
     }
 }

@@ -1,9 +1,8 @@
 //! Reading files.
 
-use crate::edition2;
 use crate::failure::{Failure, Outcome};
-use nekahuiro::limits::STORE_BYTES;
-use nekahuiro::Store;
+use crate::store::Store;
+use nekahuiro::{Edition, Refusal};
 use std::borrow::Cow;
 use std::fs::{self, File};
 use std::io::{self, ErrorKind, Read};
@@ -12,18 +11,35 @@ use std::path::{Path, PathBuf};
 /// The bytes of the longest list that is read.
 const LONGEST: usize = 256 << 20;
 
-/// Reads a store file.
+/// Reads a store file, of the edition that its length says.
 pub fn read_store(path: &str) -> Outcome<Store> {
-    let bytes = read_up_to(path, STORE_BYTES + 1)
+    let longest = Edition::SECOND.store_bytes();
+    let bytes = read_up_to(path, longest + 1)
         .map_err(|error| cant_read(path, &error, "check the name; `./nekahuiro fresh STORE` makes a store"))?;
-    Store::of(&bytes).map_err(|refusal| {
-        let found = length_in_words(path, bytes.len(), STORE_BYTES);
-        let mend = match edition2::is_store(path) {
-            true => "it is as long as a store of edition 2, which `play`, `show` and `age` take",
-            false => "name a store; `./nekahuiro fresh STORE` makes one",
-        };
-        Failure::refused(&format!("{path} is no store: it has {found} ({refusal})"), mend)
+    let found =
+        length_in_words(path, bytes.len(), if bytes.len() > longest { Edition::FIRST.store_bytes() } else { longest });
+    Store::of(bytes).ok_or_else(|| {
+        let mend = "name a store; `./nekahuiro fresh STORE` makes one";
+        Failure::refused(&format!("{path} is no store: it has {found} ({})", Refusal::Store), mend)
     })
+}
+
+/// The edition of a store file by its length, before it is read. What is no store counts as edition 1: it is refused
+/// where it is read.
+pub fn edition_of(path: &str) -> Edition {
+    let is_second = |found: fs::Metadata| found.is_file() && found.len() == Edition::SECOND.store_bytes() as u64;
+    match fs::metadata(path).is_ok_and(is_second) {
+        true => Edition::SECOND,
+        false => Edition::FIRST,
+    }
+}
+
+/// Refuses a store of edition 2 for what only edition 1 has; `why` is said of the store, and `mend` what to do instead.
+pub fn need_first(path: &str, why: &str, mend: &str) -> Outcome {
+    match edition_of(path) {
+        Edition::SECOND => Err(Failure::refused(&format!("{path} is a store of edition 2, {why}"), mend)),
+        _ => Ok(()),
+    }
 }
 
 /// Reads a list of events or of waiting rows, from standard input for `-`.

@@ -1,18 +1,20 @@
 //! Who is live, who holds and who retains, told from the events and the engine's answers.
 
-use nekahuiro::limits::RECORDS;
-use nekahuiro::{Answer, CommitPage, Event, Identity, Record, State, Transaction};
+use nekahuiro::any::{CommitPage, Event, Record};
+use nekahuiro::limits::TRANSACTIONS;
+use nekahuiro::{Answer, Edition, Identity, State, Transaction};
+use nekahuiro_history::Earlier;
 use std::collections::{BTreeMap, BTreeSet};
 
 /// What is known after some events.
-#[derive(Clone, Default)]
+#[derive(Clone, PartialEq, Eq)]
 pub struct Follower {
     /// Whether the store is up.
     pub up: bool,
     /// Live transactions with their parents.
     pub live: BTreeMap<u8, Option<u8>>,
     /// The lock of each record.
-    pub locks: [Lock; RECORDS],
+    pub locks: Vec<Lock>,
     /// The records that each of them changed.
     changed: BTreeMap<u8, BTreeSet<u8>>,
     /// Who is prepared: its identity, and the records that nobody gets until its decision.
@@ -32,7 +34,7 @@ pub enum Mode {
 pub type Bearers = BTreeMap<u8, Mode>;
 
 /// Who has to do with a record's lock.
-#[derive(Clone, Default)]
+#[derive(Clone, Default, PartialEq, Eq)]
 pub struct Lock {
     /// Who holds it.
     pub holders: Bearers,
@@ -41,14 +43,25 @@ pub struct Lock {
 }
 
 impl Follower {
+    /// Down, with nothing prepared.
+    pub fn down(edition: Edition) -> Follower {
+        Follower {
+            up: false,
+            live: BTreeMap::new(),
+            locks: vec![Lock::default(); edition.records],
+            changed: BTreeMap::new(),
+            prepared: None,
+        }
+    }
+
     /// What a state and page 0 tell.
     pub fn of(state: &State, page: CommitPage) -> Follower {
-        let mut follower = Follower { up: state.is_up(), ..Follower::default() };
+        let mut follower = Follower { up: state.is_up(), ..Follower::down(Edition::FIRST) };
         if let CommitPage::Prepared(map, identity) = page {
             follower.prepared = Some((identity, map.records().map(Record::number).collect()));
         }
         follower.live = state.live().map(|t| (t.number(), state.parent(t).map(Transaction::number))).collect();
-        for (lock, record) in follower.locks.iter_mut().zip(Record::all()) {
+        for (lock, record) in follower.locks.iter_mut().zip(nekahuiro::Record::all()) {
             for writer in state.writers(record) {
                 follower.changed.entry(writer.number()).or_default().insert(record.number());
             }
@@ -99,7 +112,10 @@ impl Follower {
 
     /// What is prepared outlasts it.
     fn crash(&mut self) {
-        *self = Follower { prepared: self.prepared.take(), ..Follower::default() };
+        self.up = false;
+        self.live.clear();
+        self.changed.clear();
+        self.locks.fill(Lock::default());
     }
 
     fn lock(&mut self, transaction: Transaction, record: Record, mode: Mode) {
@@ -137,8 +153,38 @@ impl Follower {
         }
     }
 
-    fn line(&self, transaction: u8) -> impl Iterator<Item = u8> + '_ {
-        std::iter::successors(Some(transaction), |t| self.live.get(t).copied().flatten())
+    /// A transaction and its ancestors, upwards.
+    pub fn line(&self, transaction: u8) -> impl Iterator<Item = u8> + '_ {
+        // A state that isn't sound may have no end of ancestors.
+        std::iter::successors(Some(transaction), |t| self.live.get(t).copied().flatten()).take(TRANSACTIONS)
+    }
+
+    /// How deep a transaction is nested; one at the top is at 1.
+    pub fn depth(&self, transaction: u8) -> usize {
+        self.line(transaction).count()
+    }
+
+    /// The live transactions, parents before children.
+    pub fn earlier(&self) -> Vec<Earlier> {
+        let mut live: Vec<(&u8, &Option<u8>)> = self.live.iter().collect();
+        live.sort_by_key(|(number, _)| self.depth(**number));
+        let changed = |number: &u8| self.changed.get(number).into_iter().flatten().copied().collect();
+        let earlier = |(number, parent): (&u8, &Option<u8>)| Earlier {
+            number: *number,
+            parent: *parent,
+            changed: changed(number),
+        };
+        live.into_iter().map(earlier).collect()
+    }
+
+    /// Whether it is up, and who is live.
+    pub fn in_words(&self) -> String {
+        let live: Vec<String> = self.live.keys().map(u8::to_string).collect();
+        match (self.up, live.is_empty()) {
+            (false, _) => "down".to_string(),
+            (true, true) => "up, nothing is live".to_string(),
+            (true, false) => format!("up, live: {}", live.join(", ")),
+        }
     }
 
     /// The locks in words, as `record 3 held by 1, retained to read by 0; ..`. What isn't said to be to

@@ -1,12 +1,12 @@
 //! `fresh STORE [--force] [--edition 2]`: makes a store file.
 
 use crate::alone::Alone;
-use crate::command::{Command, WAIT};
+use crate::command::{Command, EDITION, WAIT};
 use crate::failure::{visible, Failure, Outcome};
 use crate::files::need_plain;
 use crate::say;
 use crate::staged::Staged;
-use nekahuiro::{edition2, Store};
+use crate::store::Store;
 use std::fs;
 
 /// The command.
@@ -15,17 +15,13 @@ pub const COMMAND: Command = Command {
     names: &["STORE"],
     options: &[
         ("--force", "", "replace a store that is there"),
-        (
-            "--edition",
-            "NUMBER",
-            "1 or 2; a store of edition 2 has sixty-four records, and without it there are sixteen",
-        ),
+        (EDITION, "NUMBER", "1 or 2; a store of edition 2 has sixty-four records, and without it there are sixteen"),
         WAIT,
     ],
     summary: "make a store file",
     help: "\
-A store of edition 2 has 4128 bytes. `play`, `show` and `age` know it by its length; the other commands take
-stores of edition 1 alone.
+A store of edition 2 has 4128 bytes, and commands know it by its length. It has no prepare, decide and query, no
+state files, portions and sheets, and isn't audited.
 ",
     run,
 };
@@ -33,27 +29,16 @@ stores of edition 1 alone.
 /// Makes a fresh store; over another only if that is asked for.
 fn run(words: &[String]) -> Outcome {
     let ([path], given) = COMMAND.read(words)?;
-    let bytes = fresh(given.value("--edition"))?;
+    let store = Store::fresh(given.edition()?);
     need_plain(path, "store")?;
     let _alone = Alone::with(&[path], given.wait()?)?;
     if fs::metadata(path).is_ok_and(|found| found.len() > 0) && !given.has("--force") {
         let reason = format!("{path} is there already, and a fresh store would lose what is in it");
         return Err(Failure::refused(&reason, "choose another name, or give --force to replace it"));
     }
-    let mut staged = Staged::new(path, &bytes)?;
+    let mut staged = Staged::new(path, store.bytes())?;
     staged.put().map_err(|failure| failure.and("no file was changed"))?;
-    let said = format!("{}: a fresh store of {} bytes\n", visible(path), bytes.len());
+    let said = format!("{}: a fresh store of {} bytes\n", visible(path), store.bytes().len());
     let told = staged.sync().and_then(|()| say(&said));
     told.map_err(|failure| failure.after(&format!("{path} is a fresh store now")))
-}
-
-/// A fresh store of an edition, which is the first if none is said.
-fn fresh(edition: Option<&str>) -> Outcome<Vec<u8>> {
-    match edition {
-        None | Some("1") => Ok(Store::fresh().bytes().to_vec()),
-        Some("2") => Ok(edition2::Store::fresh().bytes().to_vec()),
-        Some(other) => {
-            Err(Failure::usage(&format!("there is no edition `{other}`"), "write `--edition 1` or `--edition 2`"))
-        }
-    }
 }

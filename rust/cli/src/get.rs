@@ -2,8 +2,10 @@
 
 use crate::command::{digits, record, Command};
 use crate::failure::{Failure, Outcome};
+use crate::show::digits as digits_of;
 use crate::{files, say};
-use nekahuiro::{CommitPage, Refusal};
+use nekahuiro::any::CommitPage;
+use nekahuiro::Refusal;
 
 /// The command.
 pub const COMMAND: Command = Command {
@@ -20,13 +22,12 @@ The settled value is what a power cut now would leave, once the store has recove
 /// Prints 64 hex digits.
 fn run(words: &[String]) -> Outcome {
     let ([path, number], _) = COMMAND.read(words)?;
-    digits("record", number)?;
+    digits(files::edition_of(path), number)?;
     let store = files::read_store(path)?;
-    let record = record(number)?;
+    let record = record(store.edition, number)?;
     if let CommitPage::Damaged(why) = store.commit_page() {
         let reason = format!("{path}: {}, {why}, so it isn't known where records are settled", Refusal::Damaged);
         return Err(Failure::refused(&reason, &format!("`./nekahuiro show {path}` shows the home pages")));
     }
-    let hex: String = store.settled(record).iter().map(|byte| format!("{byte:02X}")).collect();
-    say(&format!("{hex}\n"))
+    say(&format!("{}\n", digits_of(&store.settled(record))))
 }

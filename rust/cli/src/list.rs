@@ -3,8 +3,8 @@
 use crate::failure::{Failure, Outcome};
 use crate::files::{name_of, read_list};
 use crate::names::{Known, Named};
-use nekahuiro::limits::{EVENTS, EVENT_BYTES};
-use nekahuiro::BadWords;
+use nekahuiro::limits::EVENTS;
+use nekahuiro::{BadWords, Edition};
 use std::collections::BTreeMap;
 
 /// The longest word that can be part of a list: no event has one half as long.
@@ -15,18 +15,21 @@ const SHOWN: usize = 60;
 /// How a list is written, for the help.
 pub const HELP: &str = "\
 EVENTS is a file, or - for standard input. It is UTF-8 text with events in words, one to a line, or event
-words in hex; # starts a comment. With --raw it has raw event words of 4 bytes.
+words in hex, 8 digits each; # starts a comment. With --raw it has raw event words of 4 bytes. For a store of
+edition 2 a word has 16 digits or 8 bytes.
 
   begin none | begin PARENT               a transaction begins, at the top or under another; its number is
                                           the answer, the lowest that is free, from 0
   begin none as NAME                      the same, and NAME may stand for its number in the lines after it
-  lock TRANSACTION RECORD                 to read and to write, alone; records are 0 to 15
+  lock TRANSACTION RECORD                 to read and to write, alone; records are 0 to 15,
+                                          and 0 to 63 in edition 2
   read-lock TRANSACTION RECORD            only to read, beside other readers
   write TRANSACTION RECORD OFFSET VALUE   one byte: OFFSET is its place in the record, 0 to 31; VALUE is two
                                           hex digits, as A5; all else is decimal
   read TRANSACTION RECORD OFFSET          one byte; it is the answer
   commit TRANSACTION [COUNT]              COUNT makes a power cut: after so many page writes the power goes.
-                                          Left out it is 63, more than are ever due, and no cut comes
+                                          Left out it is 63, in edition 2 255, more than are ever due, and no
+                                          cut comes
   abort TRANSACTION                       its changes and locks go
   abort TRANSACTION report                its parent retains its locks, since it told what it read
   crash                                   the power goes: what isn't committed is lost
@@ -34,31 +37,40 @@ words in hex; # starts a comment. With --raw it has raw event words of 4 bytes.
   prepare TRANSACTION [COUNT] IDENTITY    end it, its changes waiting for the decision on an identity
   decide commit [COUNT] IDENTITY          the decision; for an identity that isn't prepared it does nothing
   decide abort [COUNT] IDENTITY
-  query IDENTITY                          whether it is prepared: 1 or 0; identities are from 0 to 255
+  query IDENTITY                          whether it is prepared: 1 or 0; identities are from 0 to 255.
+                                          Edition 2 has no prepare, decide and query
 ";
 
 /// A list of events in raw words, with the names in it by event.
-#[derive(Default)]
 pub struct List {
-    /// Four bytes an event. Where somebody is named, their number is still to come.
+    /// Whose words they are.
+    pub edition: Edition,
+    /// One after the other. Where somebody is named, their number is still to come.
     pub words: Vec<u8>,
     /// The events with names.
     pub names: BTreeMap<usize, Named>,
 }
 
-/// Reads a list of events; `raw` says that it has raw words.
-pub fn read_named(path: &str, raw: bool) -> Outcome<List> {
+impl List {
+    /// A list without names.
+    pub fn plain(edition: Edition, words: Vec<u8>) -> List {
+        List { edition, words, names: BTreeMap::new() }
+    }
+}
+
+/// Reads a list of events of an edition; `raw` says that it has raw words.
+pub fn read_named(edition: Edition, path: &str, raw: bool) -> Outcome<List> {
     let bytes = read_list(path)?;
     let name = name_of(path);
     match raw {
-        true => Ok(List { words: whole(name, bytes)?, ..List::default() }),
-        false => parse(name, text(name, &bytes)?),
+        true => Ok(List::plain(edition, whole(edition, name, bytes)?)),
+        false => parse(edition, name, text(name, &bytes)?),
     }
 }
 
 /// Reads a list without names into raw words; `raw` says that it has them already.
-pub fn read(path: &str, raw: bool) -> Outcome<Vec<u8>> {
-    let list = read_named(path, raw)?;
+pub fn read(edition: Edition, path: &str, raw: bool) -> Outcome<Vec<u8>> {
+    let list = read_named(edition, path, raw)?;
     match list.names.first_key_value() {
         None => Ok(list.words),
         Some((at, _)) => {
@@ -89,24 +101,25 @@ pub fn text<'b>(name: &str, bytes: &'b [u8]) -> Outcome<&'b str> {
 }
 
 /// Raw words, if they are whole.
-fn whole(name: &str, bytes: Vec<u8>) -> Outcome<Vec<u8>> {
-    if bytes.len() % EVENT_BYTES != 0 {
+fn whole(edition: Edition, name: &str, bytes: Vec<u8>) -> Outcome<Vec<u8>> {
+    let word = edition.event_bytes;
+    if bytes.len() % word != 0 {
         let length = crate::number_of(bytes.len(), "raw byte");
-        let reason = format!("{name} has {length}, which is no whole number of 4-byte event words (refusal 20)");
+        let reason = format!("{name} has {length}, which is no whole number of {word}-byte event words (refusal 20)");
         return Err(Failure::refused(&reason, "check that the list is whole; one in text is taken without --raw"));
     }
     Ok(bytes)
 }
 
 /// Reads a list from text; a message names the line.
-fn parse(name: &str, text: &str) -> Outcome<List> {
-    let (mut list, mut known) = (List::default(), Known::default());
+fn parse(edition: Edition, name: &str, text: &str) -> Outcome<List> {
+    let (mut list, mut known) = (List::plain(edition, Vec::new()), Known::of(edition));
     for (number, whole) in (1..).zip(text.lines()) {
         let line = without_comment(whole);
         let (words, named) =
             line_events(&mut known, line).map_err(|bad| bad_line(&format!("{name}, line {number}"), line, &bad))?;
         if named.is_some() {
-            list.names.insert(list.words.len() / EVENT_BYTES, named);
+            list.names.insert(list.words.len() / edition.event_bytes, named);
         }
         list.words.extend(words);
     }
@@ -114,12 +127,16 @@ fn parse(name: &str, text: &str) -> Outcome<List> {
 }
 
 /// Whether the words are few enough for one run or portion.
-pub fn check_length(path: &str, words: &[u8]) -> Outcome {
-    let events = words.len() / EVENT_BYTES;
+pub fn check_length(edition: Edition, path: &str, words: &[u8]) -> Outcome {
+    let events = words.len() / edition.event_bytes;
     if events > EVENTS {
         let name = name_of(path);
         let reason = format!("{name}: {events} events, but a run takes at most {EVENTS} (refusal 20)");
-        return Err(Failure::refused(&reason, &format!("play it in portions, with `--portions {EVENTS}`")));
+        let mend = match edition {
+            Edition::SECOND => "cut the list where nothing is live; each part starts with a recover".to_string(),
+            _ => format!("play it in portions, with `--portions {EVENTS}`"),
+        };
+        return Err(Failure::refused(&reason, &mend));
     }
     Ok(())
 }
@@ -151,8 +168,8 @@ fn shown(line: &str) -> String {
 }
 
 /// The raw words of a line without its comment, which may have no names.
-pub fn line_words(line: &str) -> Result<Vec<u8>, BadWords> {
-    match line_events(&mut Known::default(), line)? {
+pub fn line_words(edition: Edition, line: &str) -> Result<Vec<u8>, BadWords> {
+    match line_events(&mut Known::of(edition), line)? {
         (words, named) if !named.is_some() => Ok(words),
         _ => Err(BadWords { reason: NO_NAMES.to_string(), mend: "leave out `as` and the name".to_string() }),
     }
@@ -164,25 +181,41 @@ pub fn line_events(known: &mut Known, line: &str) -> Result<(Vec<u8>, Named), Ba
     if let Some(long) = line.split_whitespace().find(|word| word.len() > LONGEST_WORD) {
         return Err(BadWords {
             reason: format!("a word of {} letters is no event", long.chars().count()),
-            mend: MEND.to_string(),
+            mend: mend(known.edition),
         });
     }
     if first.starts_with(|digit: char| digit.is_ascii_digit()) || first.bytes().all(|digit| digit.is_ascii_hexdigit()) {
-        let words = line.split_whitespace().map(expect_hex).collect::<Result<Vec<_>, _>>()?;
+        let expect = |word| expect_hex(known.edition, word);
+        let words = line.split_whitespace().map(expect).collect::<Result<Vec<_>, _>>()?;
         return Ok((words.concat(), Named::default()));
     }
-    known.event(line).map(|(word, named)| (word.to_vec(), named))
+    known.event(line)
 }
 
 /// The mend for what is neither an event in words nor a hex word.
-const MEND: &str = "write 8 hex digits, such as 80003F00, or an event in words, such as `recover`";
-
-fn expect_hex(word: &str) -> Result<[u8; EVENT_BYTES], BadWords> {
-    hex_word(word).ok_or_else(|| BadWords { reason: format!("`{word}` isn't an event word"), mend: MEND.to_string() })
+fn mend(edition: Edition) -> String {
+    let (digits, recover) = match edition {
+        Edition::SECOND => (16, "80000FF000000000"),
+        _ => (8, "80003F00"),
+    };
+    format!("write {digits} hex digits, such as {recover}, or an event in words, such as `recover`")
 }
 
-/// An event word from eight hex digits.
-pub fn hex_word(word: &str) -> Option<[u8; EVENT_BYTES]> {
-    let digits = word.len() == 2 * EVENT_BYTES && word.bytes().all(|digit| digit.is_ascii_hexdigit());
-    digits.then(|| u32::from_str_radix(word, 16).ok()).flatten().map(u32::to_be_bytes)
+fn expect_hex(edition: Edition, word: &str) -> Result<Vec<u8>, BadWords> {
+    let other = Edition::ALL.into_iter().find(|other| *other != edition && hex_word(*other, word).is_some());
+    hex_word(edition, word).ok_or_else(|| BadWords {
+        reason: format!(
+            "`{word}` isn't an event word{}{}",
+            if edition == Edition::SECOND { " of edition 2" } else { "" },
+            other.map_or(String::new(), |other| format!(", but one of edition {}", other.number))
+        ),
+        mend: mend(edition),
+    })
+}
+
+/// An event word of an edition from hex digits, two a byte.
+pub fn hex_word(edition: Edition, word: &str) -> Option<Vec<u8>> {
+    let digits = word.len() == 2 * edition.event_bytes && word.bytes().all(|digit| digit.is_ascii_hexdigit());
+    let byte = |at: usize| u8::from_str_radix(word.get(2 * at..2 * at + 2)?, 16).ok();
+    (0..edition.event_bytes).map(byte).collect::<Option<Vec<u8>>>().filter(|_| digits)
 }

@@ -2,9 +2,10 @@
 //! the last begin with it began, and for nobody once that has ended: so a number that is given again is never meant by
 //! an old name. Which number it is, the answers tell.
 
-use crate::state_file::Kept;
-use nekahuiro::limits::EVENT_BYTES;
-use nekahuiro::{describe, Answer, BadWords, Event, Fields, Refusal, State, Store};
+use crate::live::Live;
+use crate::store::{Refused, Store};
+use nekahuiro::any::Event;
+use nekahuiro::{Answer, BadWords, Edition, Fields};
 use std::collections::{BTreeMap, BTreeSet};
 
 /// The number of a name that stands for nobody: an event with it is refused with 5.
@@ -51,21 +52,29 @@ impl Names {
     }
 
     /// An event in words, with the name that was written for the number.
-    pub fn describe(&self, at: usize, word: [u8; EVENT_BYTES]) -> String {
+    pub fn describe(&self, edition: Edition, at: usize, word: &[u8]) -> String {
         match self.whom.get(&at) {
-            Some(name) => format!("{} ({name})", describe(word)),
-            None => describe(word),
+            Some(name) => format!("{} ({name})", edition.describe(word)),
+            None => edition.describe(word),
         }
     }
 }
 
 /// Names that stand in the lines so far.
-#[derive(Default)]
-pub struct Known(BTreeSet<String>);
+pub struct Known {
+    /// The edition of the events.
+    pub edition: Edition,
+    names: BTreeSet<String>,
+}
 
 impl Known {
-    /// An event in words, with its names; a name that is not known yet is an error.
-    pub fn event(&mut self, line: &str) -> Result<([u8; EVENT_BYTES], Named), BadWords> {
+    /// No names yet.
+    pub fn of(edition: Edition) -> Known {
+        Known { edition, names: BTreeSet::new() }
+    }
+
+    /// An event in words as a word, with its names; a name that is not known yet is an error.
+    pub fn event(&mut self, line: &str) -> Result<(Vec<u8>, Named), BadWords> {
         let mut words: Vec<&str> = line.split_whitespace().collect();
         let mut named = Named::default();
         let kind = words.first().map(|kind| kind.to_ascii_lowercase()).unwrap_or_default();
@@ -83,13 +92,13 @@ impl Known {
             named.whom = Some(self.known(name)?);
             words[1] = &nobody;
         }
-        let event: Event = words.join(" ").parse()?;
-        self.0.extend(named.as_what.clone());
-        Ok((event.word(), named))
+        let event: Event = self.edition.parse(&words.join(" "))?;
+        self.names.extend(named.as_what.clone());
+        Ok((self.edition.word(event.fields()), named))
     }
 
     fn known(&self, name: &str) -> Result<String, BadWords> {
-        match self.0.contains(name) {
+        match self.names.contains(name) {
             true => Ok(name.to_string()),
             false => Err(BadWords {
                 reason: format!("no transaction is called `{name}` before this line"),
@@ -121,15 +130,15 @@ pub struct Bound {
 
 impl Bound {
     /// The word of an event, with the number of whom it names.
-    pub fn resolve(&self, word: [u8; EVENT_BYTES], named: &Named) -> [u8; EVENT_BYTES] {
-        let Some(name) = &named.whom else { return word };
+    pub fn resolve(&self, edition: Edition, word: &[u8], named: &Named) -> Vec<u8> {
+        let (Some(name), Some(fields)) = (&named.whom, edition.fields(word)) else { return word.to_vec() };
         let transaction = self.numbers.get(name).copied().unwrap_or(NOBODY);
-        Fields { transaction, ..Fields::of(word) }.word()
+        edition.word(Fields { transaction, ..fields })
     }
 
     /// Takes note of an event's answer, and of who is live after it.
-    pub fn answered(&mut self, named: &Named, answer: Answer, state: &State) {
-        self.numbers.retain(|_, number| state.live().any(|live| live.number() == *number));
+    pub fn answered(&mut self, named: &Named, answer: Answer, live: &Live) {
+        self.numbers.retain(|_, number| live.has(*number));
         if let Some(name) = &named.as_what {
             match answer.is_accepted() {
                 true => self.numbers.insert(name.clone(), answer.value),
@@ -142,16 +151,16 @@ impl Bound {
 /// Plays one event after the other, and puts into the words the numbers that the answers give to names.
 pub fn play(
     store: &mut Store,
-    Kept { state, work }: &mut Kept,
+    live: &mut Live,
     words: &mut [u8],
     names: &BTreeMap<usize, Named>,
-) -> Result<Vec<Answer>, Refusal> {
+) -> Result<Vec<Answer>, Refused> {
     let (mut bound, nobody, mut answers) = (Bound::default(), Named::default(), Vec::new());
-    for (at, word) in words.chunks_exact_mut(EVENT_BYTES).enumerate() {
+    for (at, word) in words.chunks_exact_mut(store.edition.event_bytes).enumerate() {
         let named = names.get(&at).unwrap_or(&nobody);
-        word.copy_from_slice(&bound.resolve([word[0], word[1], word[2], word[3]], named));
-        for answer in store.portion_words(state, work, word)? {
-            bound.answered(named, answer, state);
+        word.copy_from_slice(&bound.resolve(store.edition, word, named));
+        for answer in live.portion(store, word)? {
+            bound.answered(named, answer, live);
             answers.push(answer);
         }
     }
@@ -161,7 +170,7 @@ pub fn play(
 #[cfg(test)]
 mod tests {
     use super::*;
-    use nekahuiro_history::{tell, End};
+    use nekahuiro_history::{End, Form, Transaction};
     use nekahuiro_lists::Rng;
 
     /// A line with names that are known, drawn by chance.
@@ -188,38 +197,44 @@ mod tests {
     /// name began, and to nobody if that has ended or was refused.
     #[test]
     fn a_name_is_the_last_that_began_with_it_and_lives() {
-        let (mut rng, mut owned, mut nobody) = (Rng::new(12), 0, 0);
-        for _ in 0..2_000 {
-            let (mut known, mut words, mut names) = (Known::default(), Vec::new(), BTreeMap::new());
-            for at in 0..40 {
-                let so_far: Vec<String> = known.0.iter().cloned().collect();
-                let so_far: Vec<&str> = so_far.iter().map(String::as_str).collect();
-                let line = if at == 0 { "recover".to_string() } else { line(&mut rng, &so_far) };
-                let (word, named) = known.event(&line).unwrap_or_else(|bad| panic!("{line}: {bad}"));
-                words.extend(word);
-                names.insert(at, named);
+        for (edition, form, lists) in [(Edition::FIRST, Form::PLAIN, 2_000), (Edition::SECOND, Form::EDITION_2, 500)] {
+            let (mut rng, mut owned, mut nobody) = (Rng::new(12), 0, 0);
+            for _ in 0..lists {
+                let (mut known, mut words, mut names) = (Known::of(edition), Vec::new(), BTreeMap::new());
+                for at in 0..40 {
+                    let so_far: Vec<String> = known.names.iter().cloned().collect();
+                    let so_far: Vec<&str> = so_far.iter().map(String::as_str).collect();
+                    let line = if at == 0 { "recover".to_string() } else { line(&mut rng, &so_far) };
+                    let (word, named) = known.event(&line).unwrap_or_else(|bad| panic!("{line}: {bad}"));
+                    words.extend(word);
+                    names.insert(at, named);
+                }
+                let mut store = Store::fresh(edition);
+                let mut live = Live::start(&store);
+                let answers = play(&mut store, &mut live, &mut words, &names).unwrap_or_else(|no| panic!("{no}"));
+                let bytes: Vec<u8> = answers.iter().flat_map(|answer| answer.bytes()).collect();
+                let history = form.tell(&words, &bytes).unwrap();
+                for (at, named) in names.iter().filter(|(_, named)| named.whom.is_some()) {
+                    let giver = names.range(..at).rev().find(|(_, other)| other.as_what == named.whom);
+                    let giver = giver.map(|(at, _)| *at);
+                    let begun = |told: &Transaction| told.begun.is_some() && told.begun == giver;
+                    let meant = history.transactions.iter().position(begun).filter(|place| {
+                        match history.transactions[*place].end {
+                            End::Never => true,
+                            End::Committed { at: end, .. } | End::Prepared { at: end, .. } => end >= *at,
+                            End::Aborted(end) | End::Crashed(end) => end >= *at,
+                        }
+                    });
+                    let begins = words[edition.event_bytes * at] >> 4 == 1 && answers[*at].is_accepted();
+                    let found = match begins {
+                        true => history.owner[*at].and_then(|owner| history.transactions[owner].parent),
+                        false => history.owner[*at],
+                    };
+                    assert_eq!(found, meant, "event {at}");
+                    *(if meant.is_some() { &mut owned } else { &mut nobody }) += 1;
+                }
             }
-            let (mut store, mut kept) = (Store::fresh(), Kept::default());
-            let answers = play(&mut store, &mut kept, &mut words, &names).unwrap();
-            let bytes: Vec<u8> = answers.iter().flat_map(|answer| answer.bytes()).collect();
-            let history = tell(&words, &bytes).unwrap();
-            for (at, named) in names.iter().filter(|(_, named)| named.whom.is_some()) {
-                let giver = names.range(..at).rev().find(|(_, other)| other.as_what == named.whom).map(|(at, _)| *at);
-                let place = history.transactions.iter().position(|told| told.begun.is_some() && told.begun == giver);
-                let meant = place.filter(|place| match history.transactions[*place].end {
-                    End::Never => true,
-                    End::Committed { at: end, .. } | End::Prepared { at: end, .. } => end >= *at,
-                    End::Aborted(end) | End::Crashed(end) => end >= *at,
-                });
-                let begins = words[4 * at] >> 4 == 1 && answers[*at].is_accepted();
-                let found = match begins {
-                    true => history.owner[*at].and_then(|owner| history.transactions[owner].parent),
-                    false => history.owner[*at],
-                };
-                assert_eq!(found, meant, "event {at}");
-                *(if meant.is_some() { &mut owned } else { &mut nobody }) += 1;
-            }
+            assert!(owned > 5 * lists && nobody > lists / 2, "{owned} events of somebody, {nobody} of nobody");
         }
-        assert!(owned > 10_000 && nobody > 1_000, "{owned} events of somebody, {nobody} of nobody");
     }
 }

@@ -1,10 +1,12 @@
 //! A store file and the state file that goes with it: read together, replaced together.
 
 use crate::failure::{Failure, Outcome, Status};
-use crate::files::{place_of, read_store};
+use crate::files::{need_first, place_of, read_store};
+use crate::live::Live;
 use crate::staged::{self, Staged};
-use crate::state_file::{self, Kept};
-use nekahuiro::Store;
+use crate::state_file;
+use crate::store::Store;
+use nekahuiro::Edition;
 
 /// What is said if something fails after the point of no return.
 const PLAYED: &str = "the list was played, so don't play it again";
@@ -22,15 +24,17 @@ pub struct Pair<'n> {
 impl<'n> Pair<'n> {
     /// Reads both. The state is that of the state file if it fits the store; else, where a play was stopped
     /// between its two files, that of the file beside it, which then takes its place unless it is a dry run.
-    pub fn read(store_name: &'n str, state_name: Option<&'n str>, dry: bool) -> Outcome<(Pair<'n>, Kept)> {
+    pub fn read(store_name: &'n str, state_name: Option<&'n str>, dry: bool) -> Outcome<(Pair<'n>, Live)> {
         let store = read_store(store_name)?;
+        let start = Live::start(&store);
         let mut pair = Pair { store_name, state_name, store, state: None };
-        let Some(name) = state_name else { return Ok((pair, Kept::default())) };
+        let Some(name) = state_name else { return Ok((pair, start)) };
+        need_no_state(store_name, state_name)?;
         let place = place_of(name);
         pair.state = state_file::bytes(name, &place)?;
         let first = pair.state.as_deref().map(|bytes| state_file::read(name, bytes, store_name, &pair.store));
         if let Some(Ok(kept)) = first {
-            return Ok((pair, kept));
+            return Ok((pair, Live::Lent(Box::new(kept))));
         }
         let beside = staged::beside(&place);
         let second = state_file::bytes(&beside.to_string_lossy(), &beside)?;
@@ -40,24 +44,24 @@ impl<'n> Pair<'n> {
                 staged::finish(name, &place)?;
             }
             pair.state = second;
-            return Ok((pair, kept));
+            return Ok((pair, Live::Lent(Box::new(kept))));
         }
-        let kept = first.unwrap_or_else(|| Ok(Kept::default()))?;
-        Ok((pair, kept))
+        let live = first.transpose()?.map_or(start, |kept| Live::Lent(Box::new(kept)));
+        Ok((pair, live))
     }
 
     /// Puts the new store and state in their places, unless somebody changed the old ones meanwhile. Where
     /// the store stays as it is, the state is replaced in one step. Else the new state is on the disk beside the
     /// old one before the store is replaced, and takes its place after: whatever stops this between, the
     /// state that fits the store is there.
-    pub fn replace(self, store: &Store, kept: &Kept) -> Outcome {
-        self.replace_and(store, kept, PLAYED)
+    pub fn replace(self, store: &Store, live: &Live) -> Outcome {
+        self.replace_and(store, live, PLAYED)
     }
 
     /// As [`Pair::replace`]; `done` is said where something fails after the store was replaced.
-    pub fn replace_and(self, store: &Store, kept: &Kept, done: &str) -> Outcome {
+    pub fn replace_and(self, store: &Store, live: &Live, done: &str) -> Outcome {
         let mut new_state = None;
-        if let Some(name) = self.state_name {
+        if let (Some(name), Live::Lent(kept)) = (self.state_name, live) {
             let bytes = kept.bytes(name, self.store_name, store);
             if self.state.as_ref() != Some(&bytes) {
                 new_state = Some(Staged::new(name, &bytes)?);
@@ -91,6 +95,32 @@ impl<'n> Pair<'n> {
         match self.state_name {
             Some(name) if state_file::bytes(name, &place_of(name))? != self.state => changed(name),
             _ => Ok(()),
+        }
+    }
+}
+
+/// A state file goes with a store of edition 1 alone.
+pub fn need_no_state(store_name: &str, state_name: Option<&str>) -> Outcome {
+    let why = "which has no state files: what is live is lost at the end of a list";
+    let mend = "leave out --state, and play in one list what belongs together";
+    state_name.map_or(Ok(()), |_| need_first(store_name, why, mend))
+}
+
+/// Under which condition nothing is kept: where there are state files it is for want of one.
+pub fn without_state(edition: Edition) -> &'static str {
+    match edition {
+        Edition::SECOND => "",
+        _ => " without --state",
+    }
+}
+
+/// A list is read before its store, for the edition that the store has then; it must still have that.
+pub fn need_edition(store_name: &str, store: &Store, edition: Edition) -> Outcome {
+    match store.edition == edition {
+        true => Ok(()),
+        false => {
+            let reason = format!("{store_name} was changed by somebody else: it is of another edition now");
+            Err(Failure::with(Status::Busy, &reason, "try again; no file was changed"))
         }
     }
 }

@@ -3,13 +3,15 @@
 use crate::alone::Alone;
 use crate::command::{Command, WAIT};
 use crate::failure::{Failure, Outcome};
-use crate::pair::Pair;
-use crate::show::hex;
-use crate::state_file::{self, Kept};
+use crate::files::edition_of;
+use crate::live::Live;
+use crate::pair::{need_edition, need_no_state, Pair};
+use crate::show::{digits, hex};
+use crate::store::{page_in_words, Refused, Store};
 use crate::trace::what_happened;
-use crate::{list, number_of, say};
-use nekahuiro::limits::{EVENT_BYTES, RECORDS};
-use nekahuiro::{describe, CommitPage, Event, Map, PageWrite, Refusal, Store};
+use crate::{list, number_of, say, state_file};
+use nekahuiro::any::{CommitPage, Map};
+use nekahuiro::{Edition, PageWrite};
 use std::fmt::Write;
 
 /// The command.
@@ -35,58 +37,58 @@ is marked as not made, and the list goes on after the cut. No file is changed.
 fn run(words: &[String]) -> Outcome {
     let ([store, events], given) = COMMAND.read(words)?;
     let state = given.value("--state");
-    let words = list::read(events, given.has("--raw"))?;
+    let edition = edition_of(store);
+    need_no_state(store, state)?;
+    let words = list::read(edition, events, given.has("--raw"))?;
     let files: Vec<&str> = std::iter::once(store).chain(state).collect();
     let alone = Alone::with(&files, given.wait()?)?;
-    let (pair, kept) = Pair::read(store, state, true)?;
+    let (pair, live) = Pair::read(store, state, true)?;
     drop(alone);
-    let text = tell(pair.store, kept, &words).map_err(|refusal| match (state, refusal) {
-        (Some(path), Refusal::State) => state_file::unsound(path),
-        _ => Failure::refused(&format!("the list was {refusal}"), "no file was changed"),
+    need_edition(store, &pair.store, edition)?;
+    let text = tell(pair.store, live, &words).map_err(|refused| match state {
+        Some(path) if refused.is_of_state() => state_file::unsound(path),
+        _ => Failure::refused(&format!("the list was {refused}"), "no file was changed"),
     })?;
     say(&text)
 }
 
 /// Each event with its page writes.
-fn tell(mut store: Store, mut kept: Kept, words: &[u8]) -> Result<String, Refusal> {
-    let mut text = String::from("event  word      answer  what happens, and its page writes\n");
+fn tell(mut store: Store, mut live: Live, words: &[u8]) -> Result<String, Refused> {
+    let edition = store.edition;
+    let (width, page_width) = (2 * edition.event_bytes, edition.pages().to_string().len());
+    let indent = " ".repeat(15 + width);
+    let mut text = format!("event  {:width$}  answer  what happens, and its page writes\n", "word");
     let (mut planned, mut made) = (0, 0);
-    for (at, word) in (1..).zip(words.chunks_exact(EVENT_BYTES)) {
-        let word = [word[0], word[1], word[2], word[3]];
-        let writes = store.page_writes(&kept.state, &kept.work, word)?;
-        let Some(answer) = store.portion_words(&mut kept.state, &mut kept.work, &word)?.first().copied() else {
+    for (at, word) in (1..).zip(words.chunks_exact(edition.event_bytes)) {
+        let writes = live.page_writes(&store, word)?;
+        let Some(answer) = live.portion(&mut store, word)?.first().copied() else {
             break;
         };
-        let bits = u32::from_be_bytes(word);
-        let [number, value] = answer.bytes();
-        let happened = what_happened(Event::of(word), word, answer);
-        let _ = writeln!(text, "{at:5}  {bits:08X}  {number:02X}{value:02X}    {}: {happened}", describe(word));
+        let happened = what_happened(edition, word, answer);
+        let (hex_word, pair) = (digits(word), digits(&answer.bytes()));
+        let _ = writeln!(text, "{at:5}  {hex_word}  {pair}    {}: {happened}", edition.describe(word));
         let last = if answer.is_cut() { usize::from(answer.value) } else { writes.len() };
         for (index, write) in writes.iter().enumerate() {
             let not = if index < last { "" } else { " (not made)" };
-            let (page, what, bytes) = (write.page, what(write), hex(&write.bytes));
-            let _ = writeln!(text, "{:23}{index:2}  page {page:2}  {bytes}  {what}{not}", "");
+            let (page, what, bytes) = (write.page, what(edition, write), hex(&write.bytes));
+            let _ = writeln!(text, "{indent}{index:page_width$}  page {page:page_width$}  {bytes}  {what}{not}");
         }
         (planned, made) = (planned + writes.len(), made + last.min(writes.len()));
     }
-    let events = number_of(words.len() / EVENT_BYTES, "event");
+    let events = number_of(words.len() / edition.event_bytes, "event");
     let not_made = if made < planned { format!(", {} not made", planned - made) } else { String::new() };
     let _ = writeln!(text, "{events}: {}{not_made}", number_of(planned, "page write"));
     Ok(text)
 }
 
 /// What a page is, in words.
-fn what(write: &PageWrite) -> String {
-    let page = usize::from(write.page);
-    match page.checked_sub(1) {
-        Some(record) if record < RECORDS => format!("intention page of record {record}"),
-        Some(record) => format!("home page of record {}", record - RECORDS),
-        None => match CommitPage::of(&write.bytes) {
-            CommitPage::Empty => "commit page, empty".to_string(),
-            CommitPage::Committed(map) => format!("commit page, committed: {}", named(map)),
-            CommitPage::Prepared(map, identity) => format!("commit page, prepared {identity}: {}", named(map)),
-            CommitPage::Damaged(why) => format!("commit page, damaged: {why}"),
-        },
+fn what(edition: Edition, write: &PageWrite) -> String {
+    match (write.page, edition.commit_page(&write.bytes)) {
+        (1.., _) => page_in_words(edition, usize::from(write.page)).trim_start_matches("the ").to_string(),
+        (0, CommitPage::Empty) => "commit page, empty".to_string(),
+        (0, CommitPage::Committed(map)) => format!("commit page, committed: {}", named(map)),
+        (0, CommitPage::Prepared(map, identity)) => format!("commit page, prepared {identity}: {}", named(map)),
+        (0, CommitPage::Damaged(why)) => format!("commit page, damaged: {why}"),
     }
 }
 

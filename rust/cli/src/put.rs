@@ -3,12 +3,14 @@
 use crate::alone::Alone;
 use crate::command::{digits, number, record, Command, WAIT};
 use crate::failure::{visible, Failure, Outcome};
-use crate::files::need_plain;
-use crate::pair::Pair;
-use crate::state_file::{self, Kept};
-use crate::{number_of, say, show, trace};
-use nekahuiro::limits::{COUNT_LIMIT, PAGE_BYTES};
-use nekahuiro::{Answer, Event, Record, Refusal, Store, Transaction};
+use crate::files::{edition_of, need_plain};
+use crate::live::Live;
+use crate::pair::{need_no_state, Pair};
+use crate::store::{self, Store};
+use crate::{number_of, say, show, state_file, trace};
+use nekahuiro::any::{Event, Record};
+use nekahuiro::limits::PAGE_BYTES;
+use nekahuiro::{Answer, Edition, Transaction};
 
 /// The command.
 pub const COMMAND: Command = Command {
@@ -35,21 +37,22 @@ const DONE: &str = "the record was written";
 /// Writes the bytes, and tells it once they are in the store.
 fn run(words: &[String]) -> Outcome {
     let ([path, number, hex], given) = COMMAND.read(words)?;
-    digits("record", number)?;
+    digits(edition_of(path), number)?;
     let (bytes, offset) = bytes(hex, given.value("--at"))?;
     let state = given.value("--state");
     need_plain(path, "store")?;
     state.map_or(Ok(()), |name| need_plain(name, "state file"))?;
+    need_no_state(path, state)?;
     let files: Vec<&str> = std::iter::once(path).chain(state).collect();
     let alone = Alone::with(&files, given.wait()?)?;
-    let (pair, mut kept) = Pair::read(path, state, false)?;
-    let record = record(number)?;
+    let (pair, mut live) = Pair::read(path, state, false)?;
     let mut store = pair.store.clone();
-    write(&mut store, &mut kept, record, offset, &bytes).map_err(|refused| match (refused, state) {
-        (Refused::State, Some(name)) => state_file::unsound(name),
-        (refused, _) => refused.failure(path, record),
+    let record = record(store.edition, number)?;
+    write(&mut store, &mut live, record, offset, &bytes).map_err(|refused| match (refused, state) {
+        (Refused::Run(refused), Some(name)) if refused.is_of_state() => state_file::unsound(name),
+        (refused, _) => refused.failure(store.edition, path, record),
     })?;
-    pair.replace_and(&store, &kept, DONE)?;
+    pair.replace_and(&store, &live, DONE)?;
     drop(alone);
     let value = show::line(&store.settled(record));
     let text = format!("{}: record {record} is {value}\n", visible(path));
@@ -78,18 +81,16 @@ fn bytes(hex: &str, at: Option<&str>) -> Outcome<(Vec<u8>, u8)> {
 
 /// Why a record can't be written.
 enum Refused {
-    State,
-    Run(Refusal),
+    Run(store::Refused),
     Event(Event, Answer),
 }
 
 impl Refused {
-    fn failure(self, path: &str, record: Record) -> Failure {
+    fn failure(self, edition: Edition, path: &str, record: Record) -> Failure {
         let why = match self {
-            Refused::State => Refusal::State.to_string(),
-            Refused::Run(refusal) => refusal.to_string(),
+            Refused::Run(refused) => refused.to_string(),
             Refused::Event(event, answer) => {
-                format!("{event}: {}", trace::what_happened(Some(event), event.word(), answer))
+                format!("{event}: {}", trace::what_happened(edition, &edition.word(event.fields()), answer))
             }
         };
         let mend = format!("no file was changed; `./nekahuiro check {path}` says how the store stands");
@@ -98,31 +99,25 @@ impl Refused {
 }
 
 /// Plays what writes the bytes, up to the first event that isn't done.
-fn write(
-    store: &mut Store,
-    Kept { state, work }: &mut Kept,
-    record: Record,
-    offset: u8,
-    bytes: &[u8],
-) -> Result<(), Refused> {
-    let mut play = |event: Event, state: &mut nekahuiro::State| {
-        let answers = store.portion(state, work, &[event]).map_err(|refusal| match refusal {
-            Refusal::State => Refused::State,
-            other => Refused::Run(other),
-        })?;
-        match answers.first() {
-            Some(answer) if answer.number == nekahuiro::DONE => Ok(answer.value),
-            answer => Err(answer.map_or(Refused::Run(Refusal::Other(0)), |answer| Refused::Event(event, *answer))),
+fn write(store: &mut Store, live: &mut Live, record: Record, offset: u8, bytes: &[u8]) -> Result<(), Refused> {
+    let count = store.edition.count_limit();
+    let is_up = live.follower(store.commit_page()).up;
+    let mut play = |event: Event| {
+        let word = store.edition.word(event.fields());
+        let answers = live.portion(store, &word).map_err(Refused::Run)?;
+        match answers.iter().find(|answer| answer.number != nekahuiro::DONE) {
+            Some(answer) => Err(Refused::Event(event, *answer)),
+            None => Ok(answers.first().map_or(0, |answer| answer.value)),
         }
     };
-    if !state.is_up() {
-        play(Event::Recover { count: COUNT_LIMIT }, state)?;
+    if !is_up {
+        play(Event::Recover { count })?;
     }
-    let begun = play(Event::Begin { parent: Transaction::NONE }, state)?;
-    let transaction = Transaction::new(begun).ok_or(Refused::Run(Refusal::Other(0)))?;
-    play(Event::Lock { transaction, record }, state)?;
+    let begun = play(Event::Begin { parent: Transaction::NONE })?;
+    let transaction = Transaction::new(begun).unwrap_or(Transaction::NONE);
+    play(Event::Lock { transaction, record })?;
     for (offset, value) in (offset..).zip(bytes) {
-        play(Event::Write { transaction, record, offset, value: *value }, state)?;
+        play(Event::Write { transaction, record, offset, value: *value })?;
     }
-    play(Event::Commit { transaction, count: COUNT_LIMIT }, state).map(|_| ())
+    play(Event::Commit { transaction, count }).map(|_| ())
 }

@@ -1,13 +1,14 @@
 //! An event in a sentence, for a reader who doesn't know how lists are written.
 
-use nekahuiro::limits::{COUNT_LIMIT, EVENT_BYTES};
-use nekahuiro::{page_writes, why_bad, Event, Transaction};
+use nekahuiro::any::Event;
+use nekahuiro::{page_writes, Edition, Transaction};
 
 /// What an event word asks for.
-pub fn of(word: [u8; EVENT_BYTES]) -> String {
-    let Some(event) = Event::of(word) else {
-        return format!("no event: {}", why_bad(word).unwrap_or_default());
+pub fn of(edition: Edition, word: &[u8]) -> String {
+    let Some(event) = edition.event(word) else {
+        return format!("no event: {}", edition.why_bad(word).unwrap_or_default());
     };
+    let cut = |count| cut(edition, count);
     match event {
         Event::Begin { parent: Transaction::NONE } => "a top transaction begins".to_string(),
         Event::Begin { parent } => format!("a child of transaction {parent} begins"),
@@ -42,9 +43,9 @@ pub fn of(word: [u8; EVENT_BYTES]) -> String {
 }
 
 /// Where the power goes, if it does.
-fn cut(count: u8) -> String {
+fn cut(edition: Edition, count: u8) -> String {
     match count {
-        COUNT_LIMIT => String::new(),
+        count if count == edition.count_limit() => String::new(),
         0 => "; the power goes before the first page write, if one is due".to_string(),
         _ => format!("; the power goes after {}, if more are due", page_writes(count)),
     }

@@ -2,11 +2,15 @@
 
 use crate::command::Command;
 use crate::failure::{Failure, Outcome};
-use crate::state_file::Kept;
+use crate::live::Live;
+use crate::pair::need_edition;
+use crate::show::digits;
+use crate::store::{library, Store};
 use crate::{files, list, number_of, play, say};
-use nekahuiro::limits::{EVENTS, EVENT_BYTES};
-use nekahuiro::{describe, CommitPage, Store};
-use nekahuiro_history::{serial, History, Placed, Run, Serial, Turn, Unlike};
+use nekahuiro::any::{CommitPage, Event};
+use nekahuiro::limits::EVENTS;
+use nekahuiro::Edition;
+use nekahuiro_history::{serial_of, History, Placed, Run, Serial, Turn, Unlike};
 use std::fmt::Write;
 
 /// The command.
@@ -39,22 +43,33 @@ struct Played {
 /// Prints the serial list of a list.
 fn run(words: &[String]) -> Outcome {
     let ([path, events], given) = COMMAND.read(words)?;
-    let words = list::read(events, given.has("--raw"))?;
+    let edition = files::edition_of(path);
+    let words = list::read(edition, events, given.has("--raw"))?;
     let store = files::read_store(path)?;
-    let (first, history) = played(&store, words)?;
-    let serial = serial(&history, &first.words, &first.answers);
-    let (second, _) = played(&store, serial.words())?;
-    serial.check(of(&store, &first), of(&store, &second)).map_err(|unlike| wrong(&unlike))?;
-    say(&text(&store, &first, &history, &serial))
+    need_edition(path, &store, edition)?;
+    match edition {
+        Edition::SECOND => say(&tell::<8>(&store, words)?),
+        _ => say(&tell::<4>(&store, words)?),
+    }
+}
+
+/// The serial list of a list in words of so many bytes.
+fn tell<const WORD: usize>(store: &Store, words: Vec<u8>) -> Outcome<String> {
+    let (first, history) = played(store, words)?;
+    let serial = serial_of::<WORD>(&history, &first.words, &first.answers);
+    let (second, _) = played(store, serial.words())?;
+    serial.check(of(store, &first), of(store, &second)).map_err(|unlike| wrong(store.edition, &unlike))?;
+    Ok(text(store, &first, &history, &serial))
 }
 
 /// Plays a list on a copy of the store, from a start.
 fn played(store: &Store, words: Vec<u8>) -> Outcome<(Played, History)> {
     let mut store = store.clone();
-    let answers = play::portions(&mut store, &mut Kept::default(), &words, EVENTS).map_err(|refusal| {
-        Failure::refused(&format!("the run was {refusal}"), "nothing was played, and no file was changed")
+    let mut live = Live::start(&store);
+    let answers = play::portions(&mut store, &mut live, &words, EVENTS).map_err(|refused| {
+        Failure::refused(&format!("the run was {refused}"), "nothing was played, and no file was changed")
     })?;
-    let history = play::history(&[], &words, &answers)?;
+    let history = play::history(store.edition, &[], &words, &answers)?;
     let answers = answers.iter().flat_map(|answer| answer.bytes()).collect();
     Ok((Played { words, answers, store }, history))
 }
@@ -64,27 +79,30 @@ fn of<'r>(before: &'r Store, played: &'r Played) -> Run<'r> {
     Run { before: before.bytes(), events: words, answers, after: store.bytes() }
 }
 
-fn wrong(unlike: &Unlike) -> Failure {
+fn wrong(edition: Edition, unlike: &Unlike) -> Failure {
     let reason = match unlike {
-        Unlike::Recover(answer) => format!("the recover is answered {:02X}{:02X}", answer[0], answer[1]),
-        Unlike::Refused { at, answer } => format!("event {} is answered {:02X}{:02X}", at + 1, answer[0], answer[1]),
+        Unlike::Recover(answer) => format!("the recover is answered {}", digits(answer)),
+        Unlike::Refused { at, answer } => format!("event {} is answered {}", at + 1, digits(answer)),
         Unlike::Value { at, due, found } => format!("event {} gives {found:02X}, and {due:02X} is due", at + 1),
         Unlike::Settled { record } => format!("record {record} is another"),
         Unlike::Longer => "it has more events".to_string(),
     };
-    let mend = "the linked library isn't the proved one; make it again with `rt staticlib nekahuiro`";
-    Failure::new(&format!("one transaction at a time it isn't the same: {reason}"), mend)
+    let mend =
+        format!("the linked library isn't the proved one; make it again with `rt staticlib {}`", library(edition));
+    Failure::new(&format!("one transaction at a time it isn't the same: {reason}"), &mend)
 }
 
-fn text(store: &Store, first: &Played, history: &History, serial: &Serial) -> String {
-    let all = first.words.len() / EVENT_BYTES;
+fn text<const WORD: usize>(store: &Store, first: &Played, history: &History, serial: &Serial<WORD>) -> String {
+    let edition = store.edition;
+    let all = first.words.len() / WORD;
     let mut text = format!("# {}, as if one transaction came at a time\n", number_of(all, "event"));
     let refused = matches!(store.commit_page(), CommitPage::Damaged(_));
-    let _ = writeln!(text, "{:24}{}", "recover 63", if refused { "  # refused: page 0 is damaged" } else { "" });
+    let recover = Event::Recover { count: edition.count_limit() }.to_string();
+    let _ = writeln!(text, "{recover:24}{}", if refused { "  # refused: page 0 is damaged" } else { "" });
     for turn in &serial.turns {
         let _ = writeln!(text, "# {}", heading(history, turn));
         for placed in &turn.events {
-            let _ = writeln!(text, "{:24}  # {}", describe(placed.word), place(&first.words, placed));
+            let _ = writeln!(text, "{:24}  # {}", edition.describe(&placed.word), place(edition, &first.words, placed));
         }
     }
     let (played, reads) = (serial.events().count(), serial.events().filter(|placed| placed.word[0] >> 4 == 4).count());
@@ -103,7 +121,7 @@ fn same_bytes(reads: usize) -> String {
 }
 
 /// Whose turn it is.
-fn heading(history: &History, turn: &Turn) -> String {
+fn heading<const WORD: usize>(history: &History, turn: &Turn<WORD>) -> String {
     let stored = turn.stored + 1;
     match turn.transaction.map(|place| &history.transactions[place]) {
         Some(told) => {
@@ -115,10 +133,10 @@ fn heading(history: &History, turn: &Turn) -> String {
 }
 
 /// Where an event stood, and how it was written there if it was otherwise.
-fn place(words: &[u8], placed: &Placed) -> String {
-    let word = &words[placed.at * EVENT_BYTES..][..EVENT_BYTES];
+fn place<const WORD: usize>(edition: Edition, words: &[u8], placed: &Placed<WORD>) -> String {
+    let word = &words[placed.at * WORD..][..WORD];
     match placed.word == word {
         true => format!("event {}", placed.at + 1),
-        false => format!("event {}: {}", placed.at + 1, describe([word[0], word[1], word[2], word[3]])),
+        false => format!("event {}: {}", placed.at + 1, edition.describe(word)),
     }
 }

@@ -3,9 +3,10 @@
 use crate::command::Command;
 use crate::failure::{Failure, Outcome};
 use crate::files::{name_of, read_list};
+use crate::follow::Follower;
 use crate::{encode, play, say, say_bytes};
 use nekahuiro::limits::{DEPTH_LIMIT, EVENTS};
-use nekahuiro::{sheet_words, BadSheet, Event, State};
+use nekahuiro::{sheet_words, BadSheet, Edition, Event};
 
 /// The command.
 pub const COMMAND: Command = Command {
@@ -28,7 +29,7 @@ SHEET is a file, or - for standard input. A sheet is one top transaction, withou
 
 A record is one digit, offset and value are two; digits are 0 to 9 and A to F, and an offset is at most 1F.
 Transactions nest 16 deep, and there are at most 4,096 events. The numbers in the list are right where it is
-played while up with nothing live. A line end at the end of the file is left out.
+played while up with nothing live. A line end at the end of the file is left out. Sheets are for edition 1.
 ",
     run,
 };
@@ -48,7 +49,7 @@ fn run(words: &[String]) -> Outcome {
     let list = read(sheet)?;
     match given.has("--raw") {
         true => say_bytes(&list),
-        false => say(&encode::all_in_words(&list)),
+        false => say(&encode::all_in_words(Edition::FIRST, &list)),
     }
 }
 
@@ -85,9 +86,9 @@ fn refused(name: &str, sheet: &[u8], bad: &BadSheet) -> Failure {
 }
 
 /// What a sheet is played on: up with nothing live. Where it is down, a recover comes first.
-pub fn led_in(state: &State, list: Vec<u8>) -> Outcome<Vec<u8>> {
-    let live: Vec<String> = state.live().map(|transaction| transaction.to_string()).collect();
-    match (state.is_up(), live.is_empty()) {
+pub fn led_in(start: &Follower, list: Vec<u8>) -> Outcome<Vec<u8>> {
+    let live: Vec<String> = start.live.keys().map(u8::to_string).collect();
+    match (start.up, live.is_empty()) {
         (false, _) => Ok([Event::Recover { count: 63 }.word().to_vec(), list].concat()),
         (true, true) => Ok(list),
         (true, false) => {

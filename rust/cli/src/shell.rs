@@ -5,12 +5,13 @@ use crate::command::{Command, WAIT};
 use crate::failure::{visible, Failure, Outcome, Status};
 use crate::files::need_plain;
 use crate::follow::Follower;
+use crate::live::Live;
 use crate::names::{Bound, Known, Named};
-use crate::pair::Pair;
-use crate::state_file::{self, Kept};
-use crate::{as_called, complain, list, say, show, trace};
-use nekahuiro::limits::EVENT_BYTES;
-use nekahuiro::{Answer, Event, Refusal, Store};
+use crate::pair::{need_no_state, without_state, Pair};
+use crate::store::{Refused, Store};
+use crate::{as_called, complain, list, say, show, state_file, trace};
+use nekahuiro::limits::EVENTS;
+use nekahuiro::{Answer, Edition, Refusal};
 use std::io::{self, BufRead, IsTerminal, Read};
 use std::time::Duration;
 
@@ -48,6 +49,7 @@ fn run(words: &[String]) -> Outcome {
     let state_name = given.value("--state");
     need_plain(store_name, "store")?;
     state_name.map_or(Ok(()), |name| need_plain(name, "state file"))?;
+    need_no_state(store_name, state_name)?;
     let mut shell = Shell::open(store_name, state_name, given.wait()?)?;
     let asks = io::stdin().is_terminal();
     if asks {
@@ -102,7 +104,7 @@ struct Shell<'n> {
     wait: Duration,
     /// As the last event left them.
     store: Store,
-    kept: Kept,
+    live: Live,
     known: Known,
     bound: Bound,
 }
@@ -110,9 +112,9 @@ struct Shell<'n> {
 impl<'n> Shell<'n> {
     fn open(store_name: &'n str, state_name: Option<&'n str>, wait: Duration) -> Outcome<Shell<'n>> {
         let _alone = alone(store_name, state_name, wait)?;
-        let (pair, kept) = Pair::read(store_name, state_name, false)?;
-        let (known, bound) = Default::default();
-        Ok(Shell { store_name, state_name, wait, store: pair.store, kept, known, bound })
+        let (pair, live) = Pair::read(store_name, state_name, false)?;
+        let (known, bound) = (Known::of(pair.store.edition), Bound::default());
+        Ok(Shell { store_name, state_name, wait, store: pair.store, live, known, bound })
     }
 
     fn line(&mut self, line: &str) -> Outcome<Told> {
@@ -126,8 +128,8 @@ impl<'n> Shell<'n> {
                 let read = list::line_events(&mut self.known, line);
                 let (words, named) = read.map_err(|bad| list::bad_line("standard input", line, &bad))?;
                 let mut text = String::new();
-                for word in words.chunks_exact(EVENT_BYTES) {
-                    text += &self.event([word[0], word[1], word[2], word[3]], &named)?;
+                for word in words.chunks_exact(self.store.edition.event_bytes) {
+                    text += &self.event(word, &named)?;
                 }
                 text
             }
@@ -135,38 +137,47 @@ impl<'n> Shell<'n> {
     }
 
     /// Plays one event, replaces the files, and then has it in words.
-    fn event(&mut self, word: [u8; EVENT_BYTES], named: &Named) -> Outcome<String> {
+    fn event(&mut self, word: &[u8], named: &Named) -> Outcome<String> {
         let alone = alone(self.store_name, self.state_name, self.wait)?;
         let (pair, found) = Pair::read(self.store_name, self.state_name, false)?;
         let mut text = self.meet(&pair.store, found)?;
         let before = self.follower();
-        let word = self.bound.resolve(word, named);
-        let (mut store, mut kept) = (pair.store.clone(), self.kept.clone());
-        let answers = store.portion_words(&mut kept.state, &mut kept.work, &word);
-        let answers = answers.map_err(|refusal| match (self.state_name, refusal) {
-            (Some(name), Refusal::State) => state_file::unsound(name),
-            _ => Failure::refused(&format!("the event was {refusal}"), "nothing was played, and no file was changed"),
-        })?;
-        pair.replace_and(&store, &kept, DONE)?;
+        let word = self.bound.resolve(pair.store.edition, word, named);
+        let (mut store, mut live) = (pair.store.clone(), self.live.clone());
+        let answers = live.portion(&mut store, &word).map_err(|refused| self.failure(refused))?;
+        pair.replace_and(&store, &live, DONE)?;
         drop(alone);
-        (self.store, self.kept) = (store, kept);
+        (self.store, self.live) = (store, live);
         for answer in answers {
-            self.bound.answered(named, answer, &self.kept.state);
-            text += &self.told(word, named, answer, &before);
+            self.bound.answered(named, answer, &self.live);
+            text += &self.told(&word, named, answer, &before);
         }
         Ok(text)
     }
 
+    /// The message for an event that can't be played.
+    fn failure(&self, refused: Refused) -> Failure {
+        match self.state_name {
+            Some(name) if refused.is_of_state() => state_file::unsound(name),
+            // Edition 2 plays what is live again before each event.
+            None if refused.edition == Edition::SECOND && refused.number == Refusal::List.number() => {
+                let reason = format!("{EVENTS} events are live, and no more can be played at once (refusal 20)");
+                Failure::refused(&reason, "begin again: what is live is lost, as by a crash; no file was changed")
+            }
+            _ => Failure::refused(&format!("the event was {refused}"), "nothing was played, and no file was changed"),
+        }
+    }
+
     /// What another command did since the last event: with a state file it is gone on from, else all is lost.
-    fn meet(&mut self, store: &Store, found: Kept) -> Outcome<String> {
+    fn meet(&mut self, store: &Store, found: Live) -> Outcome<String> {
         let changed = *store != self.store;
         match self.state_name {
             None if changed => {
                 let reason = format!("{} was changed by another command since the last event", self.store_name);
                 Err(Failure::with(Status::Busy, &reason, "what was live here is lost; begin again with a recover"))
             }
-            Some(_) if changed || found.state != self.kept.state || found.work != self.kept.work => {
-                (self.store, self.kept) = (store.clone(), found);
+            Some(_) if changed || found != self.live => {
+                (self.store, self.live) = (store.clone(), found);
                 self.bound = Bound::default();
                 Ok("another command played on it: names from before stand for nobody now\n".to_string())
             }
@@ -175,10 +186,10 @@ impl<'n> Shell<'n> {
     }
 
     /// The answer in words, and what else it changed.
-    fn told(&self, word: [u8; EVENT_BYTES], named: &Named, answer: Answer, before: &Follower) -> String {
+    fn told(&self, word: &[u8], named: &Named, answer: Answer, before: &Follower) -> String {
         let called = named.as_what.as_ref().filter(|_| answer.is_accepted());
         let called = called.map_or(String::new(), |name| format!(", called {name}"));
-        let mut text = format!("{}{called}\n", trace::what_happened(Event::of(word), word, answer));
+        let mut text = format!("{}{called}\n", trace::what_happened(self.store.edition, word, answer));
         let after = self.follower();
         let ended: Vec<String> =
             before.live.keys().filter(|t| !after.live.contains_key(t)).map(u8::to_string).collect();
@@ -195,17 +206,18 @@ impl<'n> Shell<'n> {
     }
 
     fn follower(&self) -> Follower {
-        Follower::of(&self.kept.state, self.store.commit_page())
+        self.live.follower(self.store.commit_page())
     }
 
     fn in_words(&self) -> String {
-        format!("{}; {}", self.kept.in_words(), self.follower().locks_in_words())
+        let follower = self.follower();
+        format!("{}; {}", follower.in_words(), follower.locks_in_words())
     }
 
     /// What is live and isn't kept is told at the end.
     fn end(&self) -> Outcome {
-        match self.state_name.is_none() && self.kept.state.live().next().is_some() {
-            true => say("what is live at the end isn't kept without --state\n"),
+        match self.state_name.is_none() && !self.follower().live.is_empty() {
+            true => say(&format!("what is live at the end isn't kept{}\n", without_state(self.store.edition))),
             false => Ok(()),
         }
     }

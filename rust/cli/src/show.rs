@@ -4,12 +4,12 @@
 use crate::command::Command;
 use crate::failure::{visible, Failure, Outcome};
 use crate::files::cant_read;
-use crate::follow::Follower;
-use crate::pair::Pair;
-use crate::state_file::{self, Kept};
-use crate::{edition2, files, number_of, say};
-use nekahuiro::limits::{PAGES, RECORDS};
-use nekahuiro::{CommitPage, Place, Record, Store};
+use crate::live::Live;
+use crate::pair::{need_no_state, Pair};
+use crate::store::{page_in_words, Store};
+use crate::{files, number_of, say, state_file};
+use nekahuiro::any::{CommitPage, Map, Record};
+use nekahuiro::Place;
 use std::fmt::Write;
 use std::fs;
 
@@ -33,9 +33,6 @@ fn run(words: &[String]) -> Outcome {
         (Some(_), Some(_)) => Err(COMMAND.misuse("--diff and --state don't go together")),
         (Some(other), None) => say(&difference(path, other)?),
         (None, Some(state)) => say(&with_state(path, state)?),
-        (None, None) if edition2::is_store(path) => {
-            say(&format!("{}\n{}", visible(path), edition2::records(&edition2::read_store(path)?)))
-        }
         (None, None) => say(&format!("{}\n{}", visible(path), records(&files::read_store(path)?))),
     }
 }
@@ -43,7 +40,7 @@ fn run(words: &[String]) -> Outcome {
 /// Page 0 in words, and all records.
 pub fn records(store: &Store) -> String {
     let mut text = format!("{}\n\nrecord  settled in           value\n", commit_page(store));
-    for record in Record::all() {
+    for record in store.records() {
         let value = line(&store.settled(record));
         let _ = writeln!(text, "{:6}  {:19}  {value}", record.number(), place(store, record));
     }
@@ -52,29 +49,24 @@ pub fn records(store: &Store) -> String {
 
 /// A store with what is live in a state file.
 fn with_state(path: &str, state_name: &str) -> Outcome<String> {
+    need_no_state(path, Some(state_name))?;
     fs::metadata(state_name).map_err(|error| cant_read(state_name, &error, "check the name"))?;
     let (pair, kept) = Pair::read(path, Some(state_name), true)?;
     // Whether a state is sound is told where it is lent, be it for no event.
-    let (mut store, mut tried) = (pair.store.clone(), kept.clone());
-    let sound = store.portion_words(&mut tried.state, &mut tried.work, &[]);
+    let sound = kept.clone().portion(&mut pair.store.clone(), &[]);
     sound.map_err(|_| state_file::unsound(state_name))?;
-    let mut text = format!("{}\n{}\n", visible(path), records(&pair.store));
-    let _ = writeln!(text, "{}: {}", visible(state_name), kept.in_words());
-    text.push_str(&live(&kept, &pair.store));
-    Ok(text)
+    Ok(format!("{}\n{}\n{}: {}", visible(path), records(&pair.store), visible(state_name), live(&kept, &pair.store)))
 }
 
-/// Live transactions beneath their parents, locks, and versions.
-fn live(Kept { state, work }: &Kept, store: &Store) -> String {
-    let follower = Follower::of(state, store.commit_page());
-    let mut text = format!("{}\n", follower.locks_in_words());
-    let depth = |number: u8| state.depth.get(usize::from(number)).copied().unwrap_or(0);
+/// Who is live, locks, and versions.
+fn live(kept: &Live, store: &Store) -> String {
+    let (follower, versions) = (kept.follower(store.commit_page()), kept.versions());
+    let mut text = format!("{}\n{}\n", follower.in_words(), follower.locks_in_words());
     for (number, parent) in &follower.live {
         let under = parent.map_or("a top transaction".to_string(), |parent| format!("a child of {parent}"));
         let _ = writeln!(text, "transaction {number}, {under}");
-        for record in Record::all().filter(|record| state.writers(*record).any(|t| t.number() == *number)) {
-            let _ =
-                writeln!(text, "  its record {:2}  {}", record.number(), line(&work.version(record, depth(*number))));
+        for ((record, _), page) in versions.iter().filter(|((_, writer), _)| writer == number) {
+            let _ = writeln!(text, "  its record {:2}  {}", record.number(), line(page));
         }
     }
     text
@@ -87,14 +79,21 @@ fn difference(one: &str, other: &str) -> Outcome<String> {
         return Err(Failure::usage(&format!("{one} is named twice"), "name two stores"));
     }
     let stores = [files::read_store(one)?, files::read_store(other)?];
-    let pages: Vec<usize> = (0..PAGES).filter(|page| stores[0].page(*page) != stores[1].page(*page)).collect();
+    let edition = stores[0].edition;
+    if stores[1].edition != edition {
+        let numbers = [edition.number, stores[1].edition.number];
+        let reason = format!("{one} is a store of edition {}, and {other} one of edition {}", numbers[0], numbers[1]);
+        return Err(Failure::refused(&reason, "name two stores of one edition"));
+    }
+    let all = edition.pages();
+    let pages: Vec<usize> = (0..all).filter(|page| stores[0].page(*page) != stores[1].page(*page)).collect();
     if pages.is_empty() {
         return Ok(format!("{} and {} are equal\n", visible(one), visible(other)));
     }
     let width = names.iter().map(|name| visible(name).chars().count()).max().unwrap_or(0);
-    let mut text = format!("{} of {PAGES} differ\n", number_of(pages.len(), "page"));
+    let mut text = format!("{} of {all} differ\n", number_of(pages.len(), "page"));
     for page in pages {
-        let _ = writeln!(text, "{}", page_in_words(page));
+        let _ = writeln!(text, "page {page}, {}", page_in_words(edition, page));
         let [old, new] = [stores[0].page(page), stores[1].page(page)];
         for (name, page) in names.iter().zip([&old, &new]) {
             let _ = writeln!(text, "  {:width$}  {}", visible(name), line(page));
@@ -106,24 +105,28 @@ fn difference(one: &str, other: &str) -> Outcome<String> {
     Ok(text)
 }
 
-fn page_in_words(page: usize) -> String {
-    match page {
-        0 => "page 0, the commit page".to_string(),
-        page if page <= RECORDS => format!("page {page}, the intention page of record {}", page - 1),
-        page => format!("page {page}, the home page of record {}", page - 1 - RECORDS),
-    }
-}
-
 /// The commit page in words.
 pub fn commit_page(store: &Store) -> String {
-    let head = store.page(0)[..4].iter().map(|byte| format!("{byte:02X}")).collect::<Vec<_>>().join(" ");
+    // All but the zeros behind them, in either edition.
+    let head = store.page(0)[..2 + store.edition.records / 8]
+        .iter()
+        .map(|byte| format!("{byte:02X}"))
+        .collect::<Vec<_>>()
+        .join(" ");
+    let named = |map: Map| map.records().map(|record| record.to_string()).collect::<Vec<_>>();
     match store.commit_page() {
-        CommitPage::Empty => empty(&head),
+        CommitPage::Empty => format!("page 0 ({head} ..): empty, no commit is under way"),
         CommitPage::Committed(map) => {
-            committed(&head, &map.records().map(|record| record.to_string()).collect::<Vec<_>>())
+            let named = named(map);
+            let (records, pages) = match named.len() {
+                1 => ("record", "its intention page"),
+                _ => ("records", "their intention pages"),
+            };
+            let named = named.join(", ");
+            format!("page 0 ({head} ..): committed, {records} {named}; a recover will copy {pages} home")
         }
         CommitPage::Prepared(map, identity) => {
-            let named: Vec<String> = map.records().map(|record| record.to_string()).collect();
+            let named = named(map);
             let records = if named.len() == 1 { "record" } else { "records" };
             let named = named.join(", ");
             let head = format!("{head} {:02X}", store.page(0)[4]);
@@ -131,41 +134,27 @@ pub fn commit_page(store: &Store) -> String {
                 "page 0 ({head} ..): prepared with identity {identity}, {records} {named}; locked until its decision"
             )
         }
-        CommitPage::Damaged(why) => damaged(&head, why),
+        CommitPage::Damaged(why) => {
+            format!("page 0 ({head} ..): damaged, {why}; recover and age are refused with 4, home pages are shown")
+        }
     }
-}
-
-/// An empty commit page in words.
-pub fn empty(head: &str) -> String {
-    format!("page 0 ({head} ..): empty, no commit is under way")
-}
-
-/// One that names these records in words.
-pub fn committed(head: &str, named: &[String]) -> String {
-    let (records, pages) = match named.len() {
-        1 => ("record", "its intention page"),
-        _ => ("records", "their intention pages"),
-    };
-    let named = named.join(", ");
-    format!("page 0 ({head} ..): committed, {records} {named}; a recover will copy {pages} home")
-}
-
-/// One that is damaged in words.
-pub fn damaged(head: &str, why: &str) -> String {
-    format!("page 0 ({head} ..): damaged, {why}; recover and age are refused with 4, home pages are shown")
 }
 
 fn place(store: &Store, record: Record) -> String {
     match store.place(record) {
-        Place::Intention => format!("intention page {}", 1 + record.number()),
-        Place::Home => format!("home page {}", 17 + record.number()),
+        Place::Intention => format!("intention page {}", Store::intention(record)),
+        Place::Home => format!("home page {}", store.home(record)),
     }
+}
+
+/// Bytes in hex.
+pub fn digits(bytes: &[u8]) -> String {
+    bytes.iter().map(|byte| format!("{byte:02X}")).collect()
 }
 
 /// Bytes in hex, in groups of four.
 pub fn hex(bytes: &[u8]) -> String {
-    let groups = bytes.chunks(4).map(|group| group.iter().map(|byte| format!("{byte:02X}")).collect::<String>());
-    groups.collect::<Vec<_>>().join(" ")
+    bytes.chunks(4).map(digits).collect::<Vec<_>>().join(" ")
 }
 
 /// Bytes in hex, and beside them those that are letters or signs.

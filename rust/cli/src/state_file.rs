@@ -3,11 +3,12 @@
 //! seen from the state file's folder.
 
 use crate::failure::{Failure, Outcome};
-use crate::files::{cant_read, folder_of, length_in_words, place_of, read_up_to};
+use crate::files::{cant_read, edition_of, folder_of, length_in_words, place_of, read_up_to};
+use crate::live::Versions;
 use crate::staged::digest;
+use crate::store::Store;
 use nekahuiro::limits::{STATE_BYTES, WORK_BYTES};
-use nekahuiro::{Record, State, Store, Transaction, Work};
-use nekahuiro_history::Earlier;
+use nekahuiro::{any, Edition, Record, State, Work};
 use std::io::ErrorKind;
 use std::os::unix::ffi::OsStrExt;
 use std::path::{Path, PathBuf};
@@ -28,7 +29,7 @@ const LEAST_BYTES: usize = HEADER_BYTES + STATE_BYTES + WORK_BYTES;
 const MOST_BYTES: usize = LEAST_BYTES + 4096;
 
 /// What is kept between portions, beside the store.
-#[derive(Clone, Default)]
+#[derive(Clone, Default, PartialEq, Eq)]
 pub struct Kept {
     /// The lent state.
     pub state: State,
@@ -58,6 +59,11 @@ fn parts<'b>(name: &str, bytes: &'b [u8]) -> Outcome<Parts<'b>> {
     if headed && !bytes.starts_with(HEADING) || !headed && bytes.len() == FIRST_BYTES {
         let mend = format!("play on with the version that left it, or {}", start_down(name));
         return Err(Failure::refused(&format!("{name} is a state file of another version of nekahuiro"), &mend));
+    }
+    if !headed && edition_of(name) == Edition::SECOND {
+        let reason =
+            format!("{name} is no state file: it is as long as a store of edition 2, which has no state files");
+        return Err(Failure::refused(&reason, "name the state file that a play on a store of edition 1 left"));
     }
     if bytes.len() <= LEAST_BYTES || bytes.len() > MOST_BYTES {
         let found = length_in_words(name, bytes.len(), MOST_BYTES);
@@ -141,27 +147,15 @@ impl Kept {
         [&HEADING[..], &digest(store.bytes())[..], &digest(&content)[..], &content[..]].concat()
     }
 
-    /// The live transactions, parents before children.
-    pub fn earlier(&self) -> Vec<Earlier> {
-        let depth = |t: &Transaction| self.state.depth.get(usize::from(t.number())).copied();
-        let mut live: Vec<Transaction> = self.state.live().collect();
-        live.sort_by_key(depth);
-        let changed = |t: Transaction| Record::all().filter(move |record| self.state.writers(*record).any(|w| w == t));
-        let earlier = |t: &Transaction| Earlier {
-            number: t.number(),
-            parent: self.state.parent(*t).map(Transaction::number),
-            changed: changed(*t).map(Record::number).collect(),
-        };
-        live.iter().map(earlier).collect()
-    }
-
-    /// Whether it is up, and who is live.
-    pub fn in_words(&self) -> String {
-        let live: Vec<String> = self.state.live().map(|t| t.to_string()).collect();
-        match (self.state.is_up(), live.is_empty()) {
-            (false, _) => "down".to_string(),
-            (true, true) => "up, nothing is live".to_string(),
-            (true, false) => format!("up, live: {}", live.join(", ")),
+    /// What live transactions have written.
+    pub fn versions(&self) -> Versions {
+        let Kept { state, work } = self;
+        let depth = |number: u8| state.depth.get(usize::from(number)).copied().unwrap_or(0);
+        let mut versions = Versions::new();
+        for (record, place) in Record::all().zip(any::Record::all()) {
+            let written = state.writers(record).map(|t| ((place, t.number()), work.version(record, depth(t.number()))));
+            versions.extend(written);
         }
+        versions
     }
 }

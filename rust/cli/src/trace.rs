@@ -3,46 +3,53 @@
 use crate::follow::Follower;
 use crate::names::Names;
 use crate::number_of;
-use nekahuiro::limits::EVENT_BYTES;
-use nekahuiro::{page_writes, why_bad, Answer, Event};
+use crate::show::digits;
+use nekahuiro::any::Event;
+use nekahuiro::{page_writes, Answer, Edition};
 use nekahuiro_history::{End, History};
 use std::collections::BTreeMap;
 use std::fmt::Write;
 
 /// Tells a run, a line or two for each event, from what is known before it.
-pub fn tell(start: &Follower, words: &[u8], names: &Names, answers: &[Answer], history: &History) -> String {
-    let mut text = String::from("event  word      answer  what happened\n");
+pub fn tell(
+    edition: Edition,
+    start: &Follower,
+    words: &[u8],
+    names: &Names,
+    answers: &[Answer],
+    history: &History,
+) -> String {
+    let width = 2 * edition.event_bytes;
+    let indent = " ".repeat(19 + width);
+    let mut text = format!("event  {:width$}  answer  what happened\n", "word");
     let mut follower = start.clone();
     let mut locks = follower.locks_in_words();
     let endings = endings(history);
     if follower.up {
         let live: Vec<String> = follower.live.keys().map(u8::to_string).collect();
         let live = if live.is_empty() { "nothing".to_string() } else { live.join(", ") };
-        let _ = writeln!(text, "{:27}before: the store is up, live: {live}; {locks}", "");
+        let _ = writeln!(text, "{indent}before: the store is up, live: {live}; {locks}");
     }
-    for (at, (word, answer)) in words.chunks_exact(EVENT_BYTES).zip(answers).enumerate() {
-        let word = [word[0], word[1], word[2], word[3]];
-        let event = Event::of(word);
-        let bits = u32::from_be_bytes(word);
-        let what = what_happened(event, word, *answer);
+    for (at, (word, answer)) in words.chunks_exact(edition.event_bytes).zip(answers).enumerate() {
+        let what = what_happened(edition, word, *answer);
         let what = names.begun.get(&at).map_or(what.clone(), |name| format!("{what}, called {name}"));
         let _ = writeln!(
             text,
-            "{:5}  {bits:08X}  {:02X}{:02X}    {}: {what}",
+            "{:5}  {}  {}    {}: {what}",
             at + 1,
-            answer.number,
-            answer.value,
-            names.describe(at, word)
+            digits(word),
+            digits(&answer.bytes()),
+            names.describe(edition, at, word)
         );
-        if let Some(event) = event {
+        if let Some(event) = edition.event(word) {
             follower.event(event, *answer);
         }
         for line in endings.get(&at).map(Ending::lines).unwrap_or_default() {
-            let _ = writeln!(text, "{:27}{line}", "");
+            let _ = writeln!(text, "{indent}{line}");
         }
         let after = follower.locks_in_words();
         if after != locks {
-            let _ = writeln!(text, "{:27}{after}", "");
+            let _ = writeln!(text, "{indent}{after}");
             locks = after;
         }
     }
@@ -50,8 +57,9 @@ pub fn tell(start: &Follower, words: &[u8], names: &Names, answers: &[Answer], h
 }
 
 /// The answer in words that fit the event.
-pub fn what_happened(event: Option<Event>, word: [u8; EVENT_BYTES], answer: Answer) -> String {
-    if let Some(why) = why_bad(word).filter(|_| answer.number == 1) {
+pub fn what_happened(edition: Edition, word: &[u8], answer: Answer) -> String {
+    let event = edition.event(word);
+    if let Some(why) = edition.why_bad(word).filter(|_| answer.number == 1) {
         return format!("refused 1: {why}");
     }
     if answer.is_cut() && matches!(event, Some(Event::Decide { .. })) {

@@ -8,7 +8,7 @@ use crate::picture::{self, ring};
 use crate::state_file::{self, Kept};
 use crate::{list, say};
 use nekahuiro::limits::{EVENT_BYTES, ROWS};
-use nekahuiro::{BadWords, Event, Refusal, Ring, Row, State, Transaction};
+use nekahuiro::{BadWords, Edition, Event, Refusal, Ring, Row, State, Transaction};
 use std::fmt::Write;
 use std::path::Path;
 
@@ -26,7 +26,7 @@ TRANSACTION RECORD` to read. There are at most 24; # starts a comment.
 A transaction that waits points to each that blocks its lock, and to the ancestors of that one which aren't its
 own; every transaction points to its live children. A ring of such pointings is told, if there is one: it
 can't clear by itself, and an abort of one of its transactions breaks it. What is prepared in the store plays
-no part.
+no part. Edition 2 has no state files, so this is for edition 1.
 ",
     run,
 };
@@ -72,7 +72,7 @@ fn read_rows(path: &str) -> Outcome<Vec<Placed>> {
     for (number, whole) in (1..).zip(list::text(name, &bytes)?.lines()) {
         let line = list::without_comment(whole);
         let bad = |bad: BadWords| list::bad_line(&format!("{name}, line {number}"), line, &bad);
-        for word in list::line_words(line).map_err(bad)?.chunks_exact(EVENT_BYTES) {
+        for word in list::line_words(Edition::FIRST, line).map_err(bad)?.chunks_exact(EVENT_BYTES) {
             let event = Event::of([word[0], word[1], word[2], word[3]]);
             let row = event.as_ref().and_then(Row::of).ok_or_else(|| bad(no_lock()))?;
             rows.push((number, row));

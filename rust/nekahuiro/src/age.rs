@@ -43,7 +43,8 @@ pub enum Verdict {
 }
 
 impl Verdict {
-    pub(crate) fn of(answer: u8, age: i64) -> Result<Verdict, Refusal> {
+    /// What the library's answer says, with the age that it told.
+    pub fn of(answer: u8, age: i64) -> Result<Verdict, Refusal> {
         match answer {
             0 => Ok(Verdict::Live(Age(age))),
             1 => Ok(Verdict::Ahead(Age(age))),

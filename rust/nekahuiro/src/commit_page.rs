@@ -1,38 +1,44 @@
 //! What page 0 says, in words. Ordinary code, for showing a store; the engine reads the page itself.
 
-use crate::limits::PAGE_BYTES;
-use crate::{Identity, Record};
+use crate::limits::{PAGE_BYTES, RECORDS};
+use crate::{Edition, Identifies, Identity, RecordOf};
 
 /// The bytes of one page.
 pub type Page = [u8; PAGE_BYTES];
 
-/// What page 0 says.
+/// What page 0 says, of so many records. Where there is no identity, nothing is prepared.
 #[derive(Clone, Copy, Debug, PartialEq, Eq)]
-pub enum CommitPage {
+pub enum CommitPageOf<const RECORDS: usize, I> {
     /// Nothing is under way: every record is settled in its home page.
     Empty,
     /// A commit is under way: the named records are settled in their intention pages.
-    Committed(Map),
+    Committed(MapOf<RECORDS>),
     /// A transaction that changed the named records is prepared and waits for the decision on its identity.
     /// They are settled in their home pages, and locked for everybody.
-    Prepared(Map, Identity),
+    Prepared(MapOf<RECORDS>, I),
     /// The page is none of these; the text says why.
     Damaged(&'static str),
 }
 
-/// The records that a committed or prepared page names.
-#[derive(Clone, Copy, Debug, PartialEq, Eq)]
-pub struct Map(u16);
+/// What page 0 says.
+pub type CommitPage = CommitPageOf<RECORDS, Identity>;
 
-impl Map {
+/// The records that a committed or prepared page names: the first is the top bit.
+#[derive(Clone, Copy, Debug, PartialEq, Eq)]
+pub struct MapOf<const RECORDS: usize>(u64);
+
+/// The records that a committed or prepared page names.
+pub type Map = MapOf<RECORDS>;
+
+impl<const RECORDS: usize> MapOf<RECORDS> {
     /// Whether it names the record.
-    pub fn names(self, record: Record) -> bool {
-        self.0 & 0x8000 >> record.number() != 0
+    pub fn names(self, record: RecordOf<RECORDS>) -> bool {
+        self.0 & 1 << 63 >> record.number() != 0
     }
 
     /// The records named, rising.
-    pub fn records(self) -> impl Iterator<Item = Record> {
-        Record::all().filter(move |record| self.names(*record))
+    pub fn records(self) -> impl Iterator<Item = RecordOf<RECORDS>> {
+        RecordOf::all().filter(move |record| self.names(*record))
     }
 }
 
@@ -53,29 +59,45 @@ impl CommitPage {
     /// assert_eq!(CommitPage::of(&page), CommitPage::Prepared(map, nekahuiro::Identity(0x2A)));
     /// ```
     pub fn of(page: &Page) -> CommitPage {
+        Edition::FIRST.commit_page(page)
+    }
+}
+
+impl Edition {
+    /// Reads a commit page of this edition: edition 4 bits, state 4, a bit for each record, their number; where one can
+    /// be prepared, its identity in a byte; then zeros.
+    pub fn commit_page<const RECORDS: usize, I: Identifies>(self, page: &Page) -> CommitPageOf<RECORDS, I> {
+        use CommitPageOf::{Committed, Damaged, Empty, Prepared};
         let (edition, state) = (page[0] >> 4, page[0] & 15);
-        let map = u16::from_be_bytes([page[1], page[2]]);
-        let (count, stray) = (u32::from(page[3] >> 3), page[3] & 7);
-        if edition != 1 {
-            CommitPage::Damaged("its edition isn't 1")
-        } else if stray != 0 || page[5..].iter().any(|byte| *byte != 0) || (state != STATE_PREPARED && page[4] != 0) {
-            CommitPage::Damaged("a bit that must be 0 is 1")
+        let (map, rest) = page[1..].split_at(self.records / 8);
+        let map = map.iter().fold(0, |map, byte| map << 8 | u64::from(*byte)) << (64 - self.records);
+        let (count, stray) = (u32::from(rest[0] >> (7 - self.record_bits)), rest[0] << (self.record_bits + 1));
+        let prepared = I::of(rest[1]).filter(|_| self.two_phases && state == STATE_PREPARED);
+        let zeros = if prepared.is_some() { &rest[2..] } else { &rest[1..] };
+        if edition != self.number {
+            Damaged(if self.number == 1 { "its edition isn't 1" } else { "its edition isn't 2" })
+        } else if stray != 0 || zeros.iter().any(|byte| *byte != 0) {
+            Damaged("a bit that must be 0 is 1")
         } else if count != map.count_ones() {
-            CommitPage::Damaged("its count isn't the number of records in its map")
+            Damaged("its count isn't the number of records in its map")
         } else if state == STATE_EMPTY && map == 0 {
-            CommitPage::Empty
+            Empty
         } else if state == STATE_EMPTY {
-            CommitPage::Damaged("it says empty but names records")
+            Damaged("it says empty but names records")
         } else if state == STATE_COMMITTED && map != 0 {
-            CommitPage::Committed(Map(map))
+            Committed(MapOf(map))
         } else if state == STATE_COMMITTED {
-            CommitPage::Damaged("it says committed but names no record")
-        } else if state == STATE_PREPARED && map != 0 {
-            CommitPage::Prepared(Map(map), Identity(page[4]))
-        } else if state == STATE_PREPARED {
-            CommitPage::Damaged("it says prepared but names no record")
+            Damaged("it says committed but names no record")
+        } else if let Some(identity) = prepared {
+            if map == 0 {
+                Damaged("it says prepared but names no record")
+            } else {
+                Prepared(MapOf(map), identity)
+            }
+        } else if self.two_phases {
+            Damaged("its state is neither empty, prepared nor committed")
         } else {
-            CommitPage::Damaged("its state is neither empty, prepared nor committed")
+            Damaged("its state is neither empty nor committed")
         }
     }
 }

@@ -1,34 +1,11 @@
-//! Events and their words: six fields in 32 bits, most significant first.
+//! Events and their words: six fields, most significant first.
 
-use crate::limits::{COUNT_LIMIT, EVENT_BYTES};
-use crate::{Identity, Record, Transaction};
-
-/// A field of the event word: how far from the right it stands, and how wide it is.
-struct Field {
-    shift: u32,
-    width: u32,
-}
-
-const KIND: Field = Field { shift: 28, width: 4 };
-const TRANSACTION: Field = Field { shift: 23, width: 5 };
-const RECORD: Field = Field { shift: 19, width: 4 };
-const OFFSET: Field = Field { shift: 14, width: 5 };
-const COUNT: Field = Field { shift: 8, width: 6 };
-const VALUE: Field = Field { shift: 0, width: 8 };
-
-impl Field {
-    const fn get(&self, bits: u32) -> u8 {
-        ((bits >> self.shift) & ((1 << self.width) - 1)) as u8
-    }
-
-    const fn put(&self, number: u8) -> u32 {
-        (number as u32 & ((1 << self.width) - 1)) << self.shift
-    }
-}
+use crate::limits::{COUNT_LIMIT, EVENT_BYTES, RECORDS};
+use crate::{Edition, Identifies, Identity, RecordOf, Transaction};
 
 /// The six fields of an event word, in their order. Any word has them, also a bad one.
 ///
-/// A number too large for its field keeps its low bits only.
+/// The widths told are those of edition 1. A number too large for its field keeps its low bits only.
 #[derive(Clone, Copy, Debug, Default, PartialEq, Eq)]
 pub struct Fields {
     /// 1 begin, 2 lock, 3 write, 4 read, 5 commit, 6 abort, 7 crash, 8 recover, 9 prepare, 10 decide,
@@ -50,42 +27,19 @@ pub struct Fields {
 impl Fields {
     /// The fields of a word.
     pub const fn of(word: [u8; EVENT_BYTES]) -> Fields {
-        let bits = u32::from_be_bytes(word);
-        Fields {
-            kind: KIND.get(bits),
-            transaction: TRANSACTION.get(bits),
-            record: RECORD.get(bits),
-            offset: OFFSET.get(bits),
-            count: COUNT.get(bits),
-            value: VALUE.get(bits),
-        }
+        Edition::FIRST.split((u32::from_be_bytes(word) as u64) << 32).0
     }
 
     /// The word of the fields.
     pub const fn word(&self) -> [u8; EVENT_BYTES] {
-        let bits = KIND.put(self.kind)
-            | TRANSACTION.put(self.transaction)
-            | RECORD.put(self.record)
-            | OFFSET.put(self.offset)
-            | COUNT.put(self.count)
-            | VALUE.put(self.value);
-        bits.to_be_bytes()
+        ((Edition::FIRST.join(self) >> 32) as u32).to_be_bytes()
     }
 }
 
-/// An event that is not bad.
-///
-/// ```
-/// use nekahuiro::Event;
-/// let event: Event = "write 1 3 2 A5".parse()?;
-/// assert_eq!(event.word(), [0x30, 0x98, 0x80, 0xA5]);
-/// assert_eq!(Event::of([0x30, 0x98, 0x80, 0xA5]), Some(event));
-/// assert_eq!(Event::of([0x70, 0, 0, 1]), None); // a crash with a stray bit
-/// assert_eq!("read-lock 1 3".parse::<Event>()?.word(), [0x20, 0x98, 0, 1]); // a lock to read only
-/// # Ok::<(), nekahuiro::BadWords>(())
-/// ```
+/// An event that is not bad, over so many records. Where there is no identity, nothing can be prepared, decided or
+/// queried.
 #[derive(Clone, Copy, Debug, PartialEq, Eq)]
-pub enum Event {
+pub enum EventOf<const RECORDS: usize, I> {
     /// Begin a transaction under a parent, or at the top with [`Transaction::NONE`].
     Begin {
         /// The parent.
@@ -96,21 +50,21 @@ pub enum Event {
         /// Who asks.
         transaction: Transaction,
         /// For which record.
-        record: Record,
+        record: RecordOf<RECORDS>,
     },
     /// Ask for a record's lock in read mode: to read, beside other readers.
     ReadLock {
         /// Who asks.
         transaction: Transaction,
         /// For which record.
-        record: Record,
+        record: RecordOf<RECORDS>,
     },
     /// Write one byte.
     Write {
         /// Who writes.
         transaction: Transaction,
         /// To which record.
-        record: Record,
+        record: RecordOf<RECORDS>,
         /// Where, 0 to 31.
         offset: u8,
         /// What.
@@ -121,7 +75,7 @@ pub enum Event {
         /// Who reads.
         transaction: Transaction,
         /// Which record.
-        record: Record,
+        record: RecordOf<RECORDS>,
         /// Where, 0 to 31.
         offset: u8,
     },
@@ -129,7 +83,7 @@ pub enum Event {
     Commit {
         /// Who commits.
         transaction: Transaction,
-        /// After how many page writes the power goes, 0 to 63.
+        /// After how many page writes the power goes.
         count: u8,
     },
     /// Abort, with all live descendants.
@@ -143,73 +97,114 @@ pub enum Event {
     Crash,
     /// Recover.
     Recover {
-        /// After how many page writes the power goes, 0 to 63.
+        /// After how many page writes the power goes.
         count: u8,
     },
     /// Prepare: the top transaction ends, and its changes wait for the decision on an identity.
     Prepare {
         /// Who prepares.
         transaction: Transaction,
-        /// After how many page writes the power goes, 0 to 63.
+        /// After how many page writes the power goes.
         count: u8,
         /// Under which identity.
-        identity: Identity,
+        identity: I,
     },
     /// Carry out the decision on an identity.
     Decide {
         /// To commit, or else to abort.
         commit: bool,
-        /// After how many page writes the power goes, 0 to 63.
+        /// After how many page writes the power goes.
         count: u8,
         /// On which identity.
-        identity: Identity,
+        identity: I,
     },
     /// Ask whether a transaction is prepared with an identity.
     Query {
         /// With which identity.
-        identity: Identity,
+        identity: I,
     },
 }
 
-impl Event {
+/// An event that is not bad.
+///
+/// ```
+/// use nekahuiro::Event;
+/// let event: Event = "write 1 3 2 A5".parse()?;
+/// assert_eq!(event.word(), [0x30, 0x98, 0x80, 0xA5]);
+/// assert_eq!(Event::of([0x30, 0x98, 0x80, 0xA5]), Some(event));
+/// assert_eq!(Event::of([0x70, 0, 0, 1]), None); // a crash with a stray bit
+/// assert_eq!("read-lock 1 3".parse::<Event>()?.word(), [0x20, 0x98, 0, 1]); // a lock to read only
+/// # Ok::<(), nekahuiro::BadWords>(())
+/// ```
+pub type Event = EventOf<RECORDS, Identity>;
+
+impl<const RECORDS: usize, I: Identifies> EventOf<RECORDS, I> {
     /// The event's fields.
-    pub const fn fields(&self) -> Fields {
-        let none = Fields { kind: 0, transaction: 0, record: 0, offset: 0, count: 0, value: 0 };
+    pub fn fields(&self) -> Fields {
+        let of =
+            |kind, transaction: Transaction| Fields { kind, transaction: transaction.number(), ..Fields::default() };
         match *self {
-            Event::Begin { parent } => Fields { kind: 1, transaction: parent.number(), ..none },
-            Event::Lock { transaction, record } => {
-                Fields { kind: 2, transaction: transaction.number(), record: record.number(), ..none }
+            EventOf::Begin { parent } => of(1, parent),
+            EventOf::Lock { transaction, record } => Fields { record: record.number(), ..of(2, transaction) },
+            EventOf::ReadLock { transaction, record } => {
+                Fields { record: record.number(), value: 1, ..of(2, transaction) }
             }
-            Event::ReadLock { transaction, record } => {
-                Fields { kind: 2, transaction: transaction.number(), record: record.number(), value: 1, ..none }
+            EventOf::Write { transaction, record, offset, value } => {
+                Fields { record: record.number(), offset, value, ..of(3, transaction) }
             }
-            Event::Write { transaction, record, offset, value } => {
-                let (transaction, record) = (transaction.number(), record.number());
-                Fields { kind: 3, transaction, record, offset, value, ..none }
+            EventOf::Read { transaction, record, offset } => {
+                Fields { record: record.number(), offset, ..of(4, transaction) }
             }
-            Event::Read { transaction, record, offset } => {
-                Fields { kind: 4, transaction: transaction.number(), record: record.number(), offset, ..none }
+            EventOf::Commit { transaction, count } => Fields { count, ..of(5, transaction) },
+            EventOf::Abort { transaction, report } => Fields { value: u8::from(report), ..of(6, transaction) },
+            EventOf::Crash => Fields { kind: 7, ..Fields::default() },
+            EventOf::Recover { count } => Fields { kind: 8, count, ..Fields::default() },
+            EventOf::Prepare { transaction, count, identity } => {
+                Fields { count, value: identity.number(), ..of(9, transaction) }
             }
-            Event::Commit { transaction, count } => {
-                Fields { kind: 5, transaction: transaction.number(), count, ..none }
+            EventOf::Decide { commit, count, identity } => {
+                Fields { kind: 10, offset: u8::from(commit), count, value: identity.number(), ..Fields::default() }
             }
-            Event::Abort { transaction, report } => {
-                Fields { kind: 6, transaction: transaction.number(), value: report as u8, ..none }
-            }
-            Event::Crash => Fields { kind: 7, ..none },
-            Event::Recover { count } => Fields { kind: 8, count, ..none },
-            Event::Prepare { transaction, count, identity } => {
-                Fields { kind: 9, transaction: transaction.number(), count, value: identity.0, ..none }
-            }
-            Event::Decide { commit, count, identity } => {
-                Fields { kind: 10, offset: commit as u8, count, value: identity.0, ..none }
-            }
-            Event::Query { identity } => Fields { kind: 11, value: identity.0, ..none },
+            EventOf::Query { identity } => Fields { kind: 11, value: identity.number(), ..Fields::default() },
         }
     }
 
+    /// The event of a word's fields, or none if there is none.
+    fn of_fields(fields: Fields) -> Option<Self> {
+        let Fields { kind, transaction, record, offset, count, value } = fields;
+        let (transaction, record) = (Transaction::new(transaction)?, RecordOf::new(record)?);
+        let event = match kind {
+            1 => EventOf::Begin { parent: transaction },
+            2 if value == 1 => EventOf::ReadLock { transaction, record },
+            2 => EventOf::Lock { transaction, record },
+            3 => EventOf::Write { transaction, record, offset, value },
+            4 => EventOf::Read { transaction, record, offset },
+            5 => EventOf::Commit { transaction, count },
+            6 => EventOf::Abort { transaction, report: value == 1 },
+            7 => EventOf::Crash,
+            8 => EventOf::Recover { count },
+            9 => EventOf::Prepare { transaction, count, identity: I::of(value)? },
+            10 => EventOf::Decide { commit: offset == 1, count, identity: I::of(value)? },
+            11 => EventOf::Query { identity: I::of(value)? },
+            _ => return None,
+        };
+        // A word with a stray bit or another value isn't the word of the event that its fields tell.
+        (event.fields() == fields).then_some(event)
+    }
+}
+
+impl Edition {
+    /// The event of a word of this edition, or none if the word is bad.
+    pub fn event<const RECORDS: usize, I: Identifies>(self, word: &[u8]) -> Option<EventOf<RECORDS, I>> {
+        let event = EventOf::of_fields(self.fields(word)?)?;
+        let joint = matches!(event, EventOf::Prepare { .. } | EventOf::Decide { .. } | EventOf::Query { .. });
+        (self.two_phases || !joint).then_some(event)
+    }
+}
+
+impl Event {
     /// The event's word. An offset or count too large for its field keeps its low bits only.
-    pub const fn word(&self) -> [u8; EVENT_BYTES] {
+    pub fn word(&self) -> [u8; EVENT_BYTES] {
         self.fields().word()
     }
 
@@ -234,25 +229,7 @@ impl Event {
 
     /// The event of a word, or none if the word is bad.
     pub fn of(word: [u8; EVENT_BYTES]) -> Option<Event> {
-        let Fields { kind, transaction, record, offset, count, value } = Fields::of(word);
-        let (transaction, record) = (Transaction::new(transaction)?, Record::new(record)?);
-        let event = match kind {
-            1 => Event::Begin { parent: transaction },
-            2 if value == 1 => Event::ReadLock { transaction, record },
-            2 => Event::Lock { transaction, record },
-            3 => Event::Write { transaction, record, offset, value },
-            4 => Event::Read { transaction, record, offset },
-            5 => Event::Commit { transaction, count },
-            6 => Event::Abort { transaction, report: value == 1 },
-            7 => Event::Crash,
-            8 => Event::Recover { count },
-            9 => Event::Prepare { transaction, count, identity: Identity(value) },
-            10 => Event::Decide { commit: offset == 1, count, identity: Identity(value) },
-            11 => Event::Query { identity: Identity(value) },
-            _ => return None,
-        };
-        // A word with a stray bit or another value isn't the word of the event that its fields tell.
-        (event.word() == word).then_some(event)
+        Edition::FIRST.event(&word)
     }
 }
 

@@ -99,6 +99,7 @@ pub mod audit;
 mod commit_page;
 mod depot;
 mod device;
+mod edition;
 #[cfg(feature = "edition2")]
 pub mod edition2;
 mod event;
@@ -118,11 +119,12 @@ mod work;
 
 pub use age::{Age, Clock, Limit, Verdict};
 pub use answer::{page_writes, Answer, Refusal, CUT, DONE};
-pub use commit_page::{CommitPage, Map, Page};
+pub use commit_page::{CommitPage, CommitPageOf, Map, MapOf, Page};
 pub use depot::{vote, Depot, Message, Order, Stage};
 pub use device::{Device, Fault, Medium};
-pub use event::{encode, Event, Fields};
-pub use numbers::{Identity, Record, Transaction};
+pub use edition::Edition;
+pub use event::{encode, Event, EventOf, Fields};
+pub use numbers::{Identifies, Identity, NoIdentity, Record, RecordOf, Transaction};
 pub use page_write::PageWrite;
 pub use reason::Reason;
 pub use session::{Session, Transact};
@@ -132,6 +134,23 @@ pub use store::{Place, Store};
 pub use waiting::{Ring, Row};
 pub use words::{describe, why_bad, BadWords};
 pub use work::Work;
+
+/// Events, records and commit pages of whichever edition, for an [`Edition`] that is known only when the program runs.
+pub mod any {
+    use crate::{CommitPageOf, EventOf, Identity, MapOf, RecordOf};
+
+    /// The records of the edition that has the most.
+    const RECORDS: usize = crate::Edition::SECOND.records;
+
+    /// An event of any edition.
+    pub type Event = EventOf<RECORDS, Identity>;
+    /// A record of any edition.
+    pub type Record = RecordOf<RECORDS>;
+    /// What page 0 says, in any edition.
+    pub type CommitPage = CommitPageOf<RECORDS, Identity>;
+    /// The records that a commit page of any edition names.
+    pub type Map = MapOf<RECORDS>;
+}
 
 /// The README's examples are tested too.
 #[cfg(doctest)]

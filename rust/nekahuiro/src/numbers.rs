@@ -32,6 +32,10 @@ impl Transaction {
     }
 }
 
+/// A record number among so many.
+#[derive(Clone, Copy, Debug, PartialEq, Eq, PartialOrd, Ord, Hash)]
+pub struct RecordOf<const RECORDS: usize>(u8);
+
 /// A record number, 0 to 15.
 ///
 /// ```
@@ -39,14 +43,13 @@ impl Transaction {
 /// assert_eq!(Record::new(15).map(|r| r.number()), Some(15));
 /// assert_eq!(Record::new(16), None);
 /// ```
-#[derive(Clone, Copy, Debug, PartialEq, Eq, PartialOrd, Ord, Hash)]
-pub struct Record(u8);
+pub type Record = RecordOf<RECORDS>;
 
-impl Record {
+impl<const RECORDS: usize> RecordOf<RECORDS> {
     /// The record of this number, if there is one.
     pub const fn new(number: u8) -> Option<Self> {
         if (number as usize) < RECORDS {
-            Some(Record(number))
+            Some(RecordOf(number))
         } else {
             None
         }
@@ -58,8 +61,8 @@ impl Record {
     }
 
     /// All records, rising.
-    pub fn all() -> impl Iterator<Item = Record> {
-        (0..RECORDS as u8).map(Record)
+    pub fn all() -> impl Iterator<Item = Self> {
+        (0..RECORDS as u8).map(RecordOf)
     }
 }
 
@@ -67,6 +70,44 @@ impl Record {
 /// them carry.
 #[derive(Clone, Copy, Debug, PartialEq, Eq, PartialOrd, Ord, Hash)]
 pub struct Identity(pub u8);
+
+/// What an edition has in the place of an identity.
+pub trait Identifies: Copy + fmt::Display {
+    /// The identity of this number, if there is one.
+    fn of(number: u8) -> Option<Self>;
+    /// Its number.
+    fn number(self) -> u8;
+}
+
+impl Identifies for Identity {
+    fn of(number: u8) -> Option<Self> {
+        Some(Identity(number))
+    }
+
+    fn number(self) -> u8 {
+        self.0
+    }
+}
+
+/// The identity of an edition that has none: nothing can be prepared there.
+#[derive(Clone, Copy, Debug, PartialEq, Eq)]
+pub enum NoIdentity {}
+
+impl Identifies for NoIdentity {
+    fn of(_: u8) -> Option<Self> {
+        None
+    }
+
+    fn number(self) -> u8 {
+        match self {}
+    }
+}
+
+impl fmt::Display for NoIdentity {
+    fn fmt(&self, _: &mut fmt::Formatter) -> fmt::Result {
+        match *self {}
+    }
+}
 
 impl fmt::Display for Identity {
     fn fmt(&self, f: &mut fmt::Formatter) -> fmt::Result {
@@ -80,7 +121,7 @@ impl fmt::Display for Transaction {
     }
 }
 
-impl fmt::Display for Record {
+impl<const RECORDS: usize> fmt::Display for RecordOf<RECORDS> {
     fn fmt(&self, f: &mut fmt::Formatter) -> fmt::Result {
         self.0.fmt(f)
     }

@@ -1,8 +1,8 @@
 //! Events in words: `write 1 3 2 A5`. Values are two hex digits, all else is decimal, identities too. A count may be
-//! left out: then it is 63, with which no power cut comes.
+//! left out: then it is the largest that there is, 63 in edition 1, with which no power cut comes.
 
-use crate::limits::{COUNT_LIMIT, EVENT_BYTES, PAGE_BYTES, RECORDS, TRANSACTION_NAMES};
-use crate::{Event, Fields, Identity, Record, Transaction};
+use crate::limits::{EVENT_BYTES, PAGE_BYTES, TRANSACTION_NAMES};
+use crate::{any, Edition, Event, EventOf, Fields, Identifies, RecordOf, Transaction};
 use std::fmt;
 use std::str::{FromStr, SplitWhitespace};
 
@@ -24,10 +24,10 @@ impl fmt::Display for BadWords {
 impl std::error::Error for BadWords {}
 
 /// An event's name, and how it is written.
-pub(crate) type Form = (&'static str, &'static str);
+type Form = (&'static str, &'static str);
 
-/// How each event is written; those of the second edition come first.
-pub(crate) const FORMS: [Form; 12] = [
+/// How each event is written; those of two phases come last.
+const FORMS: [Form; 12] = [
     ("begin", "begin none | begin PARENT"),
     ("lock", "lock TRANSACTION RECORD"),
     ("read-lock", "read-lock TRANSACTION RECORD"),
@@ -41,93 +41,126 @@ pub(crate) const FORMS: [Form; 12] = [
     ("decide", "decide commit [COUNT] IDENTITY | decide abort [COUNT] IDENTITY"),
     ("query", "query IDENTITY"),
 ];
+/// How many of them are of two phases.
+const OF_TWO_PHASES: usize = 3;
 
 /// The names of the kinds of events, from 1.
 const KINDS: [&str; 11] =
     ["begin", "lock", "write", "read", "commit", "abort", "crash", "recover", "prepare", "decide", "query"];
 
-impl fmt::Display for Event {
+impl<const RECORDS: usize, I: Identifies> fmt::Display for EventOf<RECORDS, I> {
     fn fmt(&self, f: &mut fmt::Formatter) -> fmt::Result {
         match self {
-            Event::Begin { parent } if *parent == Transaction::NONE => write!(f, "begin none"),
-            Event::Begin { parent } => write!(f, "begin {parent}"),
-            Event::Lock { transaction, record } => write!(f, "lock {transaction} {record}"),
-            Event::ReadLock { transaction, record } => write!(f, "read-lock {transaction} {record}"),
-            Event::Write { transaction, record, offset, value } => {
+            EventOf::Begin { parent } if *parent == Transaction::NONE => write!(f, "begin none"),
+            EventOf::Begin { parent } => write!(f, "begin {parent}"),
+            EventOf::Lock { transaction, record } => write!(f, "lock {transaction} {record}"),
+            EventOf::ReadLock { transaction, record } => write!(f, "read-lock {transaction} {record}"),
+            EventOf::Write { transaction, record, offset, value } => {
                 write!(f, "write {transaction} {record} {offset} {value:02X}")
             }
-            Event::Read { transaction, record, offset } => write!(f, "read {transaction} {record} {offset}"),
-            Event::Commit { transaction, count } => write!(f, "commit {transaction} {count}"),
-            Event::Abort { transaction, report: false } => write!(f, "abort {transaction}"),
-            Event::Abort { transaction, report: true } => write!(f, "abort {transaction} report"),
-            Event::Crash => write!(f, "crash"),
-            Event::Recover { count } => write!(f, "recover {count}"),
-            Event::Prepare { transaction, count, identity } => write!(f, "prepare {transaction} {count} {identity}"),
-            Event::Decide { commit, count, identity } => {
+            EventOf::Read { transaction, record, offset } => write!(f, "read {transaction} {record} {offset}"),
+            EventOf::Commit { transaction, count } => write!(f, "commit {transaction} {count}"),
+            EventOf::Abort { transaction, report: false } => write!(f, "abort {transaction}"),
+            EventOf::Abort { transaction, report: true } => write!(f, "abort {transaction} report"),
+            EventOf::Crash => write!(f, "crash"),
+            EventOf::Recover { count } => write!(f, "recover {count}"),
+            EventOf::Prepare { transaction, count, identity } => write!(f, "prepare {transaction} {count} {identity}"),
+            EventOf::Decide { commit, count, identity } => {
                 write!(f, "decide {} {count} {identity}", if *commit { "commit" } else { "abort" })
             }
-            Event::Query { identity } => write!(f, "query {identity}"),
+            EventOf::Query { identity } => write!(f, "query {identity}"),
         }
     }
 }
 
 /// A word in words: the event, or the word itself in hex if it is bad.
 pub fn describe(word: [u8; EVENT_BYTES]) -> String {
-    match Event::of(word) {
-        Some(event) => event.to_string(),
-        None => format!("{:08X}", u32::from_be_bytes(word)),
-    }
+    Edition::FIRST.describe(&word)
 }
 
 /// Why a word is bad, or none if it isn't.
 pub fn why_bad(word: [u8; EVENT_BYTES]) -> Option<String> {
-    if Event::of(word).is_some() {
-        return None;
-    }
-    let Fields { kind, offset, value, .. } = Fields::of(word);
-    Some(match KINDS.get(usize::from(kind).wrapping_sub(1)) {
-        Some(&"lock") if value > 1 => format!("lock in mode {value}: there are 0 to write and 1 to read"),
-        Some(&"abort") if value > 1 => format!("abort with value {value}: there are 0, and 1 with a report"),
-        Some(&"decide") if offset > 1 => format!("decide with offset {offset}: there are 1 to commit and 0 to abort"),
-        Some(name) => format!("{name} with a field that it doesn't use and that isn't 0"),
-        None => format!("there is no kind {kind}"),
-    })
+    Edition::FIRST.why_bad(&word)
 }
 
-impl FromStr for Event {
-    type Err = BadWords;
+impl Edition {
+    /// A word of this edition in words: the event, or the word itself in hex if it is bad.
+    pub fn describe(self, word: &[u8]) -> String {
+        match self.event(word) {
+            Some::<any::Event>(event) => event.to_string(),
+            None => word.iter().map(|byte| format!("{byte:02X}")).collect(),
+        }
+    }
 
-    fn from_str(line: &str) -> Result<Event, BadWords> {
-        let (name, mut words) = Words::of(line, &FORMS, COUNT_LIMIT)?;
+    /// Why a word of this edition is bad, or none if it isn't.
+    pub fn why_bad(self, word: &[u8]) -> Option<String> {
+        if self.event::<64, crate::Identity>(word).is_some() {
+            return None;
+        }
+        if word.len() != self.event_bytes {
+            return Some(format!("a word has {} bytes", self.event_bytes));
+        }
+        let kinds = &KINDS[..if self.two_phases { KINDS.len() } else { KINDS.len() - OF_TWO_PHASES }];
+        let kind = word[0] >> 4;
+        let Some(name) = kinds.get(usize::from(kind).wrapping_sub(1)) else {
+            return Some(format!("there is no kind {kind}"));
+        };
+        let Some(Fields { offset, value, .. }) = self.fields(word) else {
+            return Some(format!("{name} with a bit behind its fields that isn't 0"));
+        };
+        Some(match *name {
+            "lock" if value > 1 => format!("lock in mode {value}: there are 0 to write and 1 to read"),
+            "abort" if value > 1 => format!("abort with value {value}: there are 0, and 1 with a report"),
+            "decide" if offset > 1 => format!("decide with offset {offset}: there are 1 to commit and 0 to abort"),
+            name => format!("{name} with a field that it doesn't use and that isn't 0"),
+        })
+    }
+
+    /// An event of this edition in words.
+    pub fn parse<const RECORDS: usize, I: Identifies>(self, line: &str) -> Result<EventOf<RECORDS, I>, BadWords> {
+        let (name, mut words) = Words::of(line, self)?;
         let event = match name {
-            "begin" => Event::Begin { parent: words.parent()? },
-            "lock" => Event::Lock { transaction: words.transaction()?, record: words.record()? },
-            "read-lock" => Event::ReadLock { transaction: words.transaction()?, record: words.record()? },
-            "write" => Event::Write {
+            "begin" => EventOf::Begin { parent: words.parent()? },
+            "lock" => EventOf::Lock { transaction: words.transaction()?, record: words.record()? },
+            "read-lock" => EventOf::ReadLock { transaction: words.transaction()?, record: words.record()? },
+            "write" => EventOf::Write {
                 transaction: words.transaction()?,
                 record: words.record()?,
                 offset: words.offset()?,
                 value: words.value()?,
             },
             "read" => {
-                Event::Read { transaction: words.transaction()?, record: words.record()?, offset: words.offset()? }
+                EventOf::Read { transaction: words.transaction()?, record: words.record()?, offset: words.offset()? }
             }
-            "commit" => Event::Commit { transaction: words.transaction()?, count: words.count(0)? },
-            "abort" => Event::Abort { transaction: words.transaction()?, report: words.report() },
-            "crash" => Event::Crash,
-            "prepare" => Event::Prepare {
+            "commit" => EventOf::Commit { transaction: words.transaction()?, count: words.count(0)? },
+            "abort" => EventOf::Abort { transaction: words.transaction()?, report: words.report() },
+            "crash" => EventOf::Crash,
+            "prepare" => EventOf::Prepare {
                 transaction: words.transaction()?,
                 count: words.count(1)?,
                 identity: words.identity()?,
             },
             "decide" => {
-                Event::Decide { commit: words.decision()?, count: words.count(1)?, identity: words.identity()? }
+                EventOf::Decide { commit: words.decision()?, count: words.count(1)?, identity: words.identity()? }
             }
-            "query" => Event::Query { identity: words.identity()? },
-            _ => Event::Recover { count: words.count(0)? },
+            "query" => EventOf::Query { identity: words.identity()? },
+            _ => EventOf::Recover { count: words.count(0)? },
         };
         words.end()?;
         Ok(event)
+    }
+
+    /// How its events are written.
+    fn forms(self) -> &'static [Form] {
+        &FORMS[..if self.two_phases { FORMS.len() } else { FORMS.len() - OF_TWO_PHASES }]
+    }
+}
+
+impl FromStr for Event {
+    type Err = BadWords;
+
+    fn from_str(line: &str) -> Result<Event, BadWords> {
+        Edition::FIRST.parse(line)
     }
 }
 
@@ -141,20 +174,20 @@ fn unknown(name: &str, forms: &[Form]) -> BadWords {
 }
 
 /// The words after the event's name.
-pub(crate) struct Words<'l> {
+struct Words<'l> {
     rest: SplitWhitespace<'l>,
     form: &'static str,
-    count_limit: u8,
+    edition: Edition,
 }
 
 impl<'l> Words<'l> {
-    /// The name of a line's event, which is one of these, and the words after it.
-    pub(crate) fn of(line: &'l str, forms: &[Form], count_limit: u8) -> Result<(&'static str, Words<'l>), BadWords> {
+    /// The name of a line's event, which is one of this edition, and the words after it.
+    fn of(line: &'l str, edition: Edition) -> Result<(&'static str, Words<'l>), BadWords> {
         let mut rest = line.split_whitespace();
         let name = rest.next().unwrap_or_default();
-        match forms.iter().find(|(known, _)| known.eq_ignore_ascii_case(name)) {
-            Some((name, form)) => Ok((name, Words { rest, form, count_limit })),
-            None => Err(unknown(name, forms)),
+        match edition.forms().iter().find(|(known, _)| known.eq_ignore_ascii_case(name)) {
+            Some((name, form)) => Ok((name, Words { rest, form, edition })),
+            None => Err(unknown(name, edition.forms())),
         }
     }
 
@@ -179,7 +212,7 @@ impl<'l> Words<'l> {
         }
     }
 
-    pub(crate) fn named<N>(&mut self, what: &str, limit: usize, number: fn(u8) -> Option<N>) -> Result<N, BadWords> {
+    fn named<N>(&mut self, what: &str, limit: usize, number: fn(u8) -> Option<N>) -> Result<N, BadWords> {
         let plain = self.below(what, limit, 10)?;
         match number(plain) {
             Some(number) => Ok(number),
@@ -187,11 +220,11 @@ impl<'l> Words<'l> {
         }
     }
 
-    pub(crate) fn transaction(&mut self) -> Result<Transaction, BadWords> {
+    fn transaction(&mut self) -> Result<Transaction, BadWords> {
         self.named("transaction", TRANSACTION_NAMES, Transaction::new)
     }
 
-    pub(crate) fn parent(&mut self) -> Result<Transaction, BadWords> {
+    fn parent(&mut self) -> Result<Transaction, BadWords> {
         match self.rest.clone().next() {
             Some(word) if word.eq_ignore_ascii_case("none") => {
                 self.rest.next();
@@ -202,7 +235,7 @@ impl<'l> Words<'l> {
     }
 
     /// Whether the word `report` comes.
-    pub(crate) fn report(&mut self) -> bool {
+    fn report(&mut self) -> bool {
         let said = self.rest.clone().next().is_some_and(|word| word.eq_ignore_ascii_case("report"));
         if said {
             self.rest.next();
@@ -220,31 +253,31 @@ impl<'l> Words<'l> {
         }
     }
 
-    fn identity(&mut self) -> Result<Identity, BadWords> {
-        self.below("identity", 256, 10).map(Identity)
+    fn identity<I: Identifies>(&mut self) -> Result<I, BadWords> {
+        self.named("identity", 256, I::of)
     }
 
-    fn record(&mut self) -> Result<Record, BadWords> {
-        self.named("record", RECORDS, Record::new)
+    fn record<const RECORDS: usize>(&mut self) -> Result<RecordOf<RECORDS>, BadWords> {
+        self.named("record", self.edition.records, RecordOf::new)
     }
 
-    pub(crate) fn offset(&mut self) -> Result<u8, BadWords> {
+    fn offset(&mut self) -> Result<u8, BadWords> {
         self.below("offset", PAGE_BYTES, 10)
     }
 
-    pub(crate) fn value(&mut self) -> Result<u8, BadWords> {
+    fn value(&mut self) -> Result<u8, BadWords> {
         self.below("value", 256, 16)
     }
 
     /// The count, unless only the `after` words are left that come after it.
-    pub(crate) fn count(&mut self, after: usize) -> Result<u8, BadWords> {
+    fn count(&mut self, after: usize) -> Result<u8, BadWords> {
         if self.rest.clone().count() <= after {
-            return Ok(self.count_limit);
+            return Ok(self.edition.count_limit());
         }
-        self.below("count", usize::from(self.count_limit) + 1, 10)
+        self.below("count", usize::from(self.edition.count_limit()) + 1, 10)
     }
 
-    pub(crate) fn end(&mut self) -> Result<(), BadWords> {
+    fn end(&mut self) -> Result<(), BadWords> {
         match self.rest.next() {
             None => Ok(()),
             Some(word) => self.bad(format!("`{word}` is one word too many")),

@@ -8,13 +8,14 @@ mod timeline;
 
 use crate::failure::{Failure, Outcome};
 use crate::follow::Follower;
+use crate::live::Live;
 use crate::names::Names;
 use crate::picture::{self, Told};
-use crate::state_file::Kept;
+use crate::store::Store;
 use crate::{number_of, sentence, trace};
 use json::{hex, list, object, text, Texts};
-use nekahuiro::limits::{EVENTS, EVENT_BYTES};
-use nekahuiro::{Answer, Store};
+use nekahuiro::limits::EVENTS;
+use nekahuiro::{Answer, Edition};
 use nekahuiro_history::History;
 use std::path::Path;
 
@@ -32,7 +33,7 @@ pub struct Run<'r> {
     /// What it is called.
     pub title: String,
     /// Store and state before it.
-    pub before: (&'r Store, &'r Kept),
+    pub before: (&'r Store, &'r Live),
     /// The same in words.
     pub start: &'r Follower,
     /// The list.
@@ -59,8 +60,8 @@ pub fn check_name(name: &str) -> Outcome {
 }
 
 /// Whether a list isn't too long for a page.
-pub fn check_length(name: &str, words: &[u8]) -> Outcome {
-    let events = words.len() / EVENT_BYTES;
+pub fn check_length(edition: Edition, name: &str, words: &[u8]) -> Outcome {
+    let events = words.len() / edition.event_bytes;
     if events > LONGEST {
         let reason = format!("{name}: {events} events, but a page shows at most {LONGEST}");
         let mend = "play it in parts, one after the other with --state, each with a page of its own";
@@ -71,7 +72,8 @@ pub fn check_length(name: &str, words: &[u8]) -> Outcome {
 
 /// The page of a run.
 pub fn draw(run: &Run) -> Outcome<String> {
-    let told = Told::of(run.start, run.words, run.answers, run.history);
+    let edition = run.after.edition;
+    let told = Told::of(edition, run.start, run.words, run.answers, run.history);
     let mut texts = Texts::default();
     let (start, steps) = steps::of(run.before, run.words, (run.after, run.answers), &mut texts)?;
     let events = events(run, &told, steps, &mut texts);
@@ -91,6 +93,8 @@ pub fn draw(run: &Run) -> Outcome<String> {
         .replace("{{title}}", &escaped(&run.title))
         .replace("{{style}}", &format!("{}{STYLE}", picture::STYLE))
         .replace("{{script}}", &SCRIPT.concat())
+        .replace("{{pages}}", &edition.pages().to_string())
+        .replace("{{records}}", &edition.records.to_string())
         .replace("{{data}}", &data))
 }
 
@@ -102,12 +106,12 @@ fn events(run: &Run, told: &Told, steps: Vec<String>, texts: &mut Texts) -> Stri
     for (at, changes) in steps.into_iter().enumerate() {
         let (word, answer) = (told.words[at], run.answers[at]);
         let lines = endings.get(&at).map(trace::Ending::lines).unwrap_or_default();
-        let what = [vec![trace::what_happened(told.events[at], word, answer)], lines].concat().join("\n");
+        let what = [vec![trace::what_happened(told.edition, word, answer)], lines].concat().join("\n");
         let owner = told.history.owner[at].map_or(-1, |owner| owner as i64);
         events.push(list([
-            hex(&word),
-            texts.place(run.names.describe(at, word)).to_string(),
-            texts.place(sentence::of(word)).to_string(),
+            hex(word),
+            texts.place(run.names.describe(told.edition, at, word)).to_string(),
+            texts.place(sentence::of(told.edition, word)).to_string(),
             hex(&answer.bytes()),
             texts.place(what).to_string(),
             owner.to_string(),

@@ -6,7 +6,7 @@ const events = data.events.map(([word, words, sentence, answer, what, owner, [ki
   word, words: texts[words], sentence: texts[sentence], answer, what: texts[what], owner, mark, changes,
   crash: (kinds & 1) > 0, recover: (kinds & 2) > 0, refused: (kinds & 4) > 0,
 }));
-const count = events.length, PAGE = 32, PAGES = 33, RECORDS = 16;
+const count = events.length, PAGE = 32, PAGES = {{pages}}, RECORDS = {{records}};
 const element = id => document.getElementById(id);
 const signs = { '&': '&amp;', '<': '&lt;', '>': '&gt;', '"': '&quot;' };
 const escaped = text => String(text).replace(/[&<>"]/g, sign => signs[sign]);

@@ -3,12 +3,11 @@
 
 use super::json::{hex, list, object, text, Texts};
 use crate::failure::{Failure, Outcome};
-use crate::follow::{Bearers, Follower, Lock, Mode};
+use crate::follow::{Bearers, Lock, Mode};
+use crate::live::{Live, Versions};
 use crate::show;
-use crate::state_file::Kept;
-use nekahuiro::limits::{EVENT_BYTES, RECORDS, STORE_BYTES};
-use nekahuiro::{Answer, Page, Record, Store};
-use std::collections::BTreeMap;
+use crate::store::{library, Store};
+use nekahuiro::{Answer, Edition};
 
 /// All that is shown of a moment between two events.
 #[derive(Clone, PartialEq)]
@@ -20,23 +19,22 @@ struct Moment {
     /// Of each record who holds its lock, who retains it, and whether it waits for a decision.
     locks: Vec<[String; 3]>,
     /// By record and transaction.
-    versions: BTreeMap<(u8, u8), Page>,
+    versions: Versions,
     /// Live transactions: number, parent and depth; parents before children.
-    live: Vec<(u8, Option<u8>, u8)>,
+    live: Vec<(u8, Option<u8>, usize)>,
 }
 
 impl Moment {
     /// Before anything is known.
-    fn blank() -> Moment {
-        let (store, locks) = (vec![0; STORE_BYTES], vec![<[String; 3]>::default(); RECORDS]);
-        let (versions, live) = (BTreeMap::new(), Vec::new());
+    fn blank(edition: Edition) -> Moment {
+        let (store, locks) = (vec![0; edition.store_bytes()], vec![<[String; 3]>::default(); edition.records]);
+        let (versions, live) = (Versions::new(), Vec::new());
         Moment { up: false, store, page_0: String::new(), locks, versions, live }
     }
 
     /// What store, state and working buffer say.
-    fn of(store: &Store, Kept { state, work }: &Kept) -> Moment {
-        let depth = |number: u8| state.depth.get(usize::from(number)).copied().unwrap_or(0);
-        let follower = Follower::of(state, store.commit_page());
+    fn of(store: &Store, now: &Live) -> Moment {
+        let follower = now.follower(store.commit_page());
         let waits = |record: usize| match &follower.prepared {
             Some((identity, records)) if records.contains(&(record as u8)) => {
                 format!("until the decision on identity {identity}")
@@ -44,21 +42,14 @@ impl Moment {
             _ => String::new(),
         };
         let lock = |(record, lock): (usize, &Lock)| [who(&lock.holders), who(&lock.retainers), waits(record)];
-        let mut versions = BTreeMap::new();
-        for record in Record::all() {
-            for writer in state.writers(record) {
-                let page = work.version(record, depth(writer.number()));
-                versions.insert((record.number(), writer.number()), page);
-            }
-        }
-        let mut live: Vec<_> = follower.live.iter().map(|(t, parent)| (*t, *parent, depth(*t))).collect();
+        let mut live: Vec<_> = follower.live.iter().map(|(t, parent)| (*t, *parent, follower.depth(*t))).collect();
         live.sort_by_key(|(number, _, depth)| (*depth, *number));
         Moment {
             up: follower.up,
             store: store.bytes().to_vec(),
             page_0: show::commit_page(store),
             locks: follower.locks.iter().enumerate().map(lock).collect(),
-            versions,
+            versions: now.versions(),
             live,
         }
     }
@@ -72,7 +63,7 @@ impl Moment {
             }
         };
         note("store", runs(&self.store, &after.store));
-        let locks = (0..RECORDS).filter(|record| self.locks[*record] != after.locks[*record]);
+        let locks = (0..self.locks.len()).filter(|record| self.locks[*record] != after.locks[*record]);
         let [held, retained, waits] = [0, 1, 2].map(|part| move |record: usize| text(&after.locks[record][part]));
         note("locks", locks.map(|r| list([r.to_string(), held(r), retained(r), waits(r)])).collect());
         let gone = self.versions.keys().filter(|key| !after.versions.contains_key(key));
@@ -83,7 +74,7 @@ impl Moment {
         if self.live != after.live {
             let none = -1;
             let live = after.live.iter().map(|(number, parent, depth)| {
-                list([i32::from(*number), parent.map_or(none, i32::from), i32::from(*depth)])
+                list([i32::from(*number), parent.map_or(none, i32::from), *depth as i32])
             });
             changes.push(("live", list(live)));
         }
@@ -128,29 +119,31 @@ fn runs(before: &[u8], after: &[u8]) -> Vec<String> {
 /// What is there before the first event, and what each event changes, in JSON. Store and answers in the end must be
 /// those of the play.
 pub fn of(
-    (store, kept): (&Store, &Kept),
+    (store, live): (&Store, &Live),
     words: &[u8],
     due: (&Store, &[Answer]),
     texts: &mut Texts,
 ) -> Outcome<(String, Vec<String>)> {
-    let (mut store, mut kept) = (store.clone(), kept.clone());
-    let mut moment = Moment::of(&store, &kept);
-    let start = Moment::blank().changes(&moment, texts);
+    let (mut store, mut live) = (store.clone(), live.clone());
+    let edition = store.edition;
+    let mut moment = Moment::of(&store, &live);
+    let start = Moment::blank(edition).changes(&moment, texts);
     let (mut steps, mut answers) = (Vec::new(), Vec::new());
-    for word in words.chunks_exact(EVENT_BYTES) {
-        let answered = store.portion_words(&mut kept.state, &mut kept.work, word);
-        answers.extend(answered.map_err(|refusal| wrong(&refusal.to_string()))?);
-        let after = Moment::of(&store, &kept);
+    for word in words.chunks_exact(edition.event_bytes) {
+        let answered = live.portion(&mut store, word);
+        answers.extend(answered.map_err(|refused| wrong(edition, &refused.to_string()))?);
+        let after = Moment::of(&store, &live);
         steps.push(moment.changes(&after, texts));
         moment = after;
     }
     match (&store, &answers[..]) == due {
         true => Ok((start, steps)),
-        false => Err(wrong("store or answers aren't those of the whole list")),
+        false => Err(wrong(edition, "store or answers aren't those of the whole list")),
     }
 }
 
-fn wrong(what: &str) -> Failure {
+fn wrong(edition: Edition, what: &str) -> Failure {
     let reason = format!("played one event at a time, the list comes out otherwise: {what}");
-    Failure::new(&reason, "the linked library isn't the proved one; make it again with `rt staticlib nekahuiro`")
+    let again = format!("make it again with `rt staticlib {}`", library(edition));
+    Failure::new(&reason, &format!("the linked library isn't the proved one; {again}"))
 }

@@ -16,7 +16,7 @@ function pageName(page) {
 function standing(store, page) {
   if (page === 0) return '';
   const record = (page - 1) % RECORDS, state = store[0] & 15;
-  const named = ((store[1] << 8 | store[2]) & (0x8000 >> record)) > 0;
+  const named = (store[1 + (record >> 3)] & (0x80 >> (record & 7))) > 0;
   const settledIn = state === 5 && named ? 1 + record : 1 + RECORDS + record;
   if (page === settledIn) return '<b class="settled">&#9679;</b>';
   return state === 3 && named ? '<b class="waits">&#9679;</b>' : '';

@@ -4,7 +4,7 @@ use super::json::{list, object, text, Texts};
 use crate::follow::bearers_in_words;
 use crate::names::Names;
 use crate::picture::{bar_class, bar_tip, Layout, Mark, Rows, Stretch, Told, GAP, ROW};
-use nekahuiro::Event;
+use nekahuiro::any::Event;
 
 /// How an event is drawn: letters and classes, or 0 if it isn't; and what it is on the axis: a crash, a recover, a
 /// refusal, a decision.

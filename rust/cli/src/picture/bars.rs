@@ -3,7 +3,7 @@
 use super::layout::{Bar, Layout, Scale, ROW};
 use super::svg::Svg;
 use super::Told;
-use nekahuiro::Event;
+use nekahuiro::any::Event;
 use nekahuiro_history::End;
 
 /// Draws all bars, parents first.

@@ -4,11 +4,11 @@ use super::layout::Scale;
 use super::svg::Svg;
 use super::Told;
 use crate::follow::{bearers_in_words, Bearers, Mode};
-use nekahuiro::limits::RECORDS;
 
 const ROW: f64 = 30.0;
 
 /// A stretch of events during which the same transactions have to do with a lock.
+#[derive(Clone)]
 pub struct Stretch {
     /// The first event.
     pub first: usize,
@@ -19,7 +19,7 @@ pub struct Stretch {
 }
 
 /// The lock of one record through a run.
-#[derive(Default)]
+#[derive(Clone, Default)]
 pub struct Row {
     /// Who holds it.
     pub held: Vec<Stretch>,
@@ -55,7 +55,7 @@ impl Rows {
     /// Follows the locks through a run.
     pub fn of(told: &Told) -> Rows {
         let mut follower = told.start.clone();
-        let mut rows: [Row; RECORDS] = Default::default();
+        let mut rows = vec![Row::default(); told.edition.records];
         for (at, (event, answer)) in told.events.iter().zip(told.answers).enumerate() {
             // A crash comes at the right end of its column: until there all is as it was.
             let before = follower.clone();

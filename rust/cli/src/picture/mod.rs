@@ -10,8 +10,8 @@ use crate::failure::{Failure, Outcome};
 use crate::follow::Follower;
 use crate::{number_of, trace};
 use layout::Scale;
-use nekahuiro::limits::EVENT_BYTES;
-use nekahuiro::{describe, Answer, Event, Reason};
+use nekahuiro::any::Event;
+use nekahuiro::{Answer, Edition, Reason};
 use nekahuiro_history::History;
 use std::collections::BTreeMap;
 use std::path::Path;
@@ -24,8 +24,10 @@ pub use svg::STYLE;
 
 /// What each part of the picture is drawn from.
 pub struct Told<'t> {
+    /// The edition of the store.
+    pub edition: Edition,
     /// Each event word.
-    pub words: Vec<[u8; EVENT_BYTES]>,
+    pub words: Vec<&'t [u8]>,
     /// Each event, none where its word is bad.
     pub events: Vec<Option<Event>>,
     /// The engine's answers.
@@ -38,21 +40,23 @@ pub struct Told<'t> {
 
 impl<'t> Told<'t> {
     /// What the events and answers tell.
-    pub fn of(start: &'t Follower, words: &[u8], answers: &'t [Answer], history: &'t History) -> Told<'t> {
-        let words: Vec<[u8; EVENT_BYTES]> = words.chunks_exact(EVENT_BYTES).map(|w| [w[0], w[1], w[2], w[3]]).collect();
-        let events = words.iter().map(|word| Event::of(*word)).collect();
-        Told { words, events, answers, history, start }
+    pub fn of(
+        edition: Edition,
+        start: &'t Follower,
+        words: &'t [u8],
+        answers: &'t [Answer],
+        history: &'t History,
+    ) -> Told<'t> {
+        let words: Vec<&[u8]> = words.chunks_exact(edition.event_bytes).collect();
+        let events = words.iter().map(|word| edition.event(word)).collect();
+        Told { edition, words, events, answers, history, start }
     }
 
     /// An event and its answer in words.
     pub fn tip(&self, at: usize) -> String {
-        let word = self.words[at];
-        format!(
-            "event {}, {}: {}",
-            at + 1,
-            describe(word),
-            trace::what_happened(self.events[at], word, self.answers[at])
-        )
+        let (edition, word) = (self.edition, self.words[at]);
+        let happened = trace::what_happened(edition, word, self.answers[at]);
+        format!("event {}, {}: {happened}", at + 1, edition.describe(word))
     }
 
     /// Whether the store goes down at an event.
@@ -95,8 +99,8 @@ pub fn check_name(name: &str) -> Outcome {
 }
 
 /// Draws a run.
-pub fn draw(start: &Follower, words: &[u8], answers: &[Answer], history: &History) -> String {
-    let told = Told::of(start, words, answers, history);
+pub fn draw(edition: Edition, start: &Follower, words: &[u8], answers: &[Answer], history: &History) -> String {
+    let told = Told::of(edition, start, words, answers, history);
     let scale = Scale::of(answers.len());
     let bars = Layout::of(history, answers.len());
     let locks = locks::Rows::of(&told);

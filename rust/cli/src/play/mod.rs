@@ -1,6 +1,5 @@
 //! `play STORE EVENTS`: plays a list on a store file.
 
-mod edition2;
 mod expected;
 mod options;
 mod outputs;
@@ -9,16 +8,17 @@ mod report;
 use crate::alone::Alone;
 use crate::command::{Command, WAIT};
 use crate::failure::{Failure, Outcome, Status};
-use crate::files::name_of;
+use crate::files::{edition_of, name_of};
 use crate::follow::Follower;
 use crate::list::List;
+use crate::live::Live;
 use crate::names::Names;
-use crate::pair::Pair;
-use crate::state_file::{self, Kept};
-use crate::{list, names, number_of, page, say, sheet, trace};
-use nekahuiro::limits::{EVENTS, EVENT_BYTES};
-use nekahuiro::{describe, Answer, Event, Refusal, Store};
-use nekahuiro_history::{tell_from, Earlier, History};
+use crate::pair::{need_edition, Pair};
+use crate::store::{library, Refused, Store};
+use crate::{list, names, number_of, page, say, sheet, state_file, trace};
+use nekahuiro::limits::EVENTS;
+use nekahuiro::{Answer, Edition};
+use nekahuiro_history::{Earlier, Form, History};
 use options::Options;
 use outputs::Outputs;
 
@@ -63,8 +63,8 @@ written to `.FILE.nekahuiro`, and where the state file doesn't fit the store and
 taken and put in its place. To give up what is live, play a crash and a recover.
 
 A store of edition 2, which `fresh --edition 2` makes, is known by its length. Its records are 0 to 63, its
-counts go up to 255, its event words have 8 bytes or 16 hex digits; there are no names, no prepare, decide and
-query, and no --trace, --picture, --page, --portions, --state and --sheet.
+counts go up to 255, its event words have 8 bytes or 16 hex digits; there are no prepare, decide and query, and no
+--portions, --state and --sheet.
 ",
     run,
 };
@@ -76,7 +76,7 @@ struct Played {
     /// The state before, in words.
     start: Follower,
     /// What is left for the next portion.
-    left: Kept,
+    left: Live,
     words: Vec<u8>,
     names: Names,
     answers: Vec<Answer>,
@@ -86,10 +86,11 @@ struct Played {
 impl Played {
     /// The refused events: where, and what was refused why.
     fn refusals(&self) -> impl Iterator<Item = (usize, String)> + '_ {
-        let answered = self.words.chunks_exact(EVENT_BYTES).zip(&self.answers).enumerate();
-        answered.filter(|(_, (_, answer))| !answer.is_accepted()).map(|(at, (word, answer))| {
-            let word = [word[0], word[1], word[2], word[3]];
-            (at, format!("{}: {}", self.names.describe(at, word), trace::what_happened(Event::of(word), word, *answer)))
+        let edition = self.store.edition;
+        let answered = self.words.chunks_exact(edition.event_bytes).zip(&self.answers).enumerate();
+        answered.filter(|(_, (_, answer))| !answer.is_accepted()).map(move |(at, (word, answer))| {
+            let what = trace::what_happened(edition, word, *answer);
+            (at, format!("{}: {what}", self.names.describe(edition, at, word)))
         })
     }
 }
@@ -98,27 +99,27 @@ impl Played {
 pub fn run(words: &[String]) -> Outcome {
     let options = Options::of(words)?;
     options.check_files()?;
-    if crate::edition2::is_store(options.store) {
-        return edition2::run(&options);
-    }
+    options.check_edition()?;
+    let edition = edition_of(options.store);
     // The list may come slowly, and the files are read when they are needed.
     let list = match options.sheet {
-        true => List { words: sheet::read(options.events)?, ..List::default() },
-        false => list::read_named(options.events, options.raw)?,
+        true => List::plain(edition, sheet::read(options.events)?),
+        false => list::read_named(edition, options.events, options.raw)?,
     };
     if options.portions.is_none() {
-        list::check_length(options.events, &list.words)?;
+        list::check_length(edition, options.events, &list.words)?;
     }
     if options.page.is_some() {
-        page::check_length(name_of(options.events), &list.words)?;
+        page::check_length(edition, name_of(options.events), &list.words)?;
     }
     let expected = options.expect.map(expected::read).transpose()?;
     let mut outputs = Outputs::open(&options)?;
     let files: Vec<&str> = std::iter::once(options.store).chain(options.state).chain(outputs.files()).collect();
     let alone = Alone::with(&files, options.wait)?;
-    let (pair, kept) = Pair::read(options.store, options.state, options.dry)?;
-    let before = kept.clone();
-    let played = play(&options, pair.store.clone(), kept, list)?;
+    let (pair, live) = Pair::read(options.store, options.state, options.dry)?;
+    need_edition(options.store, &pair.store, edition)?;
+    let before = live.clone();
+    let played = play(&options, pair.store.clone(), live, list)?;
     // All new content is on the disk before any file is replaced.
     outputs.stage(&options, &played, (&pair.store, &before))?;
     if !options.dry {
@@ -132,41 +133,31 @@ pub fn run(words: &[String]) -> Outcome {
         true => failure,
         false => failure.after(&format!("the list was played on {}, so don't play it again", options.store)),
     })?;
-    let event =
-        |at: usize| played.words[at * EVENT_BYTES..].first_chunk().map(|word| describe(*word)).unwrap_or_default();
-    let first = played.refusals().next();
-    verdict(&options, &played.answers, first, expected.as_deref(), &event)
+    verdict(&options, &played, expected.as_deref())
 }
 
-/// What is said if something fails after the point of no return.
-const PLAYED: &str = "the list was played, so don't play it again";
-
-/// What --expect and --strict ask for; `first` is the first refusal in words, and `event` tells an event.
-fn verdict(
-    options: &Options,
-    answers: &[Answer],
-    first: Option<(usize, String)>,
-    expected: Option<&[Answer]>,
-    event: &dyn Fn(usize) -> String,
-) -> Outcome {
+/// What --expect and --strict ask for.
+fn verdict(options: &Options, played: &Played, expected: Option<&[Answer]>) -> Outcome {
+    let (edition, answers) = (played.store.edition, &played.answers);
     let kept = if options.dry { "nothing was changed" } else { "the list was played all the same" };
     if let (Some(name), Some(expected)) = (options.expect, expected) {
-        expected::compare(name, expected, answers, event).map_err(|failure| failure.and(kept))?;
+        let event = |at| edition.describe(&played.words[at * edition.event_bytes..][..edition.event_bytes]);
+        expected::compare(name, expected, answers, &event).map_err(|failure| failure.and(kept))?;
     }
     let refused = answers.iter().filter(|answer| !answer.is_accepted()).count();
     if options.strict && refused > 0 {
         let verb = if refused == 1 { "was" } else { "were" };
-        let first = first.map(|(at, what)| format!("event {}, {what}", at + 1)).unwrap_or_default();
+        let first = played.refusals().next().map(|(at, what)| format!("event {}, {what}", at + 1)).unwrap_or_default();
         let reason = format!("{} {verb} refused; the first is {first}", number_of(refused, "event"));
         return Err(Failure::with(Status::EventRefused, &reason, "--trace tells of each why").and(kept));
     }
     Ok(())
 }
 
-fn play(options: &Options, mut store: Store, mut left: Kept, list: List) -> Outcome<Played> {
-    let List { words, names } = list;
-    let mut words = if options.sheet { sheet::led_in(&left.state, words)? } else { words };
-    let (start, earlier) = (Follower::of(&left.state, store.commit_page()), left.earlier());
+fn play(options: &Options, mut store: Store, mut left: Live, list: List) -> Outcome<Played> {
+    let List { words, names, edition } = list;
+    let start = left.follower(store.commit_page());
+    let mut words = if options.sheet { sheet::led_in(&start, words)? } else { words };
     let played = if !names.is_empty() {
         names::play(&mut store, &mut left, &mut words, &names)
     } else if options.portions.is_some() || options.state.is_some() || options.sheet {
@@ -174,23 +165,24 @@ fn play(options: &Options, mut store: Store, mut left: Kept, list: List) -> Outc
     } else {
         store.play_words(&words)
     };
-    let answers = played.map_err(|refusal| match (options.state, refusal) {
-        (Some(path), Refusal::State) => state_file::unsound(path),
-        _ => Failure::refused(&format!("the run was {refusal}"), "nothing was played, and no file was changed"),
+    let answers = played.map_err(|refused| match options.state {
+        Some(path) if refused.is_of_state() => state_file::unsound(path),
+        _ => Failure::refused(&format!("the run was {refused}"), "nothing was played, and no file was changed"),
     })?;
-    let history = history(&earlier, &words, &answers)?;
+    let history = history(edition, &start.earlier(), &words, &answers)?;
     let names = Names::of(names, &answers);
     Ok(Played { store, start, left, words, names, answers, history })
 }
 
 /// Plays the words, at most so many events at a time. No words are one empty portion, so that a state
 /// is looked at in any case.
-pub fn portions(store: &mut Store, kept: &mut Kept, words: &[u8], events: usize) -> Result<Vec<Answer>, Refusal> {
-    let mut answers = Vec::with_capacity(words.len() / EVENT_BYTES);
+pub fn portions(store: &mut Store, live: &mut Live, words: &[u8], events: usize) -> Result<Vec<Answer>, Refused> {
+    let word = store.edition.event_bytes;
+    let mut answers = Vec::with_capacity(words.len() / word);
     let mut rest = words;
     loop {
-        let (portion, later) = rest.split_at(rest.len().min(events * EVENT_BYTES));
-        answers.extend(store.portion_words(&mut kept.state, &mut kept.work, portion)?);
+        let (portion, later) = rest.split_at(rest.len().min(events * word));
+        answers.extend(live.portion(store, portion)?);
         if later.is_empty() {
             return Ok(answers);
         }
@@ -199,10 +191,15 @@ pub fn portions(store: &mut Store, kept: &mut Kept, words: &[u8], events: usize)
 }
 
 /// What the answers tell; no right engine gives answers that tell nothing.
-pub fn history(earlier: &[Earlier], words: &[u8], answers: &[Answer]) -> Outcome<History> {
+pub fn history(edition: Edition, earlier: &[Earlier], words: &[u8], answers: &[Answer]) -> Outcome<History> {
     let bytes: Vec<u8> = answers.iter().flat_map(|answer| answer.bytes()).collect();
-    tell_from(earlier, words, &bytes).map_err(|absurd| {
+    let form = match edition {
+        Edition::SECOND => Form::EDITION_2,
+        _ => Form::PLAIN,
+    };
+    form.tell_from(earlier, words, &bytes).map_err(|absurd| {
         let reason = format!("event {}: the engine's answer can't be: {}", absurd.at + 1, absurd.what);
-        Failure::new(&reason, "the linked library isn't the proved one; make it again with `rt staticlib nekahuiro`")
+        let again = format!("make it again with `rt staticlib {}`", library(edition));
+        Failure::new(&reason, &format!("the linked library isn't the proved one; {again}"))
     })
 }

@@ -3,10 +3,10 @@
 use super::{Options, Played};
 use crate::failure::Outcome;
 use crate::files::name_of;
+use crate::live::Live;
 use crate::output::Output;
-use crate::state_file::Kept;
+use crate::store::Store;
 use crate::{page, picture};
-use nekahuiro::Store;
 
 /// The outputs that were asked for.
 pub struct Outputs<'n> {
@@ -28,13 +28,13 @@ impl<'n> Outputs<'n> {
     }
 
     /// Takes what is to be written: of plain files all of it is on the disk then.
-    pub fn stage(&mut self, options: &Options, played: &Played, before: (&Store, &Kept)) -> Outcome {
+    pub fn stage(&mut self, options: &Options, played: &Played, before: (&Store, &Live)) -> Outcome {
         let Played { store, start, words, names, answers, history, .. } = played;
         if let Some(output) = &mut self.answers {
             output.stage(answers.iter().flat_map(|answer| answer.bytes()).collect())?;
         }
         if let Some(output) = &mut self.picture {
-            output.stage(picture::draw(start, words, answers, history).into_bytes())?;
+            output.stage(picture::draw(store.edition, start, words, answers, history).into_bytes())?;
         }
         if let Some(output) = &mut self.page {
             let file = |path: &str| path.rsplit('/').next().unwrap_or(path).to_string();

@@ -2,9 +2,10 @@
 
 use super::{Options, Played};
 use crate::failure::visible;
+use crate::pair::without_state;
+use crate::show::digits;
 use crate::{number_of, show, trace};
-use nekahuiro::limits::EVENT_BYTES;
-use nekahuiro::Answer;
+use nekahuiro::{Answer, Edition};
 use nekahuiro_history::History;
 use std::collections::BTreeMap;
 use std::fmt::Write;
@@ -17,11 +18,10 @@ pub fn text(options: &Options, played: &Played) -> String {
     let Played { store, start, words, names, answers, history, .. } = played;
     let mut text = String::new();
     if options.trace {
-        text.push_str(&trace::tell(start, words, names, answers, history));
+        text.push_str(&trace::tell(store.edition, start, words, names, answers, history));
     } else if options.answers.is_none() && options.page.is_none() {
-        for (word, answer) in words.chunks_exact(EVENT_BYTES).zip(answers) {
-            let bits = u32::from_be_bytes([word[0], word[1], word[2], word[3]]);
-            let _ = writeln!(text, "{bits:08X} {:02X}{:02X}", answer.number, answer.value);
+        for (word, answer) in words.chunks_exact(store.edition.event_bytes).zip(answers) {
+            let _ = writeln!(text, "{} {}", digits(word), digits(&answer.bytes()));
         }
     }
     text.push_str(&counts(answers, history));
@@ -31,9 +31,11 @@ pub fn text(options: &Options, played: &Played) -> String {
     let open = (0..history.transactions.len()).any(|place| history.is_undecided(place));
     match options.state {
         Some(path) => {
-            let _ = writeln!(text, "{}: {}", visible(path), played.left.in_words());
+            let _ = writeln!(text, "{}: {}", visible(path), played.left.follower(store.commit_page()).in_words());
         }
-        None if open => text.push_str("what is live at the end isn't kept without --state\n"),
+        None if open => {
+            let _ = writeln!(text, "what is live at the end isn't kept{}", without_state(store.edition));
+        }
         None => {}
     }
     let _ = writeln!(text, "{}", show::commit_page(store));
@@ -41,7 +43,8 @@ pub fn text(options: &Options, played: &Played) -> String {
         let _ = writeln!(text, "{}: the run to look at, in a browser", visible(page));
     }
     if options.dry {
-        let _ = writeln!(text, "a dry run: the store is left as it was, and so is the state file");
+        let state = if store.edition == Edition::FIRST { ", and so is the state file" } else { "" };
+        let _ = writeln!(text, "a dry run: the store is left as it was{state}");
     }
     text
 }

@@ -1,32 +1,20 @@
 //! Events of edition 2 and their words: the same six fields in 64 bits, most significant first.
 
-use super::limits::EVENT_BYTES;
-use super::Record;
-use crate::{Fields, Transaction};
-
-/// The widths of the six fields; the last 28 bits of a word are 0.
-const WIDTHS: [u32; 6] = [4, 5, 6, 5, 8, 8];
+use super::limits::{EVENT_BYTES, RECORDS};
+use crate::{BadWords, Edition, EventOf, Fields, NoIdentity};
+use std::str::FromStr;
 
 /// The word of the fields. A number too large for its field keeps its low bits only.
 pub fn word_of(fields: Fields) -> [u8; EVENT_BYTES] {
-    let Fields { kind, transaction, record, offset, count, value } = fields;
-    let numbers = [kind, transaction, record, offset, count, value].into_iter().zip(WIDTHS);
-    let bits = numbers.fold(0u64, |bits, (number, width)| bits << width | u64::from(number) & ((1 << width) - 1));
-    (bits << 28).to_be_bytes()
+    Edition::SECOND.join(&fields).to_be_bytes()
 }
 
 /// The fields of a word, whatever its last 28 bits are.
 pub fn fields_of(word: [u8; EVENT_BYTES]) -> Fields {
-    let mut bits = u64::from_be_bytes(word);
-    let [kind, transaction, record, offset, count, value] = WIDTHS.map(|width| {
-        let number = bits >> (64 - width);
-        bits <<= width;
-        number as u8
-    });
-    Fields { kind, transaction, record, offset, count, value }
+    Edition::SECOND.split(u64::from_be_bytes(word)).0
 }
 
-/// An event that is not bad.
+/// An event that is not bad. Nothing can be prepared, decided or queried.
 ///
 /// ```
 /// use nekahuiro::edition2::{Event, Record};
@@ -37,94 +25,20 @@ pub fn fields_of(word: [u8; EVENT_BYTES]) -> Fields {
 /// assert_eq!(Event::of(event.word()), Some(event));
 /// assert_eq!(Event::of([0x30, 0x86, 0x20, 0x0A, 0x50, 0, 0, 1]), None); // a stray bit
 /// ```
-#[derive(Clone, Copy, Debug, PartialEq, Eq)]
-pub enum Event {
-    /// Begin a transaction under a parent, or at the top with [`Transaction::NONE`].
-    Begin {
-        /// The parent.
-        parent: Transaction,
-    },
-    /// Ask for a record's lock in write mode: to read and to write.
-    Lock {
-        /// Who asks.
-        transaction: Transaction,
-        /// For which record.
-        record: Record,
-    },
-    /// Ask for a record's lock in read mode: to read, beside other readers.
-    ReadLock {
-        /// Who asks.
-        transaction: Transaction,
-        /// For which record.
-        record: Record,
-    },
-    /// Write one byte.
-    Write {
-        /// Who writes.
-        transaction: Transaction,
-        /// To which record.
-        record: Record,
-        /// Where, 0 to 31.
-        offset: u8,
-        /// What.
-        value: u8,
-    },
-    /// Read one byte.
-    Read {
-        /// Who reads.
-        transaction: Transaction,
-        /// Which record.
-        record: Record,
-        /// Where, 0 to 31.
-        offset: u8,
-    },
-    /// Commit.
-    Commit {
-        /// Who commits.
-        transaction: Transaction,
-        /// After how many page writes the power goes.
-        count: u8,
-    },
-    /// Abort, with all live descendants.
-    Abort {
-        /// Who aborts.
-        transaction: Transaction,
-        /// Whether it tells its parent why: the parent then retains its locks.
-        report: bool,
-    },
-    /// The power goes.
-    Crash,
-    /// Recover.
-    Recover {
-        /// After how many page writes the power goes.
-        count: u8,
-    },
-}
+///
+/// In words they are written as those of edition 1. A count that is left out is 255.
+///
+/// ```
+/// use nekahuiro::edition2::Event;
+/// let event: Event = "write 1 63 2 A5".parse()?;
+/// assert_eq!(event.to_string(), "write 1 63 2 A5");
+/// assert_eq!("recover".parse::<Event>()?, Event::Recover { count: 255 });
+/// assert!("lock 0 64".parse::<Event>().is_err() && "query 7".parse::<Event>().is_err());
+/// # Ok::<(), nekahuiro::BadWords>(())
+/// ```
+pub type Event = EventOf<RECORDS, NoIdentity>;
 
 impl Event {
-    /// The event's fields.
-    pub fn fields(&self) -> Fields {
-        let of =
-            |kind, transaction: Transaction| Fields { kind, transaction: transaction.number(), ..Fields::default() };
-        match *self {
-            Event::Begin { parent } => of(1, parent),
-            Event::Lock { transaction, record } => Fields { record: record.number(), ..of(2, transaction) },
-            Event::ReadLock { transaction, record } => {
-                Fields { record: record.number(), value: 1, ..of(2, transaction) }
-            }
-            Event::Write { transaction, record, offset, value } => {
-                Fields { record: record.number(), offset, value, ..of(3, transaction) }
-            }
-            Event::Read { transaction, record, offset } => {
-                Fields { record: record.number(), offset, ..of(4, transaction) }
-            }
-            Event::Commit { transaction, count } => Fields { count, ..of(5, transaction) },
-            Event::Abort { transaction, report } => Fields { value: u8::from(report), ..of(6, transaction) },
-            Event::Crash => Fields { kind: 7, ..Fields::default() },
-            Event::Recover { count } => Fields { kind: 8, count, ..Fields::default() },
-        }
-    }
-
     /// The event's word. An offset too large for its field keeps its low bits only.
     pub fn word(&self) -> [u8; EVENT_BYTES] {
         word_of(self.fields())
@@ -132,26 +46,24 @@ impl Event {
 
     /// The event of a word, or none if the word is bad.
     pub fn of(word: [u8; EVENT_BYTES]) -> Option<Event> {
-        let Fields { kind, transaction, record, offset, count, value } = fields_of(word);
-        let (transaction, record) = (Transaction::new(transaction)?, Record::new(record)?);
-        let event = match kind {
-            1 => Event::Begin { parent: transaction },
-            2 if value == 1 => Event::ReadLock { transaction, record },
-            2 => Event::Lock { transaction, record },
-            3 => Event::Write { transaction, record, offset, value },
-            4 => Event::Read { transaction, record, offset },
-            5 => Event::Commit { transaction, count },
-            6 => Event::Abort { transaction, report: value == 1 },
-            7 => Event::Crash,
-            8 => Event::Recover { count },
-            _ => return None,
-        };
-        // A word with a stray bit or another value isn't the word of the event that its fields tell.
-        (event.word() == word).then_some(event)
+        Edition::SECOND.event(&word)
+    }
+}
+
+impl FromStr for Event {
+    type Err = BadWords;
+
+    fn from_str(line: &str) -> Result<Event, BadWords> {
+        Edition::SECOND.parse(line)
     }
 }
 
 /// The words of a list of events, one after the other, as a run takes them.
 pub fn encode(events: &[Event]) -> Vec<u8> {
     events.iter().flat_map(Event::word).collect()
+}
+
+/// A word in words: the event, or the word itself in hex if it is bad.
+pub fn describe(word: [u8; EVENT_BYTES]) -> String {
+    Edition::SECOND.describe(&word)
 }

@@ -18,14 +18,19 @@
 mod commit_page;
 mod event;
 pub mod limits;
-mod record;
 mod refusal;
 mod store;
-mod words;
 
 pub use commit_page::{CommitPage, Map};
-pub use event::{encode, fields_of, word_of, Event};
-pub use record::Record;
+pub use event::{describe, encode, fields_of, word_of, Event};
 pub use refusal::Refusal;
 pub use store::Store;
-pub use words::describe;
+
+/// A record number, 0 to 63.
+///
+/// ```
+/// use nekahuiro::edition2::Record;
+/// assert_eq!(Record::new(63).map(|r| r.number()), Some(63));
+/// assert_eq!(Record::new(64), None);
+/// ```
+pub type Record = crate::RecordOf<{ limits::RECORDS }>;
