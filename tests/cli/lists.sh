@@ -2,7 +2,7 @@
 ok "demo" "record 3 is 0000A500" "$run" demo
 ok "help" "encode" "$run" help
 ok "bench" "^mixed( [0-9]+\.[0-9]){8}( [0-9]+\.[0-9][0-9]){3}$" "$run" bench --quick
-holds "bench of edition 2" grep -qE "^edition-2-mixed( [0-9]+\.[0-9]){4} [0-9]+\.[0-9][0-9]$" out
+holds "bench of edition 2" grep -qE "^edition-2-mixed( [0-9]+\.[0-9]){8}( [0-9]+\.[0-9][0-9]){3}$" out
 fails "bench with something else" 2 "bench takes" "$run" bench --frob
 ok "fresh" "1056 bytes" "$run" fresh store
 ok "show a fresh store" "empty, no commit is under way" "$run" show store

@@ -126,7 +126,7 @@ impl Follower {
         let parent = self.live.remove(&transaction).flatten();
         self.pass(transaction, parent);
         let changed = self.changed.remove(&transaction).unwrap_or_default();
-        if let Some(parent) = parent {
+        if let Some(parent) = parent.filter(|_| !changed.is_empty()) {
             self.changed.entry(parent).or_default().extend(changed);
         }
     }

@@ -15,21 +15,18 @@ const SHOWN: usize = 60;
 /// How a list is written, for the help.
 pub const HELP: &str = "\
 EVENTS is a file, or - for standard input. It is UTF-8 text with events in words, one to a line, or event
-words in hex, 8 digits each; # starts a comment. With --raw it has raw event words of 4 bytes. For a store of
-edition 2 a word has 16 digits or 8 bytes.
+words in hex; # starts a comment. With --raw it has raw event words of 4 bytes.
 
   begin none | begin PARENT               a transaction begins, at the top or under another; its number is
                                           the answer, the lowest that is free, from 0
   begin none as NAME                      the same, and NAME may stand for its number in the lines after it
-  lock TRANSACTION RECORD                 to read and to write, alone; records are 0 to 15,
-                                          and 0 to 63 in edition 2
+  lock TRANSACTION RECORD                 to read and to write, alone; records are 0 to 15
   read-lock TRANSACTION RECORD            only to read, beside other readers
   write TRANSACTION RECORD OFFSET VALUE   one byte: OFFSET is its place in the record, 0 to 31; VALUE is two
                                           hex digits, as A5; all else is decimal
   read TRANSACTION RECORD OFFSET          one byte; it is the answer
   commit TRANSACTION [COUNT]              COUNT makes a power cut: after so many page writes the power goes.
-                                          Left out it is 63, in edition 2 255, more than are ever due, and no
-                                          cut comes
+                                          Left out it is 63, more than are ever due, and no cut comes
   abort TRANSACTION                       its changes and locks go
   abort TRANSACTION report                its parent retains its locks, since it told what it read
   crash                                   the power goes: what isn't committed is lost
@@ -37,8 +34,10 @@ edition 2 a word has 16 digits or 8 bytes.
   prepare TRANSACTION [COUNT] IDENTITY    end it, its changes waiting for the decision on an identity
   decide commit [COUNT] IDENTITY          the decision; for an identity that isn't prepared it does nothing
   decide abort [COUNT] IDENTITY
-  query IDENTITY                          whether it is prepared: 1 or 0; identities are from 0 to 255.
-                                          Edition 2 has no prepare, decide and query
+  query IDENTITY                          whether it is prepared: 1 or 0; identities are from 0 to 255
+
+A list for a store of edition 2 is written in the same way: its records are 0 to 63, a COUNT is at most 255 and left
+out 255, a word has 16 hex digits or 8 raw bytes, and there are no prepare, decide and query.
 ";
 
 /// A list of events in raw words, with the names in it by event.

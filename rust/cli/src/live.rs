@@ -174,3 +174,93 @@ impl Again {
         self.versions.retain(|(_, writer), _| self.follower.live.contains_key(writer));
     }
 }
+
+#[cfg(test)]
+mod tests {
+    use super::*;
+    use nekahuiro_lists::Rng;
+
+    /// The fields of some event, most often of a live transaction without a child; `None` as a count is as many page writes as are due.
+    fn event(rng: &mut Rng, follower: &Follower) -> (Fields, Option<u8>) {
+        let has_child = |number: &u8| follower.live.values().any(|parent| *parent == Some(*number));
+        let live: Vec<u8> = follower.live.keys().copied().filter(|number| !has_child(number)).collect();
+        let transaction = rng.pick(&live).copied().filter(|_| rng.below(8) > 0).unwrap_or(1);
+        if !follower.up && rng.below(4) > 0 {
+            return (Fields { kind: 8, ..Fields::default() }, None);
+        }
+        let named = Fields { transaction, record: rng.below(2) as u8, ..Fields::default() };
+        let count = (rng.below(3) == 0).then(|| rng.below(9) as u8);
+        let of = |kind: u8| Fields { kind, ..named };
+        let plain = Fields { record: 0, ..named };
+        match rng.below(24) {
+            0 => (Fields { kind: 1, transaction: 31, ..Fields::default() }, None),
+            1 | 2 => (Fields { kind: 1, ..plain }, None),
+            3..=9 => (Fields { value: u8::from(rng.below(4) == 0), ..of(2) }, None),
+            10..=17 => (Fields { offset: rng.below(4) as u8, value: rng.byte(), ..of(3) }, None),
+            18 => (Fields { offset: rng.below(4) as u8, ..of(4) }, None),
+            19 | 20 => (Fields { kind: 5, ..plain }, count),
+            21 => (Fields { kind: 6, value: rng.below(2) as u8, ..plain }, None),
+            22 if rng.below(6) == 0 => (Fields { kind: 7, ..Fields::default() }, None),
+            _ => (Fields { kind: 8, ..Fields::default() }, count),
+        }
+    }
+
+    /// Both editions on the same events: what is played again before each event is as the lent state says, and so are
+    /// the page writes, which edition 1's library tells.
+    #[test]
+    fn what_is_played_again_is_as_the_lent_state() {
+        let (mut rng, mut versions, mut writes, mut cut) = (Rng::new(24), 0, 0, 0);
+        for _ in 0..1_000 {
+            let mut stores = Edition::ALL.map(Store::fresh);
+            let mut lives = [0, 1].map(|at: usize| Live::start(&stores[at]));
+            for at in 0..100 {
+                let (fields, count) = event(&mut rng, &lives[0].follower(stores[0].commit_page()));
+                let words = Edition::ALL.map(|edition| {
+                    let counts = matches!(fields.kind, 5 | 8);
+                    let count = if counts { count.unwrap_or(edition.count_limit()) } else { 0 };
+                    edition.word(Fields { count, ..fields })
+                });
+                let planned = [0, 1].map(|edition: usize| {
+                    let told = lives[edition].page_writes(&stores[edition], &words[edition]);
+                    let told = told.unwrap_or_else(|refused| panic!("{refused}"));
+                    let place = |write: PageWrite| {
+                        let what = crate::store::page_in_words(Edition::ALL[edition], write.page.into());
+                        (what, if write.page == 0 { [write.bytes[0] & 15; 32] } else { write.bytes })
+                    };
+                    told.into_iter().map(place).collect::<Vec<_>>()
+                });
+                assert_eq!(planned[0], planned[1], "event {at}, {}", Edition::FIRST.describe(&words[0]));
+                let [one, two] = [0, 1].map(|edition: usize| {
+                    let played = lives[edition].portion(&mut stores[edition], &words[edition]);
+                    played.unwrap_or_else(|refused| panic!("{refused}"))
+                });
+                assert_eq!(one, two, "event {at}, {}", Edition::FIRST.describe(&words[0]));
+                let page = stores[0].commit_page();
+                let [first, mut second] = [&lives[0], &lives[1]].map(|live| live.follower(page));
+                second.locks.truncate(Edition::FIRST.records);
+                assert!(first == second, "event {at}, {}", Edition::FIRST.describe(&words[0]));
+                assert!(lives[0].versions() == lives[1].versions(), "event {at}: versions");
+                let settled =
+                    [0, 1].map(|at: usize| stores[0].records().map(|r| stores[at].settled(r)).collect::<Vec<_>>());
+                assert_eq!(settled[0], settled[1], "event {at}: settled");
+                versions += lives[0].versions().len();
+                writes += planned[0].len();
+                cut += usize::from(one[0].is_cut());
+            }
+        }
+        assert!(versions > 10_000 && writes > 1_000 && cut > 40, "{versions} versions, {writes} writes, {cut} cut");
+    }
+
+    /// A portion that is refused changes nothing.
+    #[test]
+    fn half_a_word_is_refused() {
+        for edition in Edition::ALL {
+            let mut store = Store::fresh(edition);
+            let (mut live, before) = (Live::start(&store), store.clone());
+            let recover = edition.word(Event::Recover { count: edition.count_limit() }.fields());
+            let refused = live.portion(&mut store, &[&recover[..], &[0x70]].concat());
+            assert_eq!(refused.map_err(|refused| refused.number), Err(20));
+            assert!(store == before && live == Live::start(&before));
+        }
+    }
+}

@@ -11,6 +11,12 @@ pub type Make = fn(u64) -> Vec<u8>;
 /// The kinds of lists, by name.
 pub const KINDS: [(&str, Make); 3] = [("deep", deep), ("flat", flat), ("mixed", mixed)];
 
+/// A list of a form by its seed, of the greatest length.
+pub type MakeOf = fn(Form, u64) -> Vec<u8>;
+
+/// The same kinds, of any form.
+pub const KINDS_OF: [(&str, MakeOf); 3] = [("deep", deep_of), ("flat", flat_of), ("mixed", mixed_of)];
+
 /// One list of each kind.
 pub fn all() -> [(&'static str, Vec<u8>); 3] {
     KINDS.map(|(name, make)| (name, make(1)))

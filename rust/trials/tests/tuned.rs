@@ -1,7 +1,10 @@
 //! The tuned player, a yardstick of the benchmark, plays by the same rules: what it is timed at is the same work.
 
 use nekahuiro::limits::{ANSWER_BYTES, EVENT_BYTES, WORK_BYTES};
+use nekahuiro::raw;
 use nekahuiro_lists::timing;
+use nekahuiro_trials::forms::{self, Edition2, Form};
+use nekahuiro_trials::portions::share;
 use nekahuiro_trials::{random, settings, Case, Program};
 use nekahuiro_tuned::Tuned;
 
@@ -25,6 +28,30 @@ fn the_tuned_player_agrees_on_the_lists_that_are_timed() {
             assert!(one_by_one(&case) == engine.answers[..case.length() * ANSWER_BYTES], "{name} {seed} one by one");
         }
     }
+}
+
+/// Edition 2 against its engine: random stores and lists, and those that are timed.
+#[test]
+fn the_tuned_player_agrees_in_edition_2() {
+    let (seed, lists) = (settings::seed() ^ 0x7E57, settings::lists() / 100);
+    let timed = |number: u64| {
+        let (_, make) = timing::KINDS_OF[number as usize % timing::KINDS_OF.len()];
+        forms::Case { store: Edition2::fresh(), events: make(Edition2::LISTS, number) }
+    };
+    let disagrees = share(lists, |number| {
+        let case = if number < 30 { timed(number) } else { forms::random::case::<Edition2>(seed, number) };
+        let played = [raw::edition2::run, nekahuiro_tuned::run_edition2].map(|run| {
+            let (mut store, mut answers) = (case.store.clone(), vec![0; case.events.len() / 4]);
+            let number = run(&mut store, &case.events, &mut [0; 32_768], &mut answers);
+            (number, store, answers)
+        });
+        if played[0] == played[1] {
+            Ok(())
+        } else {
+            Err(format!("seed {seed}, list {number}"))
+        }
+    });
+    assert_eq!(disagrees, None);
 }
 
 fn one_by_one(case: &Case) -> Vec<u8> {

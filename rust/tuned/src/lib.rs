@@ -8,7 +8,8 @@
 //! - every transaction knows the records that it has a lock of, so an end looks at no others;
 //! - sets of transactions and of records are words.
 //!
-//! It checks no lent state: [`Tuned`] can only be what its own events made of it.
+//! It checks no lent state: [`Tuned`] can only be what its own events made of it. Both editions are one program, over
+//! the number of records.
 
 mod locks;
 mod stack;
@@ -18,25 +19,20 @@ mod word;
 use locks::Lock;
 use stack::Versions;
 use store::{First, Store, MAP_TOP};
-use word::{Fields, Kind};
+use word::{Fields, Kind, Layout};
 
-/// Records in a store.
-pub const RECORDS: usize = 16;
 /// Bytes of a page.
 pub const PAGE_BYTES: usize = 32;
-/// Bytes of a store.
-pub const STORE_BYTES: usize = (1 + 2 * RECORDS) * PAGE_BYTES;
 /// The deepest nesting.
 pub const DEPTH_LIMIT: u8 = 16;
 
-const WORK_BYTES: usize = RECORDS * DEPTH_LIMIT as usize * PAGE_BYTES;
 const TRANSACTIONS: usize = 24;
 const ALL: u32 = (1 << TRANSACTIONS) - 1;
 const NO_PARENT: u8 = 31;
-const LONGEST: usize = 4096 * 4;
+const EVENTS: usize = 4096;
 
 /// A record's place in a map: record 0 is the most significant bit.
-type Map = u16;
+type Map = u64;
 
 /// The records of a map, by rising number.
 fn records(mut map: Map) -> impl Iterator<Item = usize> {
@@ -68,55 +64,67 @@ struct Node {
     line: u32,
 }
 
-/// What is kept between two events beside the store.
+/// What is kept between two events beside the store, which has so many records and bytes.
 #[derive(Clone)]
-pub struct Tuned {
+pub struct TunedOf<const RECORDS: usize, const STORE: usize> {
     up: bool,
     live: u32,
     nodes: [Node; TRANSACTIONS],
     locks: [Lock; RECORDS],
-    versions: Versions,
+    versions: Versions<RECORDS>,
 }
 
-impl Default for Tuned {
-    fn default() -> Tuned {
+/// Edition 1.
+pub type Tuned = TunedOf<16, 1_056>;
+/// Edition 2.
+pub type TunedEdition2 = TunedOf<64, 4_128>;
+
+impl<const RECORDS: usize, const STORE: usize> Default for TunedOf<RECORDS, STORE> {
+    fn default() -> Self {
         let (nodes, locks) = ([Node::default(); TRANSACTIONS], [Lock::default(); RECORDS]);
-        Tuned { up: false, live: 0, nodes, locks, versions: Versions::new() }
+        TunedOf { up: false, live: 0, nodes, locks, versions: Versions::new() }
     }
 }
 
 type Answer = (u8, u8);
+
+/// Plays a list of event words of edition 2 on a store. The working buffer is only measured.
+pub fn run_edition2(store: &mut [u8], events: &[u8], work: &mut [u8], answers: &mut [u8]) -> u8 {
+    TunedEdition2::default().portion(store, events, work, answers)
+}
 
 /// Plays a list of event words on a store. The working buffer is only measured.
 pub fn run(store: &mut [u8], events: &[u8], work: &mut [u8], answers: &mut [u8]) -> u8 {
     Tuned::default().portion(store, events, work, answers)
 }
 
-impl Tuned {
+impl<const RECORDS: usize, const STORE: usize> TunedOf<RECORDS, STORE> {
+    const WORK_BYTES: usize = RECORDS * DEPTH_LIMIT as usize * PAGE_BYTES;
+
     /// Plays a portion of a list, from what the last one left.
     pub fn portion(&mut self, store: &mut [u8], events: &[u8], work: &mut [u8], answers: &mut [u8]) -> u8 {
-        let Ok(store) = <&mut [u8; STORE_BYTES]>::try_from(store) else { return 22 };
-        if work.len() != WORK_BYTES {
+        let Ok(store) = <&mut [u8; STORE]>::try_from(store) else { return 22 };
+        if work.len() != Self::WORK_BYTES {
             return 24;
         }
-        if events.len() % 4 != 0 || events.len() > LONGEST {
+        let bytes = Layout::<RECORDS>::WORD_BYTES;
+        if events.len() % bytes != 0 || events.len() > EVENTS * bytes {
             return 20;
         }
-        if answers.len() < events.len() / 2 {
+        if answers.len() < events.len() / bytes * 2 {
             return 21;
         }
         let mut store = Store::over(store);
-        for (word, answer) in events.chunks_exact(4).zip(answers.chunks_exact_mut(2)) {
-            let word = u32::from_be_bytes([word[0], word[1], word[2], word[3]]);
-            let (number, value) = self.step(&mut store, word);
+        for (word, answer) in events.chunks_exact(bytes).zip(answers.chunks_exact_mut(2)) {
+            let (number, value) = self.step(&mut store, Layout::<RECORDS>::fields(word));
             answer[0] = number;
             answer[1] = value;
         }
         0
     }
 
-    fn step(&mut self, store: &mut Store, word: u32) -> Answer {
-        let Some(f) = Fields::of(word) else { return (1, 0) };
+    fn step(&mut self, store: &mut Store<RECORDS, STORE>, fields: Option<Fields>) -> Answer {
+        let Some(f) = fields else { return (1, 0) };
         match f.kind {
             Kind::Crash => {
                 self.fall();
@@ -170,7 +178,7 @@ impl Tuned {
         (0, t as u8)
     }
 
-    fn lock(&mut self, store: &Store, t: usize, record: usize, read: bool) -> Answer {
+    fn lock(&mut self, store: &Store<RECORDS, STORE>, t: usize, record: usize, read: bool) -> Answer {
         let (lock, place) = (&mut self.locks[record], MAP_TOP >> record);
         if store.first.reserved() & place != 0 || !lock.allows(t, self.nodes[t].line, read) {
             return (8, 0);
@@ -181,14 +189,14 @@ impl Tuned {
         (0, 0)
     }
 
-    fn write(&mut self, store: &Store, t: usize, f: Fields) -> Answer {
+    fn write(&mut self, store: &Store<RECORDS, STORE>, t: usize, f: Fields) -> Answer {
         let page = self.versions.own(f.record, t as u8, || *store.home(f.record));
         page[f.offset] = f.value;
         self.nodes[t].changed |= MAP_TOP >> f.record;
         (0, 0)
     }
 
-    fn commit(&mut self, store: &mut Store, t: usize, count: u8) -> Answer {
+    fn commit(&mut self, store: &mut Store<RECORDS, STORE>, t: usize, count: u8) -> Answer {
         let node = self.nodes[t];
         if node.children != 0 {
             return (10, 0);
@@ -209,7 +217,7 @@ impl Tuned {
         self.close_top(t, node.changed, made)
     }
 
-    fn prepare(&mut self, store: &mut Store, t: usize, f: Fields) -> Answer {
+    fn prepare(&mut self, store: &mut Store<RECORDS, STORE>, t: usize, f: Fields) -> Answer {
         let node = self.nodes[t];
         if node.children != 0 {
             return (10, 0);
@@ -237,7 +245,7 @@ impl Tuned {
         (0, made.0)
     }
 
-    fn decide(&mut self, store: &mut Store, f: Fields) -> Answer {
+    fn decide(&mut self, store: &mut Store<RECORDS, STORE>, f: Fields) -> Answer {
         if !store.first.is_for(f.value) {
             return (0, 0);
         }
@@ -248,7 +256,7 @@ impl Tuned {
         (if cut { 11 } else { 0 }, made)
     }
 
-    fn recover(&mut self, store: &mut Store, count: u8) -> Answer {
+    fn recover(&mut self, store: &mut Store<RECORDS, STORE>, count: u8) -> Answer {
         if self.up {
             return (3, 0);
         }

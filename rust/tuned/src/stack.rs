@@ -1,6 +1,6 @@
 //! The versions of each record, as a stack: all who have one are on one line, and the deepest is on top.
 
-use crate::{DEPTH_LIMIT, PAGE_BYTES, RECORDS};
+use crate::{DEPTH_LIMIT, PAGE_BYTES};
 
 type Page = [u8; PAGE_BYTES];
 
@@ -12,7 +12,7 @@ struct Stack {
 }
 
 #[derive(Clone)]
-pub struct Versions([Stack; RECORDS]);
+pub struct Versions<const RECORDS: usize>([Stack; RECORDS]);
 
 impl Stack {
     fn top(&self) -> Option<usize> {
@@ -20,8 +20,8 @@ impl Stack {
     }
 }
 
-impl Versions {
-    pub fn new() -> Versions {
+impl<const RECORDS: usize> Versions<RECORDS> {
+    pub fn new() -> Self {
         let empty =
             Stack { height: 0, owners: [0; DEPTH_LIMIT as usize], pages: [[0; PAGE_BYTES]; DEPTH_LIMIT as usize] };
         Versions(std::array::from_fn(|_| empty.clone()))

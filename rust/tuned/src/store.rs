@@ -1,10 +1,10 @@
 //! The store's pages, and the page writes of commits, recoveries, prepares and decisions.
 
 use crate::stack::Versions;
-use crate::{records, Map, PAGE_BYTES, RECORDS, STORE_BYTES};
+use crate::{records, Map, PAGE_BYTES};
 
 /// The place of record 0 in a map.
-pub const MAP_TOP: Map = 0x8000;
+pub const MAP_TOP: Map = 1 << 63;
 
 type Page = [u8; PAGE_BYTES];
 
@@ -18,32 +18,37 @@ pub enum First {
 }
 
 impl First {
-    fn of(page: &[u8]) -> First {
-        let map = u16::from_be_bytes([page[1], page[2]]);
-        let found = match page[0] {
-            0x10 => First::Empty,
-            0x13 if map != 0 => First::Prepared(map, page[4]),
-            0x15 if map != 0 => First::Committed(map),
+    fn of<const RECORDS: usize>(page: &[u8]) -> First {
+        let mut map = [0; 8];
+        map[..RECORDS / 8].copy_from_slice(&page[1..][..RECORDS / 8]);
+        let map = Map::from_be_bytes(map);
+        let found = match page[0] & 15 {
+            0 => First::Empty,
+            // Edition 1 alone has this.
+            3 if map != 0 && RECORDS == 16 => First::Prepared(map, page[4]),
+            5 if map != 0 => First::Committed(map),
             _ => return First::Damaged,
         };
-        if page == found.page() {
+        if page == found.page::<RECORDS>() {
             found
         } else {
             First::Damaged
         }
     }
 
-    fn page(self) -> Page {
+    fn page<const RECORDS: usize>(self) -> Page {
         let (state, map, identity) = match self {
-            First::Empty | First::Damaged => (0x10, 0, 0),
-            First::Committed(map) => (0x15, map, 0),
-            First::Prepared(map, identity) => (0x13, map, identity),
+            First::Empty | First::Damaged => (0, 0, 0),
+            First::Committed(map) => (5, map, 0),
+            First::Prepared(map, identity) => (3, map, identity),
         };
+        let edition: u8 = if RECORDS == 16 { 1 } else { 2 };
         let mut page = [0; PAGE_BYTES];
-        page[0] = state;
-        page[1..3].copy_from_slice(&map.to_be_bytes());
-        page[3] = (map.count_ones() as u8) << 3;
-        page[4] = identity;
+        page[0] = edition << 4 | state;
+        page[1..][..RECORDS / 8].copy_from_slice(&map.to_be_bytes()[..RECORDS / 8]);
+        // The number of records has a bit more than a record.
+        page[1 + RECORDS / 8] = (map.count_ones() as u8) << (7 - RECORDS.trailing_zeros());
+        page[2 + RECORDS / 8] = identity;
         page
     }
 
@@ -61,8 +66,8 @@ impl First {
     }
 }
 
-pub struct Store<'s> {
-    bytes: &'s mut [u8; STORE_BYTES],
+pub struct Store<'s, const RECORDS: usize, const STORE: usize> {
+    bytes: &'s mut [u8; STORE],
     pub first: First,
 }
 
@@ -94,9 +99,9 @@ impl Budget {
     }
 }
 
-impl<'s> Store<'s> {
-    pub fn over(bytes: &'s mut [u8; STORE_BYTES]) -> Store<'s> {
-        Store { first: First::of(&bytes[..PAGE_BYTES]), bytes }
+impl<'s, const RECORDS: usize, const STORE: usize> Store<'s, RECORDS, STORE> {
+    pub fn over(bytes: &'s mut [u8; STORE]) -> Self {
+        Store { first: First::of::<RECORDS>(&bytes[..PAGE_BYTES]), bytes }
     }
 
     fn page(&mut self, number: usize) -> &mut Page {
@@ -109,7 +114,7 @@ impl<'s> Store<'s> {
         self.bytes[at..at + PAGE_BYTES].try_into().expect("a page")
     }
 
-    fn intentions(&mut self, map: Map, versions: &Versions, budget: &mut Budget) -> bool {
+    fn intentions(&mut self, map: Map, versions: &Versions<RECORDS>, budget: &mut Budget) -> bool {
         records(map).all(|r| budget.spend() && versions.seen(r).map(|version| *self.page(1 + r) = *version).is_some())
     }
 
@@ -117,7 +122,7 @@ impl<'s> Store<'s> {
         let done = budget.spend();
         if done {
             self.first = first;
-            *self.page(0) = first.page();
+            *self.page(0) = first.page::<RECORDS>();
         }
         done
     }
@@ -136,7 +141,7 @@ impl<'s> Store<'s> {
     }
 
     /// A top transaction's commit; its versions are the top ones. The writes made, and whether a crash came.
-    pub fn commit(&mut self, map: Map, versions: &Versions, count: u8) -> (u8, bool) {
+    pub fn commit(&mut self, map: Map, versions: &Versions<RECORDS>, count: u8) -> (u8, bool) {
         if map == 0 {
             return (0, false);
         }
@@ -147,7 +152,7 @@ impl<'s> Store<'s> {
         budget.told()
     }
 
-    pub fn prepare(&mut self, map: Map, versions: &Versions, identity: u8, count: u8) -> (u8, bool) {
+    pub fn prepare(&mut self, map: Map, versions: &Versions<RECORDS>, identity: u8, count: u8) -> (u8, bool) {
         if map == 0 {
             return (0, false);
         }

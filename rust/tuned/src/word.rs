@@ -25,48 +25,65 @@ pub struct Fields {
     pub value: u8,
 }
 
-const TRANSACTION: u32 = 0x0F80_0000;
-const RECORD: u32 = 0x0078_0000;
-const OFFSET: u32 = 0x0007_C000;
-const COUNT: u32 = 0x0000_3F00;
-const VALUE: u32 = 0x0000_00FF;
-/// A value or an offset of 0 or 1.
-const ONE: u32 = 0x0000_0001;
-const CHOICE: u32 = 0x0000_4000;
+/// How the words of an edition with so many records are laid out.
+pub struct Layout<const RECORDS: usize>;
 
-/// By kind: the bits that may be set.
-const KINDS: [Option<(Kind, u32)>; 16] = [
-    None,
-    Some((Kind::Begin, TRANSACTION)),
-    Some((Kind::Lock, TRANSACTION | RECORD | ONE)),
-    Some((Kind::Write, TRANSACTION | RECORD | OFFSET | VALUE)),
-    Some((Kind::Read, TRANSACTION | RECORD | OFFSET)),
-    Some((Kind::Commit, TRANSACTION | COUNT)),
-    Some((Kind::Abort, TRANSACTION | ONE)),
-    Some((Kind::Crash, 0)),
-    Some((Kind::Recover, COUNT)),
-    Some((Kind::Prepare, TRANSACTION | COUNT | VALUE)),
-    Some((Kind::Decide, CHOICE | COUNT | VALUE)),
-    Some((Kind::Query, VALUE)),
-    None,
-    None,
-    None,
-    None,
-];
+impl<const RECORDS: usize> Layout<RECORDS> {
+    /// Bytes of a word.
+    pub const WORD_BYTES: usize = if RECORDS == 16 { 4 } else { 8 };
+    const RECORD_BITS: u32 = RECORDS.trailing_zeros();
+    const COUNT_BITS: u32 = Self::RECORD_BITS + 2;
+    /// Bits behind the last field, which are 0.
+    const BEHIND: u32 = 8 * Self::WORD_BYTES as u32 - Self::KIND_AT - 4;
+    /// Where each field begins, from the end of the last, which is the value.
+    const COUNT_AT: u32 = 8;
+    const OFFSET_AT: u32 = Self::COUNT_AT + Self::COUNT_BITS;
+    const RECORD_AT: u32 = Self::OFFSET_AT + 5;
+    const TRANSACTION_AT: u32 = Self::RECORD_AT + Self::RECORD_BITS;
+    const KIND_AT: u32 = Self::TRANSACTION_AT + 5;
 
-impl Fields {
-    /// None where the event is bad.
-    pub fn of(word: u32) -> Option<Fields> {
-        let (kind, used) = KINDS[(word >> 28) as usize]?;
-        if word & 0x0FFF_FFFF & !used != 0 {
+    /// By kind: the bits that may be set, but for those of the kind.
+    const KINDS: [Option<(Kind, u64)>; 16] = {
+        let transaction = 31 << Self::TRANSACTION_AT;
+        let record = (RECORDS as u64 - 1) << Self::RECORD_AT;
+        let offset = 31 << Self::OFFSET_AT;
+        let count = ((1 << Self::COUNT_BITS) - 1) << Self::COUNT_AT;
+        // A value or an offset of 0 or 1.
+        let (value, one, choice) = (255, 1, 1 << Self::OFFSET_AT);
+        let mut kinds = [None; 16];
+        kinds[1] = Some((Kind::Begin, transaction));
+        kinds[2] = Some((Kind::Lock, transaction | record | one));
+        kinds[3] = Some((Kind::Write, transaction | record | offset | value));
+        kinds[4] = Some((Kind::Read, transaction | record | offset));
+        kinds[5] = Some((Kind::Commit, transaction | count));
+        kinds[6] = Some((Kind::Abort, transaction | one));
+        kinds[7] = Some((Kind::Crash, 0));
+        kinds[8] = Some((Kind::Recover, count));
+        // Edition 1 alone has these.
+        if RECORDS == 16 {
+            kinds[9] = Some((Kind::Prepare, transaction | count | value));
+            kinds[10] = Some((Kind::Decide, choice | count | value));
+            kinds[11] = Some((Kind::Query, value));
+        }
+        kinds
+    };
+
+    /// The fields of a word of so many bytes; none where the event is bad.
+    pub fn fields(word: &[u8]) -> Option<Fields> {
+        let mut bytes = [0; 8];
+        bytes[8 - Self::WORD_BYTES..].copy_from_slice(word);
+        let bits = u64::from_be_bytes(bytes);
+        let word = bits >> Self::BEHIND;
+        let (kind, used) = Self::KINDS[(word >> Self::KIND_AT & 15) as usize]?;
+        if bits & !((used | 15 << Self::KIND_AT) << Self::BEHIND) != 0 {
             return None;
         }
         Some(Fields {
             kind,
-            transaction: (word >> 23 & 31) as u8,
-            record: (word >> 19 & 15) as usize,
-            offset: (word >> 14 & 31) as usize,
-            count: (word >> 8 & 63) as u8,
+            transaction: (word >> Self::TRANSACTION_AT & 31) as u8,
+            record: (word >> Self::RECORD_AT) as usize % RECORDS,
+            offset: (word >> Self::OFFSET_AT & 31) as usize,
+            count: (word >> Self::COUNT_AT & ((1 << Self::COUNT_BITS) - 1)) as u8,
             value: word as u8,
         })
     }

@@ -4,6 +4,7 @@ use super::programs::{races, NAMES};
 use super::{ratios, worst, NO_PROGRAM};
 use crate::failure::Outcome;
 use nekahuiro::limits::EVENTS;
+use nekahuiro::Edition;
 use std::fmt::Write;
 use std::process;
 
@@ -21,14 +22,18 @@ pub fn text() -> Outcome<String> {
         let figures: String = counts.iter().map(|count| format!(" {count:.0}")).collect();
         let _ = writeln!(text, "# {}{figures}{}", race.name, ratios(&counts));
     }
-    text += "# instructions of the costliest event of each kind, by the engine:";
-    for event in worst::all() {
-        let with = |with| under_valgrind(&["bench", "worst", event.name, with]);
-        let (Some(with), Some(without)) = (with("with"), with("without")) else { continue };
-        let _ = write!(text, " {} {},", event.name, with.saturating_sub(without));
+    for edition in Edition::ALL {
+        let of = if edition == Edition::SECOND { " of edition 2" } else { "" };
+        let _ = write!(text, "# instructions of the costliest event of each kind, by the engine{of}:");
+        for event in worst::all(edition) {
+            let number = edition.number.to_string();
+            let with = |with| under_valgrind(&["bench", "worst", &number, event.name, with]);
+            let (Some(with), Some(without)) = (with("with"), with("without")) else { continue };
+            let _ = write!(text, " {} {},", event.name, with.saturating_sub(without));
+        }
+        text.pop();
+        text.push('\n');
     }
-    text.pop();
-    text.push('\n');
     Ok(text)
 }
 

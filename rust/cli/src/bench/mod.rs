@@ -1,8 +1,7 @@
-//! `bench`: the engine against three yardsticks on lists of 4,096 events, whole and one event at a time.
+//! `bench`: the engine of each edition against three yardsticks on lists of 4,096 events, whole and one event at a time.
 
 mod cold;
 mod counts;
-mod edition2;
 mod lists;
 mod programs;
 mod sizes;
@@ -12,6 +11,7 @@ mod worst;
 use crate::command::Command;
 use crate::failure::{Failure, Outcome};
 use crate::say;
+use nekahuiro::Edition;
 use programs::{Bench, NAMES};
 use std::hint::black_box;
 
@@ -32,17 +32,16 @@ const NO_PROGRAM: &str = "none";
 fn run(arguments: &[String]) -> Outcome {
     let words: Vec<&str> = arguments.iter().map(String::as_str).collect();
     match words[..] {
-        ["--quick"] => say(&times::text()?).and_then(|()| say(&edition2::text()?)),
+        ["--quick"] => say(&times::text()?),
         [] => {
             say(&times::text()?)?;
-            say(&edition2::text()?)?;
             say(&cold::text()?)?;
             say(&counts::text()?)?;
             say(&sizes::text())
         }
         // For valgrind: one program plays lists of one kind a few times.
         ["one", race, program, rounds] => one(race, program, rounds.parse().unwrap_or(0)),
-        ["worst", event, with] => worst_once(event, with == "with"),
+        ["worst", edition, event, with] => worst_once(edition, event, with == "with"),
         // For other machines: the lists as files.
         ["lists", folder, random] => lists::write(folder, random.parse().unwrap_or(0)),
         _ => Err(Failure::usage("bench takes --quick or nothing", "write `./nekahuiro bench`")),
@@ -60,9 +59,9 @@ fn one(race: &str, program: &str, rounds: u64) -> Outcome {
     let (Some(race), true) = (found, place.is_some() || program == NO_PROGRAM) else {
         return Err(Failure::usage("bench one takes a list, a program and rounds", "write `bench one deep engine 4`"));
     };
-    let mut bench = Bench::new();
+    let mut bench = Bench::new(race.edition);
     for seed in 0..rounds {
-        let events = black_box((race.make)(seed));
+        let events = black_box(race.list(seed));
         if let Some(place) = place {
             bench.time(race.programs[place], &events)?;
         }
@@ -70,10 +69,12 @@ fn one(race: &str, program: &str, rounds: u64) -> Outcome {
     Ok(())
 }
 
-fn worst_once(event: &str, with: bool) -> Outcome {
-    let found = worst::all().into_iter().find(|found| found.name == event);
-    let Some(found) = found else {
-        return Err(Failure::usage("bench worst takes an event", "write `bench worst commit with`"));
+fn worst_once(edition: &str, event: &str, with: bool) -> Outcome {
+    let edition = Edition::ALL.into_iter().find(|known| known.number.to_string() == edition);
+    let found = edition.and_then(|edition| worst::all(edition).into_iter().find(|found| found.name == event));
+    let way = programs::WAYS.into_iter().find(|(_, of, _)| Some(*of) == edition);
+    let (Some(found), Some((_, edition, [engine, ..]))) = (found, way) else {
+        return Err(Failure::usage("bench worst takes an edition and an event", "write `bench worst 1 commit with`"));
     };
-    Bench::new().time(programs::WAYS[0].1[0], &found.words()[usize::from(with)]).map(|_| ())
+    Bench::new(edition).time(engine, &found.words()[usize::from(with)]).map(|_| ())
 }

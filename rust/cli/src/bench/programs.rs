@@ -1,10 +1,12 @@
 //! The programs that are timed: the engine, the ordinary player, the tuned player, and the floor.
 
 use crate::failure::{Failure, Outcome};
-use nekahuiro::limits::{ANSWER_BYTES, EVENTS, EVENT_BYTES, WORK_BYTES};
-use nekahuiro::{raw, State, Store};
-use nekahuiro_lists::timing::{Make, KINDS};
-use nekahuiro_player::Volatile;
+use crate::store::{library, Store};
+use nekahuiro::limits::{ANSWER_BYTES, EVENTS, EVENT_BYTES};
+use nekahuiro::{raw, Edition, State};
+use nekahuiro_lists::timing::{MakeOf, KINDS_OF};
+use nekahuiro_lists::Form;
+use nekahuiro_player::{Edition2, Form as _, Volatile};
 use nekahuiro_tuned::Tuned;
 use std::hint::black_box;
 use std::time::Instant;
@@ -15,52 +17,82 @@ pub type Program = fn(&mut Bench, &[u8]) -> u8;
 /// The programs' names, the engine's first.
 pub const NAMES: [&str; 4] = ["engine", "player", "tuned", "floor"];
 
-/// How lists are played: what the name of a list gets before it, then the programs.
-pub const WAYS: [(&str, [Program; 4]); 2] = [
-    ("", [Bench::engine, Bench::player, Bench::tuned, Bench::floor]),
+/// How lists are played: what the name of a list gets before it, the edition, then the programs. Edition 2 has no portions.
+pub const WAYS: [(&str, Edition, [Program; 4]); 3] = [
+    ("", Edition::FIRST, [Bench::engine, Bench::player, Bench::tuned, Bench::floor]),
     (
         "portions-of-1-",
+        Edition::FIRST,
         [Bench::engine_one_by_one, Bench::player_one_by_one, Bench::tuned_one_by_one, Bench::floor_one_by_one],
+    ),
+    (
+        "edition-2-",
+        Edition::SECOND,
+        [Bench::engine_edition2, Bench::player_edition2, Bench::tuned_edition2, Bench::floor_edition2],
     ),
 ];
 
 /// A kind of list and how it is played.
 pub struct Race {
     pub name: String,
-    pub make: Make,
+    pub edition: Edition,
     pub programs: [Program; 4],
+    make: MakeOf,
 }
 
-/// All kinds, whole; then all of them one event at a time.
+impl Race {
+    /// The list of this seed.
+    pub fn list(&self, seed: u64) -> Vec<u8> {
+        let form = if self.edition == Edition::SECOND { Form::EDITION_2 } else { Form::PLAIN };
+        (self.make)(form, seed)
+    }
+}
+
+/// All kinds, whole; then all of them one event at a time; then those of edition 2.
 pub fn races() -> Vec<Race> {
-    let of = |(before, programs)| KINDS.map(|(kind, make)| Race { name: format!("{before}{kind}"), make, programs });
+    let of = |(before, edition, programs)| {
+        KINDS_OF.map(|(kind, make)| Race { name: format!("{before}{kind}"), edition, programs, make })
+    };
     WAYS.into_iter().flat_map(of).collect()
 }
 
 /// The buffers of a run. The store is fresh before each; the working buffer and the answers hold what the run before left.
 pub struct Bench {
-    fresh: Store,
-    store: Store,
+    edition: Edition,
+    fresh: Vec<u8>,
+    store: Vec<u8>,
     work: Vec<u8>,
     answers: Vec<u8>,
 }
 
 impl Bench {
-    pub fn new() -> Bench {
-        let (fresh, answers) = (Store::fresh(), vec![0; EVENTS * ANSWER_BYTES]);
-        Bench { store: fresh.clone(), fresh, work: vec![0; WORK_BYTES], answers }
+    pub fn new(edition: Edition) -> Bench {
+        let (fresh, answers) = (Store::fresh(edition).bytes().to_vec(), vec![0; EVENTS * ANSWER_BYTES]);
+        Bench { edition, store: fresh.clone(), fresh, work: vec![0; edition.work_bytes()], answers }
     }
 
     fn engine(&mut self, events: &[u8]) -> u8 {
-        raw::run(self.store.bytes_mut(), events, &mut self.work, &mut self.answers)
+        raw::run(&mut self.store, events, &mut self.work, &mut self.answers)
+    }
+
+    fn engine_edition2(&mut self, events: &[u8]) -> u8 {
+        raw::edition2::run(&mut self.store, events, &mut self.work, &mut self.answers)
     }
 
     fn player(&mut self, events: &[u8]) -> u8 {
-        nekahuiro_player::run(self.store.bytes_mut(), events, &mut self.work, &mut self.answers)
+        nekahuiro_player::run(&mut self.store, events, &mut self.work, &mut self.answers)
+    }
+
+    fn player_edition2(&mut self, events: &[u8]) -> u8 {
+        Edition2::run(&mut self.store, events, &mut self.work, &mut self.answers)
     }
 
     fn tuned(&mut self, events: &[u8]) -> u8 {
-        nekahuiro_tuned::run(self.store.bytes_mut(), events, &mut self.work, &mut self.answers)
+        nekahuiro_tuned::run(&mut self.store, events, &mut self.work, &mut self.answers)
+    }
+
+    fn tuned_edition2(&mut self, events: &[u8]) -> u8 {
+        nekahuiro_tuned::run_edition2(&mut self.store, events, &mut self.work, &mut self.answers)
     }
 
     fn floor(&mut self, events: &[u8]) -> u8 {
@@ -71,24 +103,30 @@ impl Bench {
         0
     }
 
+    fn floor_edition2(&mut self, events: &[u8]) -> u8 {
+        let pairs = events.chunks_exact(8).zip(self.answers.chunks_exact_mut(ANSWER_BYTES));
+        for (word, answer) in pairs {
+            answer.copy_from_slice(&least_edition2(word));
+        }
+        0
+    }
+
     fn engine_one_by_one(&mut self, events: &[u8]) -> u8 {
         let mut state = State::new();
         let Bench { store, work, answers, .. } = self;
-        one_by_one(events, answers, |word, answer| raw::portion(&mut state, store.bytes_mut(), word, work, answer))
+        one_by_one(events, answers, |word, answer| raw::portion(&mut state, store, word, work, answer))
     }
 
     fn player_one_by_one(&mut self, events: &[u8]) -> u8 {
         let mut volatile = Volatile::default();
         let Bench { store, work, answers, .. } = self;
-        one_by_one(events, answers, |word, answer| {
-            nekahuiro_player::portion(&mut volatile, store.bytes_mut(), word, work, answer)
-        })
+        one_by_one(events, answers, |word, answer| nekahuiro_player::portion(&mut volatile, store, word, work, answer))
     }
 
     fn tuned_one_by_one(&mut self, events: &[u8]) -> u8 {
         let mut tuned = Tuned::default();
         let Bench { store, work, answers, .. } = self;
-        one_by_one(events, answers, |word, answer| tuned.portion(store.bytes_mut(), word, work, answer))
+        one_by_one(events, answers, |word, answer| tuned.portion(store, word, work, answer))
     }
 
     fn floor_one_by_one(&mut self, events: &[u8]) -> u8 {
@@ -100,7 +138,7 @@ impl Bench {
 
     /// Plays a list on a fresh store; how many nanoseconds it took.
     pub fn time(&mut self, program: Program, events: &[u8]) -> Outcome<f64> {
-        self.store = self.fresh.clone();
+        self.store.copy_from_slice(&self.fresh);
         let start = Instant::now();
         let number = program(self, black_box(events));
         let time = start.elapsed().as_secs_f64() * 1e9;
@@ -109,7 +147,7 @@ impl Bench {
             0 => Ok(time),
             _ => Err(Failure::new(
                 &format!("a run was refused with {number}"),
-                "make the library again with `rt staticlib nekahuiro`",
+                &format!("make the library again with `rt staticlib {}`", library(self.edition)),
             )),
         }
     }
@@ -119,18 +157,31 @@ impl Bench {
 fn least(word: &[u8]) -> [u8; ANSWER_BYTES] {
     let word = u32::from_be_bytes([word[0], word[1], word[2], word[3]]);
     let (transaction, record, offset) = (word >> 23 & 31, word >> 19 & 15, word >> 14 & 31);
+    branched(word >> 28, transaction, record, offset, word >> 8 & 63, word & 1)
+}
+
+/// The same for a word of edition 2.
+fn least_edition2(word: &[u8]) -> [u8; ANSWER_BYTES] {
+    let word = u64::from_be_bytes([word[0], word[1], word[2], word[3], word[4], word[5], word[6], word[7]]) >> 28;
+    let (transaction, record, offset) = (word >> 27 & 31, word >> 21 & 63, word >> 16 & 31);
+    let [transaction, record, offset] = [transaction, record, offset].map(|field| field as u32);
+    branched((word >> 32) as u32, transaction, record, offset, (word >> 8 & 255) as u32, (word & 1) as u32)
+}
+
+#[inline(always)]
+fn branched(kind: u32, transaction: u32, record: u32, offset: u32, count: u32, one: u32) -> [u8; ANSWER_BYTES] {
     // The empty asides keep the arms apart, so that there is a branch.
     let aside = |value: u32| {
         black_box(());
         value
     };
-    let value = match word >> 28 {
+    let value = match kind {
         1 => aside(transaction),
         2 => aside(record + transaction),
         3 => aside(offset ^ record),
         4 => aside(offset + transaction),
-        5 => aside(word >> 8 & 63),
-        6 => aside(word & 1),
+        5 => aside(count),
+        6 => aside(one),
         7 | 8 => aside(0),
         _ => return [1, 0],
     };

@@ -4,6 +4,7 @@ use super::programs::{races, Bench, Race, NAMES, WAYS};
 use super::ratios;
 use crate::failure::Outcome;
 use nekahuiro::limits::EVENTS;
+use nekahuiro::Edition;
 use std::fmt::Write;
 
 /// Rounds; each has new lists of every kind.
@@ -13,15 +14,16 @@ const TURNS: usize = 3;
 
 pub fn text() -> Outcome<String> {
     let races = races();
-    let mut bench = Bench::new();
+    let mut benches = Edition::ALL.map(Bench::new);
     let mut taken = vec![[const { Vec::new() }; NAMES.len()]; races.len()];
     for round in 0..ROUNDS {
-        // One event at a time is slower: fewer rounds do.
+        // One event at a time is slower, and edition 2 comes beside: fewer rounds do.
         let raced = if round % 4 == 0 { races.len() } else { races.len() / WAYS.len() };
-        for (Race { make, programs, .. }, taken) in races.iter().zip(&mut taken).take(raced) {
-            let events = make(round as u64);
+        for (race, taken) in races.iter().zip(&mut taken).take(raced) {
+            let events = race.list(round as u64);
+            let bench = &mut benches[usize::from(race.edition == Edition::SECOND)];
             for _ in 0..TURNS {
-                for (program, taken) in programs.iter().zip(taken.iter_mut()) {
+                for (program, taken) in race.programs.iter().zip(taken.iter_mut()) {
                     taken.push(bench.time(*program, &events)? / EVENTS as f64);
                 }
             }
