@@ -83,7 +83,7 @@ fails "show --diff of two editions" 4 "told2 is a store of edition 2, and first1
 # Page writes, one transaction at a time, event words.
 "$run" fresh planned2 --edition 2 >/dev/null; cp planned2 still2
 text 'recover\nbegin none\nlock 0 63\nwrite 0 63 0 05\nlock 0 2\nwrite 0 2 1 06\ncommit 0 4\nrecover\n' plan2
-ok "plan" "^ {32}2  page   0  25200000 00000000 01040000 .* commit page, committed: 2, 63$" "$run" plan planned2 plan2
+ok "plan" "^ {33}2  page   0  25200000 00000000 01040000 .* commit page, committed: 2, 63$" "$run" plan planned2 plan2
 holds "intention pages come first, rising" test "$(grep -oE 'page +[0-9]+  [0-9A-F]{8}' out | head -2 | tr -s ' ' | tr '\n' ',')" = "page 3 00060000,page 64 05000000,"
 holds "then the commit page and home pages" test "$(grep -oE '  page +[0-9]+ ' out | tr -dc '0-9\n' | tr '\n' ' ')" = "3 64 0 67 128 0 67 128 0 "
 holds "two of them are cut" grep -qx "8 events: 9 page writes, 2 not made" out
@@ -116,10 +116,13 @@ fails "a bad line ends it" 4 "standard input: the record .64. isn't a number fro
 "$run" shell typed2 >out 2>err < <(printf 'recover\nbegin none\n'; soon grep -q begins out; "$run" put typed2 0 01 >/dev/null; echo 'lock 0 5'); status=$?
 [ $status = 3 ] && grep -q "typed2 was changed by another command since the last event" err; report "a store that another command changed" $?
 cp before2 typed2
-(yes 'begin none
-lock 0 1
-abort 0' | head -15000; echo 'begin none'; echo 'lock 0 1'; yes 'write 0 1 0 07' | head -20; echo 'commit 0') | sed '1i recover' >endless2
-ok "many events one by one, as long as few are live" "^done, 4 page writes$" "$run" shell typed2 <(:) <<<"$(head -600 endless2; tail -23 endless2)"
+(echo recover; for try in {1..60}; do printf 'begin none\nlock 0 1\nwrite 0 1 0 07\nabort 0\n'; done; printf 'begin none\nlock 0 1\nwrite 0 1 0 07\ncommit 0\n') >many2
+ok "many events, of which few are live at a time" "^done, 4 page writes$" "$run" shell typed2 <many2
+(printf 'recover\nbegin none\nlock 0 1\n'; yes 'write 0 1 0 08' | head -4093; echo 'read 0 1 0') >full2
+ok "as many as are played at once" "^the byte is 08$" "$run" shell typed2 < <(grep -v read full2 | head -4095; tail -1 full2)
+fails "one more" 4 "4096 events are live, and no more can be played at once \(refusal 20\)" "$run" shell typed2 <full2
+holds "and what to do" grep -q "begin again: what is live is lost, as by a crash; no file was changed" err
+ok "nothing of it is in the store" "^070{62}$" "$run" get typed2 1
 
 # Plays at once wait for each other, and a kill leaves the old store or the new one.
 "$run" fresh busy2 --edition 2 >/dev/null
