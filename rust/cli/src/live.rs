@@ -16,7 +16,7 @@ pub enum Live {
     /// Edition 1 is played in portions on a lent state.
     Lent(Box<Kept>),
     /// Edition 2 isn't: what is live is played again before each event.
-    Again(Again),
+    Again(Box<Again>),
 }
 
 /// A run of edition 2 as far as something of it is live.
@@ -34,12 +34,12 @@ impl Live {
     /// Down, with nothing live.
     pub fn start(store: &Store) -> Live {
         match store.edition {
-            Edition::SECOND => Live::Again(Again {
+            Edition::SECOND => Live::Again(Box::new(Again {
                 before: store.clone(),
                 words: Vec::new(),
                 follower: Follower::down(store.edition),
                 versions: Versions::new(),
-            }),
+            })),
             _ => Live::Lent(Box::default()),
         }
     }

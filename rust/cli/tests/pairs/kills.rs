@@ -1,4 +1,5 @@
-//! A play or a put that is killed leaves the old pair of store and state file, or the new one.
+//! A play or a put that is killed leaves the old pair of store and state file, or the new one; in edition 2 the old
+//! store or the new one.
 
 use crate::folder::Folder;
 use std::thread::sleep;
@@ -22,14 +23,19 @@ fn write(folder: &Folder, [store, state]: &Pair) {
 /// What plays a list.
 const PLAY: &str = "play store list --state state";
 
+/// The commands that make a store, play the start on it, and play nothing.
+type Commands = [&'static str; 3];
+const WITH_STATE: Commands = ["fresh store", "play store start --state state", "play store nothing --state state"];
+const EDITION_2: Commands = ["fresh store --edition 2", "play store start", "play store nothing"];
+
 /// Kills a command at random moments.
-fn kill(kills: usize, name: &str, command: &str, list: &str, changes_store: bool) {
+fn kill(kills: usize, name: &str, [fresh, start, nothing]: Commands, command: &str, list: &str, changes_store: bool) {
     let folder = Folder::new(&name.replace(' ', "-"));
-    folder.run("fresh store");
-    folder.write("start", "recover 63\nbegin none\nbegin none\nlock 0 3\nwrite 0 3 0 A5\nlock 1 5\nwrite 1 5 0 5A\n");
+    folder.run(fresh);
+    folder.write("start", "recover\nbegin none\nbegin none\nlock 0 3\nwrite 0 3 0 A5\nlock 1 5\nwrite 1 5 0 5A\n");
     folder.write("list", list);
     folder.write("nothing", "");
-    folder.run("play store start --state state");
+    folder.run(start);
     let old = read(&folder);
     let start = Instant::now();
     folder.run(command);
@@ -44,8 +50,9 @@ fn kill(kills: usize, name: &str, command: &str, list: &str, changes_store: bool
         sleep(Duration::from_micros((chance >> 33) % (whole + whole / 4)));
         child.kill().expect("a process to kill");
         let output = child.wait_with_output().expect("an end");
-        halfway += usize::from(changes_store && folder.read("store") == new[0] && folder.read("state") == old[1]);
-        folder.run("play store nothing --state state");
+        let has_both = changes_store && old[1] != new[1];
+        halfway += usize::from(has_both && folder.read("store") == new[0] && folder.read("state") == old[1]);
+        folder.run(nothing);
         let found = read(&folder);
         assert!(found == old || found == new, "neither the old pair nor the new one");
         assert!(found == new || output.stdout.is_empty(), "told as done, and not done");
@@ -60,15 +67,22 @@ fn kill(kills: usize, name: &str, command: &str, list: &str, changes_store: bool
 
 #[test]
 fn kills_of_a_play_that_leaves_the_store() {
-    kill(KILLS, "a play that leaves the store", PLAY, "write 0 3 1 11\nbegin 1\nlock 2 7\n", false);
+    kill(KILLS, "a play that leaves the store", WITH_STATE, PLAY, "write 0 3 1 11\nbegin 1\nlock 2 7\n", false);
 }
 
 #[test]
 fn kills_of_a_play_that_changes_the_store() {
-    kill(KILLS, "a play that changes the store", PLAY, "commit 0 63\nbegin none\nlock 0 7\n", true);
+    kill(KILLS, "a play that changes the store", WITH_STATE, PLAY, "commit 0 63\nbegin none\nlock 0 7\n", true);
 }
 
 #[test]
 fn kills_of_a_put() {
-    kill(KILLS / 2, "a put", "put store 7 77 --state state", "", true);
+    kill(KILLS / 2, "a put", WITH_STATE, "put store 7 77 --state state", "", true);
+}
+
+#[test]
+fn kills_in_edition_2() {
+    let list = "recover\nbegin none as top\nlock top 63\nwrite top 63 0 77\ncommit top 3\n";
+    kill(KILLS / 2, "a play in edition 2", EDITION_2, "play store list", list, true);
+    kill(KILLS / 4, "a put in edition 2", EDITION_2, "put store 63 77", "", true);
 }
