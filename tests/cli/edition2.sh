@@ -124,6 +124,14 @@ fails "one more" 4 "4096 events are live, and no more can be played at once \(re
 holds "and what to do" grep -q "begin again: what is live is lost, as by a crash; no file was changed" err
 ok "nothing of it is in the store" "^070{62}$" "$run" get typed2 1
 
+# A list is read before its store: if the store is of another edition by then, nothing is played.
+cp before2 swapped2; mkfifo pipe2
+"$binary" play swapped2 pipe2 >out 2>err & player=$!
+exec 9>pipe2; "$run" fresh swapped2 --force >/dev/null; cp swapped2 first2; echo recover >&9; exec 9>&-
+wait $player; status=$?
+[ $status = 3 ] && grep -q "swapped2 was changed by somebody else: it is of another edition now" err; report "a store of another edition by then" $?
+same "which stays" swapped2 first2
+
 # Plays at once wait for each other, and a kill leaves the old store or the new one.
 "$run" fresh busy2 --edition 2 >/dev/null
 for try in 1 2 3 4 5 6 7 8; do "$run" put busy2 "$((try + 50))" "0$try" >/dev/null 2>"err$try" & done; wait

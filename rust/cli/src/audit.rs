@@ -9,7 +9,7 @@ use crate::trace::what_happened;
 use crate::{list, say};
 use nekahuiro::audit::{audit, Verdict};
 use nekahuiro::limits::{ANSWER_BYTES, EVENT_BYTES};
-use nekahuiro::{describe, Answer, Edition, Refusal, Store};
+use nekahuiro::{describe, Answer, Edition, Store};
 
 /// More than the answers of any list that is audited.
 const LIMIT: usize = 1 << 20;
@@ -57,12 +57,9 @@ fn need_audited(path: &str) -> Outcome {
 
 /// Reads a store of edition 1.
 fn first(path: &str) -> Outcome<Store> {
-    let store = read_store(path)?;
-    Store::of(store.bytes()).or_else(|_| need_audited(path).and_then(|()| Err(no_store(path))))
-}
-
-fn no_store(path: &str) -> Failure {
-    Failure::refused(&format!("{path} is no store of edition 1 ({})", Refusal::Store), "name one, and try again")
+    Store::of(read_store(path)?.bytes()).map_err(|refusal| {
+        Failure::refused(&format!("{path} is no store of edition 1 ({refusal})"), "name a store of edition 1")
+    })
 }
 
 /// What event `at` should have answered, and why.

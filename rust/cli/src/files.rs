@@ -16,9 +16,10 @@ pub fn read_store(path: &str) -> Outcome<Store> {
     let longest = Edition::SECOND.store_bytes();
     let bytes = read_up_to(path, longest + 1)
         .map_err(|error| cant_read(path, &error, "check the name; `./nekahuiro fresh STORE` makes a store"))?;
-    let found =
-        length_in_words(path, bytes.len(), if bytes.len() > longest { Edition::FIRST.store_bytes() } else { longest });
+    let read = bytes.len();
     Store::of(bytes).ok_or_else(|| {
+        // Of what is longer than any store and has no end, it is told that it is longer than one of edition 1.
+        let found = length_in_words(path, read, if read > longest { Edition::FIRST.store_bytes() } else { longest });
         let mend = "name a store; `./nekahuiro fresh STORE` makes one";
         Failure::refused(&format!("{path} is no store: it has {found} ({})", Refusal::Store), mend)
     })

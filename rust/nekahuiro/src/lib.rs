@@ -69,7 +69,8 @@
 //! [`State`] and a [`Work`] that the caller keeps from one portion to the next. A [`Session`] keeps all three,
 //! and has a method for each thing to do.
 //!
-//! A store of edition 2 has sixty-four records: the feature `edition2` has a module for it.
+//! A store of edition 2 has sixty-four records: the feature `edition2` has a module for it. Where the edition is known
+//! only when the program runs, an [`Edition`] reads words and commit pages into the types of [`any`].
 //!
 //! All this changes a copy of the store in memory. A [`Device`] brings it to a [`Medium`], page write by page
 //! write, so that the power may go at any moment; `docs/DEVICE.md` says what a medium owes.
