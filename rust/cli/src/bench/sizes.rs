@@ -53,5 +53,10 @@ fn stack(edition: Edition, root: &Path) -> Option<String> {
     let _ = std::fs::remove_file(&program);
     let output = output.ok().filter(|output| compiled && output.status.success())?;
     let text = String::from_utf8_lossy(&output.stdout).to_string();
-    Some(text.lines().map(|line| line.trim_start_matches("stack: ")).collect::<Vec<_>>().join("; "))
+    Some(
+        text.lines()
+            .map(|line| line.trim_start_matches("stack: ").trim_start_matches("edition 2 uses "))
+            .collect::<Vec<_>>()
+            .join("; "),
+    )
 }
