@@ -5,7 +5,8 @@
  * to every function is said there, with NEKAHUIRO_EDITION2_STACK_BYTES of free stack here; so are the events,
  * the rules of locks, the answers and their numbers. Below stands only what differs.
  *
- * Edition 2 has no prepare, decide and query, no portions and no page writes one by one.
+ * Edition 2 has no prepare, decide and query and no portions. Its page writes are told one by one after a
+ * list, nekahuiro_page_write_edition2.
  */
 #ifndef NEKAHUIRO_EDITION2_H
 #define NEKAHUIRO_EDITION2_H
@@ -29,7 +30,7 @@ extern "C" {
 /* A count with which no power cut comes: the longest commit makes 130 page writes. */
 #define NEKAHUIRO_EDITION2_NO_CUT 255
 /* More stack than any call here uses. */
-#define NEKAHUIRO_EDITION2_STACK_BYTES 8192
+#define NEKAHUIRO_EDITION2_STACK_BYTES 16384
 
 /* The store, page by page
  *
@@ -63,6 +64,25 @@ uint8_t nekahuiro_run_edition2(uint8_t *store, size_t store_size,
                                const uint8_t *events, size_t events_size,
                                uint8_t *work, size_t work_size,
                                uint8_t *answers, size_t answers_size);
+
+/* Says the page write number `index`, from 0, that an event makes after a list, if nothing cuts it: for a
+ * device that programs its medium page by page and in this order (docs/DEVICE.md).
+ *
+ * The list is played as nekahuiro_run_edition2 plays it, on the store, the working buffer and the answer
+ * buffer, which are left as that run leaves them: lend a copy of the store. The event, one word of 8 bytes,
+ * is asked about on the state that the list leaves, and isn't played; its count counts for nothing.
+ *
+ * Answers 0 and leaves in `write` the page's number and its 32 bytes; or 12, no such write: the event is
+ * refused or writes fewer pages, and `write` is untouched. Else, with no buffer touched: 22, 24, 20, 21, as
+ * nekahuiro_run_edition2; then 20, event_size isn't NEKAHUIRO_EDITION2_EVENT_BYTES; 21, write_size isn't
+ * NEKAHUIRO_PAGE_WRITE_BYTES.
+ */
+uint8_t nekahuiro_page_write_edition2(uint8_t *store, size_t store_size,
+                                      const uint8_t *events, size_t events_size,
+                                      uint8_t *work, size_t work_size,
+                                      uint8_t *answers, size_t answers_size,
+                                      const uint8_t *event, size_t event_size,
+                                      uint8_t index, uint8_t *write, size_t write_size);
 
 /* Lays down a fresh store: an empty commit page and zeros elsewhere.
  * Answers 0, or 22 with nothing written. */

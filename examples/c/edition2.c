@@ -142,6 +142,46 @@ static void cuts(void)
     check("  the records are the same", aged(1), 64);
 }
 
+/* The page writes of a commit of records 5 and 63, told one by one and programmed on a medium: with all of them the medium
+ * is the store that the run leaves. */
+static void page_writes(void)
+{
+    static uint8_t medium[NEKAHUIRO_EDITION2_STORE_BYTES], copy[NEKAHUIRO_EDITION2_STORE_BYTES];
+    static const uint8_t pages[] = {6, 64, 0, 70, 128, 0};
+    uint8_t write[NEKAHUIRO_PAGE_WRITE_BYTES], index = 0, in_order = 1, number;
+    const uint8_t *last, *commit;
+    size_t before;
+
+    memcpy(medium, store, sizeof store);
+    event(NEKAHUIRO_RECOVER, 0, 0, 0, NEKAHUIRO_EDITION2_NO_CUT, 0);
+    event(NEKAHUIRO_BEGIN, NEKAHUIRO_NO_PARENT, 0, 0, 0, 0);
+    event(NEKAHUIRO_LOCK, 0, 63, 0, 0, NEKAHUIRO_WRITE_MODE);
+    event(NEKAHUIRO_WRITE, 0, 63, 31, 0, 7);
+    event(NEKAHUIRO_LOCK, 0, 5, 0, 0, NEKAHUIRO_WRITE_MODE);
+    event(NEKAHUIRO_WRITE, 0, 5, 31, 0, 8);
+    before = events * NEKAHUIRO_EDITION2_EVENT_BYTES;
+    commit = list + before;
+    event(NEKAHUIRO_COMMIT, 0, 0, 0, NEKAHUIRO_EDITION2_NO_CUT, 0);
+    for (;; index++) {
+        memcpy(copy, store, sizeof store);
+        number = nekahuiro_page_write_edition2(copy, sizeof copy, list, before, work, sizeof work, answers, sizeof answers,
+                                               commit, NEKAHUIRO_EDITION2_EVENT_BYTES, index, write, sizeof write);
+        if (number != NEKAHUIRO_DONE)
+            break;
+        in_order &= index < sizeof pages && write[0] == pages[index];
+        memcpy(medium + write[0] * NEKAHUIRO_PAGE_BYTES, write + 1, NEKAHUIRO_PAGE_BYTES);
+    }
+    check("after a list, the page writes of a commit are told one by one", number, NEKAHUIRO_NO_SUCH_WRITE);
+    check("  there are six", index, 6);
+    check("  intention pages, commit page, home pages, commit page", in_order, 1);
+    check("  the copy is left as the list leaves it, and the event isn't played", memcmp(copy, store, sizeof store), 0);
+    check("then the commit is played", play(&last), NEKAHUIRO_DONE);
+    check("  the medium is what it left", memcmp(medium, store, sizeof store), 0);
+    check("an event of 4 bytes is refused",
+          nekahuiro_page_write_edition2(store, sizeof store, list, 8, work, sizeof work, answers, sizeof answers, list, 4, 0,
+                                        write, sizeof write), NEKAHUIRO_BAD_LIST);
+}
+
 static void refused(void)
 {
     uint8_t before[NEKAHUIRO_EDITION2_STORE_BYTES];
@@ -183,6 +223,7 @@ int main(void)
 {
     make_old();
     cuts();
+    page_writes();
     refused();
     if (failures) {
         printf("%d results are wrong\n", failures);

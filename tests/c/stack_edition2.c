@@ -19,7 +19,8 @@ static void *calls(void *unused)
 {
     static uint8_t store[NEKAHUIRO_EDITION2_STORE_BYTES], work[NEKAHUIRO_EDITION2_WORK_BYTES];
     static uint8_t list[NEKAHUIRO_EDITION2_LIST_BYTES], answers[NEKAHUIRO_EVENTS * NEKAHUIRO_ANSWER_BYTES];
-    size_t at = 0;
+    uint8_t write[NEKAHUIRO_PAGE_WRITE_BYTES];
+    size_t at = 0, top;
     int64_t age = 0;
 
     put(list, at++, NEKAHUIRO_RECOVER, 0, 0, NEKAHUIRO_EDITION2_NO_CUT);
@@ -34,6 +35,7 @@ static void *calls(void *unused)
         }
         put(list, at++, NEKAHUIRO_COMMIT, t, 0, t == 0 ? 80 : NEKAHUIRO_EDITION2_NO_CUT);
     }
+    top = at - 1;
     put(list, at++, NEKAHUIRO_RECOVER, 0, 0, NEKAHUIRO_EDITION2_NO_CUT);
     put(list, at++, NEKAHUIRO_BEGIN, NEKAHUIRO_NO_PARENT, 0, 0);
     put(list, at++, NEKAHUIRO_ABORT, 0, 0, 0);
@@ -44,6 +46,10 @@ static void *calls(void *unused)
              /* The recover wrote all records home. */
              && answers[(at - 4) * NEKAHUIRO_ANSWER_BYTES] == NEKAHUIRO_DONE
              && answers[(at - 4) * NEKAHUIRO_ANSWER_BYTES + 1] == NEKAHUIRO_EDITION2_RECORDS + 1
+             && nekahuiro_page_write_edition2(store, sizeof store, list, top * NEKAHUIRO_EDITION2_EVENT_BYTES, work, sizeof work,
+                                              answers, sizeof answers, list + top * NEKAHUIRO_EDITION2_EVENT_BYTES,
+                                              NEKAHUIRO_EDITION2_EVENT_BYTES, 128, write, sizeof write) == NEKAHUIRO_DONE
+             && write[0] == 128
              && nekahuiro_age_edition2(store, sizeof store, 63, 5, 10, &age) <= NEKAHUIRO_STALE;
     return unused;
 }

@@ -3,3 +3,4 @@ pub mod Plan
 pub mod Device
 pub mod Laying
 pub mod Asked
+pub mod After

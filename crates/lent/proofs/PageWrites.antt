@@ -4,10 +4,8 @@ use mathlib.Core.Bool.{Bool, true, false, not, cond, true≢false}
 use mathlib.Core.List.{List, [], _∷_, _++_}
 use mathlib.Core.Logic.{_≢_}
 use mathlib.Core.Option.{Option, none, some}
-use Prim.Native.Nat.{ℕ, _*_}
-use native.Mathlib.Omega.{arith}
-use lib.ListN.{length, take, drop, replicate}
-use lib.Seq.{take-all}
+use Prim.Native.Nat.{ℕ}
+use lib.ListN.{length, replicate}
 use Rattle.laws.specs.Bytes.{number}
 use Rattle.rules.specs.Geometry.{records, open-geometry}
 use Rattle.rules.specs.Event.{Event, decode}
@@ -27,10 +25,6 @@ use Rattle.lengths.specs.Lengths.{questionRefused, refusalNumber}
 use Rattle.lengths.proofs.Lengths.{question-of}
 use Rattle.lent.specs.Portions.{Kept, view, Proper}
 use Rattle.lent.specs.PageWrites.{Told-as, Told-one}
-
--- the word of four bytes
-pub word-is : (bs : List ℕ) → length bs ≡ 4 → number (take 4 (drop (4 * 0) bs)) ≡ number bs
-word-is bs h = ap number (take-all 4 bs (omega (arith, h)))
 
 -- refusals, then one more
 first-more : (xs : List (ℕ × Bool)) (n : ℕ) (b : Bool) (m : ℕ) → firstOf xs ≡ some m → firstOf (xs ++ ((n, b) ∷ [])) ≡ some m

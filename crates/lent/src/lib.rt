@@ -22,6 +22,9 @@ const RECORDS: usize = 16;
 // The bytes of an event word.
 const WORD: usize = 4;
 
+// Transactions can be prepared.
+const JOINT: bool = true;
+
 const STORE: usize = 1056;
 
 // The spare bytes are zeros.
@@ -141,9 +144,11 @@ pub fn page_write_of(
         e.up,
         &parent,
         &depth,
-        &writers,
+        &writers[..],
         work,
         store,
+        RECORDS,
+        JOINT,
         Event::of_word(&table, word),
         index,
         write,

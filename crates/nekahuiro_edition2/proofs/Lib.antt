@@ -1,1 +1,2 @@
--- The arguments of this crate stand beside its functions.
+-- The arguments of this crate.
+pub mod PageWrites

@@ -1,13 +1,15 @@
-// Edition 2's open operations (document 02, L7): a run, a fresh store and the age of a record. Any bytes may come in; each refuses or does what the rules
-// say, with sixty-four records.
+// Edition 2's open operations (document 02, L7): a run, the page writes of an event after a list, a fresh store and the age of a record. Any bytes may come
+// in; each refuses or does what the rules say, with sixty-four records.
 ghost use mathlib.Core.Path.{_≡_};
 ghost use Rattle.rules.specs.Run.{layFresh};
 ghost use Rattle.rules.specs.Age.{ageOf};
-ghost use Rattle.rules.specs.Editions.{edition2};
+ghost use Rattle.rules.specs.Editions.{geometry2, edition2};
 ghost use Rattle.history.specs.Demand3.{Demand-3};
 ghost use Rattle.serial.specs.OneAtATime.{One-run-at-a-time};
 ghost use Rattle.records.specs.Ages.{ageNumber, ageLeft};
 ghost use Rattle.running.specs.Running.{Ran};
+ghost use Rattle.device.specs.After.{Told-after};
+use event::edition2::Edition2;
 
 const RECORDS: usize = 64;
 
@@ -69,6 +71,66 @@ pub extern "C" fn nekahuiro_run_edition2(
     if n != 0 {
         return n;
     }
-    portions_edition2::portion(portions_edition2::start(), store, events, work, answers);
+    portions_edition2::from_start(store, events, work, answers);
     0
+}
+
+// Plays a list as a run does, and then says the page write number `index`, from 0, that an event makes on the state that the list leaves if nothing cuts
+// it: 0, with the page's number and the page in `write`; or 12, no such write; or refused with 22, 24, 20 or 21 as a run with the list is, and then with
+// 20 where the event isn't eight bytes or 21 where `write` isn't 33, and then touches no buffer. The event isn't played.
+#[no_mangle]
+pub extern "C" fn nekahuiro_page_write_edition2(
+    store: &mut [u8],
+    events: &[u8],
+    work: &mut [u8],
+    answers: &mut [u8],
+    event: &[u8],
+    index: u8,
+    write: &mut [u8],
+) -> u8
+    ensures { λ r.
+        ⌜ Told-after geometry2 (now (store .entry)) (now (events .entry)) (now (work .entry)) (now (answers .entry)) (now (event .entry)) index (now (write .entry)) r
+        (now (store .exit)) (now (work .exit)) (now (answers .exit)) (now (write .exit)) ⌝ }
+{
+    let unplayed = lengths::refusal(
+        RECORDS,
+        WORD,
+        store.len(),
+        events.len(),
+        work.len(),
+        answers.len(),
+    );
+    if unplayed != 0 {
+        return unplayed;
+    }
+    let wrong = lengths::question(
+        RECORDS,
+        WORD,
+        store.len(),
+        event.len(),
+        work.len(),
+        write.len(),
+    );
+    if wrong != 0 {
+        return wrong;
+    }
+    let ended = portions_edition2::from_start(store, events, work, answers);
+    let parent = ended.parent;
+    let depth = ended.depth;
+    let writers = ended.writers;
+    let table = Edition2::table();
+    let word = Edition2::word_at(event, 0);
+    pagewrites::page_write(
+        ended.up,
+        &parent,
+        &depth,
+        &writers[..],
+        &work[..],
+        &store[..],
+        RECORDS,
+        JOINT,
+        Edition2::of_word(&table, word),
+        index,
+        write,
+    )
 }

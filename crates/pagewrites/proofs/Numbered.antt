@@ -1,64 +1,68 @@
 -- The page write with a number, phase by phase: which phase it is in, and which record it is of.
-use mathlib.Core.Path.{_≡_, refl, sym, ap, _∙_}
+use mathlib.Core.Path.{_≡_, refl, sym, ap, subst⁻¹, _∙_}
 use mathlib.Core.Bool.{Bool, true, false, cond, _&&_}
 use mathlib.Core.List.{List, [], _∷_, _++_, map, append-nil}
 use mathlib.Core.Option.{Option, none, some}
-use Prim.Native.Nat.{ℕ, zero, suc, _+_, _-_, _*_, _≤_, _<_}
+use Prim.Native.Nat.{ℕ, zero, suc, _+_, _-_, _*_, _^_, _≤_, _<_}
+use native.Mathlib.Nat.{mul-zero}
 use native.Mathlib.Numerals.{add-one}
 use borrow.Rule.Slice.PartMut.{putMid}
-use mathlib.Core.Logic.{dite}
+use mathlib.Core.Logic.{dite, inl, inr}
 use native.Mathlib.Decide.{decLt}
 use native.Mathlib.Omega.{arith}
-use lib.ListN.{length, getD, set, drop, length-append, length-map}
-use lib.Seq.{getD-append-seam, drop-length}
+use lib.ListN.{length, getD, set, take, drop, length-append, length-map}
+use lib.Seq.{getD-append-seam, drop-length, take-all}
 use Rattle.laws.specs.Tests.{same}
+use Rattle.laws.specs.Bytes.{number}
 use Rattle.laws.specs.Counting.{count, those}
 use Rattle.laws.proofs.Tests.{Same, same?, is, isnt}
 use Rattle.laws.proofs.Those.{those-length}
-use Rattle.rules.specs.Geometry.{records}
+use Rattle.rules.specs.Geometry.{Geometry, records}
 use Rattle.rules.specs.Store.{Page, pagesOf, named, commitPage, preparedPage}
 use Rattle.rules.specs.Commit.{PageWrite, sets}
-use Rattle.rules.specs.Editions.{geometry1, depths}
+use Rattle.rules.specs.Editions.{geometry1, geometry2, depths}
 use Rattle.page.proofs.Pages.{put-at}
 use Rattle.rules.specs.State.{mem}
 use Rattle.rules.proofs.Members.{mem-head, mem-later, those-below}
 use Rattle.device.specs.Plan.{writeAt}
 use Rattle.device.specs.Asked.{told}
 use Rattle.commitpage.specs.Heard.{prepared}
+use Rattle.commitpage.specs.Layout.{Known, Layout}
+use Rattle.commitpage.proofs.Places.{layout1, layout2}
 use Rattle.commit.specs.Phase.{sweep, copies, topSlot}
 use Rattle.pagewrites.specs.declared.Plan.{Plan}
 use Rattle.pagewrites.specs.Phases.{sourceOf, when, writesOf}
 
--- THE RECORD WITH A NUMBER, among those that a test picks
-module _ (p : ℕ → Bool) where
-  early : (xs ys : List ℕ) (n : ℕ) → n < length xs → getD (xs ++ ys) n 16 ≡ getD xs n 16
+-- THE RECORD WITH A NUMBER, among those below d that a test picks; d where there is none
+module _ (p : ℕ → Bool) (d : ℕ) where
+  early : (xs ys : List ℕ) (n : ℕ) → n < length xs → getD (xs ++ ys) n d ≡ getD xs n d
   early [] ys n h = absurd (omega arith)
   early (x ∷ xs) ys zero h = refl
   early (x ∷ xs) ys (suc n) h = early xs ys n (omega arith)
 
-  late : (xs : List ℕ) (n : ℕ) → length xs ≤ n → getD xs n 16 ≡ 16
+  late : (xs : List ℕ) (n : ℕ) → length xs ≤ n → getD xs n d ≡ d
   late [] n h = refl
   late (x ∷ xs) zero h = absurd (omega arith)
   late (x ∷ xs) (suc n) h = late xs n (omega arith)
 
   -- one number more at the end
-  behind : (xs : List ℕ) (r n : ℕ) → getD (xs ++ (r ∷ [])) n 16 ≡ cond (same (length xs) n) r (getD xs n 16)
+  behind : (xs : List ℕ) (r n : ℕ) → getD (xs ++ (r ∷ [])) n d ≡ cond (same (length xs) n) r (getD xs n d)
   behind xs r n = go (same? (length xs) n)
     where
-      go : Same (length xs) n → getD (xs ++ (r ∷ [])) n 16 ≡ cond (same (length xs) n) r (getD xs n 16)
-      go (is e q _) = rw (q, ← e) (getD-append-seam xs r [] 16)
+      go : Same (length xs) n → getD (xs ++ (r ∷ [])) n d ≡ cond (same (length xs) n) r (getD xs n d)
+      go (is e q _) = rw (q, ← e) (getD-append-seam xs r [] d)
       go (isnt e q _) = rw q (
           dite (decLt n (length xs))
           (λ h. early xs (r ∷ []) n h)
           (λ h. late (xs ++ (r ∷ [])) n (rw (length-append xs (r ∷ [])) (omega (arith, e, h))) ∙ sym (late xs n (omega (arith, e, h)))))
 
-  pub next-record : (r n : ℕ) → getD (those (suc r) p) n 16 ≡ cond (p r && same (count r p) n) r (getD (those r p) n 16)
+  pub next-record : (r n : ℕ) → getD (those (suc r) p) n d ≡ cond (p r && same (count r p) n) r (getD (those r p) n d)
   unfolding those
   next-record r n = go (p r)
     where
-      go : (b : Bool) → getD (those r p ++ cond b (r ∷ []) []) n 16 ≡ cond (b && same (count r p) n) r (getD (those r p) n 16)
+      go : (b : Bool) → getD (those r p ++ cond b (r ∷ []) []) n d ≡ cond (b && same (count r p) n) r (getD (those r p) n d)
       go true = behind (those r p) r n ∙ rw (those-length r p)
-      go false = ap (λ (xs : List ℕ). getD xs n 16) (append-nil (those r p))
+      go false = ap (λ (xs : List ℕ). getD xs n d) (append-nil (those r p))
 
   pub next-count : (r : ℕ) → count (suc r) p ≡ cond (p r) (count r p + 1) (count r p)
   unfolding count
@@ -69,13 +73,13 @@ module _ (p : ℕ → Bool) where
       go false = refl
 
   -- the record with a number that there is
-  among : (xs : List ℕ) (n : ℕ) → n < length xs → mem (getD xs n 16) xs ≡ true
+  among : (xs : List ℕ) (n : ℕ) → n < length xs → mem (getD xs n d) xs ≡ true
   among [] n h = absurd (omega arith)
   among (x ∷ xs) zero h = mem-head x xs
-  among (x ∷ xs) (suc n) h = mem-later (getD xs n 16) x xs (among xs n (omega arith))
+  among (x ∷ xs) (suc n) h = mem-later (getD xs n d) x xs (among xs n (omega arith))
 
-  pub record-small : (n : ℕ) → n < count 16 p → getD (those 16 p) n 16 < 16
-  record-small n h = those-below 16 p (getD (those 16 p) n 16) (among (those 16 p) n (rw (those-length 16 p) h))
+  pub record-small : (n : ℕ) → n < count d p → getD (those d p) n d < d
+  record-small n h = those-below d p (getD (those d p) n d) (among (those d p) n (rw (those-length d p) h))
 
 -- THE WRITE WITH A NUMBER, among page writes one phase after the other
 first-at : (n : ℕ) (xs ys : List PageWrite) → n < length xs → writeAt n (xs ++ ys) ≡ writeAt n xs
@@ -95,11 +99,11 @@ past-at n [] h = refl
 past-at zero (w ∷ ws) h = absurd (omega arith)
 past-at (suc n) (w ∷ ws) h = past-at n ws (omega arith)
 
-each-at : (f : ℕ → PageWrite) (n : ℕ) (rs : List ℕ) → n < length rs → writeAt n (map f rs) ≡ some (f (getD rs n 16))
+each-at : (d : ℕ) (f : ℕ → PageWrite) (n : ℕ) (rs : List ℕ) → n < length rs → writeAt n (map f rs) ≡ some (f (getD rs n d))
 unfolding writeAt
-each-at f n [] h = absurd (omega arith)
-each-at f zero (r ∷ rs) h = refl
-each-at f (suc n) (r ∷ rs) h = each-at f n rs (omega arith)
+each-at d f n [] h = absurd (omega arith)
+each-at d f zero (r ∷ rs) h = refl
+each-at d f (suc n) (r ∷ rs) h = each-at d f n rs (omega arith)
 
 -- a phase that there may be
 when-length : (b : Bool) (ws : List PageWrite) → length (when b ws) ≡ cond b (length ws) 0
@@ -113,14 +117,14 @@ one-at true zero w h = refl
 one-at true (suc n) w h = absurd (omega arith)
 one-at false n w h = absurd (omega arith)
 
-sweep-length : (p : ℕ → Bool) (f : ℕ → PageWrite) → length (sweep p f 16) ≡ count 16 p
+sweep-length : (d : ℕ) (p : ℕ → Bool) (f : ℕ → PageWrite) → length (sweep p f d) ≡ count d p
 unfolding sweep
-sweep-length p f = length-map (those 16 p) f ∙ those-length 16 p
+sweep-length d p f = length-map (those d p) f ∙ those-length d p
 
-sweep-at : (b : Bool) (n : ℕ) (p : ℕ → Bool) (f : ℕ → PageWrite) → n < cond b (count 16 p) 0 → writeAt n (when b (sweep p f 16)) ≡ some (f (getD (those 16 p) n 16))
+sweep-at : (d : ℕ) (b : Bool) (n : ℕ) (p : ℕ → Bool) (f : ℕ → PageWrite) → n < cond b (count d p) 0 → writeAt n (when b (sweep p f d)) ≡ some (f (getD (those d p) n d))
 unfolding when sweep
-sweep-at true n p f h = each-at f n (those 16 p) (rw (those-length 16 p) h)
-sweep-at false n p f h = absurd (omega arith)
+sweep-at d true n p f h = each-at d f n (those d p) (rw (those-length d p) h)
+sweep-at d false n p f h = absurd (omega arith)
 
 -- behind a phase with j page writes before it
 skip-phase : (n j k : ℕ) (xs ys : List PageWrite) → length xs ≡ k → j + k ≤ n → writeAt (n - j) (xs ++ ys) ≡ writeAt (n - (j + k)) ys
@@ -143,29 +147,35 @@ less : (there : Bool) (n : ℕ) {k : ℕ} → n < cond there k 0 → n < k
 less true n h = h
 less false n h = absurd (omega arith)
 
--- THE PHASES OF A PLAN, by the code's sums of their lengths
-module _ (p : Plan) (work store : List ℕ) (index m a b c d e : ℕ) (ones : m ≡ count (records geometry1) (named geometry1 (p .map))) (ha : a ≡ cond (p .intentions) m 0) (hb : b ≡ cond (p .committed) 1 0)
-    (hc : c ≡ cond (p .prepared) 1 0) (hd : d ≡ cond (p .homes) m 0) (he : e ≡ cond (p .emptied) 1 0) where
+-- THE PHASES OF A PLAN, by their lengths: m records are named
+pub record Lengths (p : Plan) (m a b c d e : ℕ) : Type 0 where
+  pub intentions : a ≡ cond (p .intentions) m 0
+  pub committed : b ≡ cond (p .committed) 1 0
+  pub prepared : c ≡ cond (p .prepared) 1 0
+  pub homes : d ≡ cond (p .homes) m 0
+  pub emptied : e ≡ cond (p .emptied) 1 0
+
+module _ (g : Geometry) (N : ℕ) (p : Plan) (work store : List ℕ) (index m a b c d e : ℕ) (ones : m ≡ count N (named g (p .map))) (S : Lengths p m a b c d e) where
   abbrev picks : ℕ → Bool
-  picks = named geometry1 (p .map)
+  picks = named g (p .map)
 
   abbrev pages : ℕ → ℕ → PageWrite
   pages first = copies first (sourceOf p work store)
 
   abbrev committed : PageWrite
-  committed = sets 0 (commitPage geometry1 (p .map))
+  committed = sets 0 (commitPage g (p .map))
 
   abbrev held : PageWrite
-  held = sets 0 (preparedPage geometry1 (prepared (p .map) (p .identity)))
+  held = sets 0 (preparedPage g (prepared (p .map) (p .identity)))
 
   abbrev empty : PageWrite
-  empty = sets 0 (commitPage geometry1 0)
+  empty = sets 0 (commitPage g 0)
 
   abbrev from-5 : List PageWrite
   from-5 = when (p .emptied) (empty ∷ [])
 
   abbrev from-4 : List PageWrite
-  from-4 = when (p .homes) (sweep picks (pages 17) 16) ++ from-5
+  from-4 = when (p .homes) (sweep picks (pages (1 + N)) N) ++ from-5
 
   abbrev from-3 : List PageWrite
   from-3 = when (p .prepared) (held ∷ []) ++ from-4
@@ -173,83 +183,100 @@ module _ (p : Plan) (work store : List ℕ) (index m a b c d e : ℕ) (ones : m 
   abbrev from-2 : List PageWrite
   from-2 = when (p .committed) (committed ∷ []) ++ from-3
 
-  sweeps : (there : Bool) (f : ℕ → PageWrite) (k : ℕ) → k ≡ cond there m 0 → length (when there (sweep picks f 16)) ≡ k
-  unfolding records
-  sweeps there f k h = when-length there (sweep picks f 16) ∙ ap (λ (n : ℕ). cond there n 0) (sweep-length picks f ∙ sym ones) ∙ sym h
+  sweeps : (there : Bool) (f : ℕ → PageWrite) (k : ℕ) → k ≡ cond there m 0 → length (when there (sweep picks f N)) ≡ k
+  sweeps there f k h = when-length there (sweep picks f N) ∙ ap (λ (n : ℕ). cond there n 0) (sweep-length N picks f ∙ sym ones) ∙ sym h
 
   single : (there : Bool) (w : PageWrite) (k : ℕ) → k ≡ cond there 1 0 → length (when there (w ∷ [])) ≡ k
   single there w k h = when-length there (w ∷ []) ∙ sym h
 
-  counted : (there : Bool) (k n : ℕ) → k ≡ cond there m 0 → n < k → n < cond there (count 16 picks) 0
-  unfolding records
+  counted : (there : Bool) (k n : ℕ) → k ≡ cond there m 0 → n < k → n < cond there (count N picks) 0
   counted there k n h lt = rw (← ones, ← h) lt
 
   -- from each phase on
-  after-1 : a ≤ index → writeAt index (writesOf p work store) ≡ writeAt (index - a) from-2
+  after-1 : a ≤ index → writeAt index (writesOf g N p work store) ≡ writeAt (index - a) from-2
   unfolding writesOf
-  after-1 h = ap (λ (i : ℕ). writeAt i (writesOf p work store)) (let z : index ≡ index - 0 = omega arith in z) ∙ skip-phase index 0 a (when (p .intentions) (sweep picks (pages 1) 16)) from-2 (sweeps (p .intentions) (pages 1) a ha) (omega arith) ∙ ap (λ (i : ℕ). writeAt i from-2) (let z : index - (0 + a) ≡ index - a = omega arith in z)
+  after-1 h = ap (λ (i : ℕ). writeAt i (writesOf g N p work store)) (let z : index ≡ index - 0 = omega arith in z) ∙ skip-phase index 0 a (when (p .intentions) (sweep picks (pages 1) N)) from-2 (sweeps (p .intentions) (pages 1) a (S .intentions)) (omega arith) ∙ ap (λ (i : ℕ). writeAt i from-2) (let z : index - (0 + a) ≡ index - a = omega arith in z)
 
-  after-2 : a + b ≤ index → writeAt index (writesOf p work store) ≡ writeAt (index - (a + b)) from-3
-  after-2 h = after-1 (omega arith) ∙ skip-phase index a b (when (p .committed) (committed ∷ [])) from-3 (single (p .committed) committed b hb) h
+  after-2 : a + b ≤ index → writeAt index (writesOf g N p work store) ≡ writeAt (index - (a + b)) from-3
+  after-2 h = after-1 (omega arith) ∙ skip-phase index a b (when (p .committed) (committed ∷ [])) from-3 (single (p .committed) committed b (S .committed)) h
 
-  after-3 : a + b + c ≤ index → writeAt index (writesOf p work store) ≡ writeAt (index - (a + b + c)) from-4
-  after-3 h = after-2 (omega arith) ∙ skip-phase index (a + b) c (when (p .prepared) (held ∷ [])) from-4 (single (p .prepared) held c hc) h
+  after-3 : a + b + c ≤ index → writeAt index (writesOf g N p work store) ≡ writeAt (index - (a + b + c)) from-4
+  after-3 h = after-2 (omega arith) ∙ skip-phase index (a + b) c (when (p .prepared) (held ∷ [])) from-4 (single (p .prepared) held c (S .prepared)) h
 
-  after-4 : a + b + c + d ≤ index → writeAt index (writesOf p work store) ≡ writeAt (index - (a + b + c + d)) from-5
-  after-4 h = after-3 (omega arith) ∙ skip-phase index (a + b + c) d (when (p .homes) (sweep picks (pages 17) 16)) from-5 (sweeps (p .homes) (pages 17) d hd) h
+  after-4 : a + b + c + d ≤ index → writeAt index (writesOf g N p work store) ≡ writeAt (index - (a + b + c + d)) from-5
+  after-4 h = after-3 (omega arith) ∙ skip-phase index (a + b + c) d (when (p .homes) (sweep picks (pages (1 + N)) N)) from-5 (sweeps (p .homes) (pages (1 + N)) d (S .homes)) h
 
   -- the record whose page is written
-  page-of : (first n r : ℕ) (page : Page) → r ≡ getD (those 16 picks) n 16 → page ≡ sourceOf p work store r → pages first (getD (those 16 picks) n 16) ≡ sets (first + r) page
+  page-of : (first n r : ℕ) (page : Page) → r ≡ getD (those N picks) n N → page ≡ sourceOf p work store r → pages first (getD (those N picks) n N) ≡ sets (first + r) page
   unfolding copies
   page-of first n r page q z = ap (λ (k : ℕ). sets (first + k) (sourceOf p work store k)) (sym q) ∙ ap (sets (first + r)) (sym z)
 
-  pub in-1 : index < a → (r : ℕ) (page : Page) → r ≡ getD (those 16 picks) index 16 → page ≡ sourceOf p work store r → writeAt index (writesOf p work store) ≡ some (sets (1 + r) page)
+  pub in-1 : index < a → (r : ℕ) (page : Page) → r ≡ getD (those N picks) index N → page ≡ sourceOf p work store r → writeAt index (writesOf g N p work store) ≡ some (sets (1 + r) page)
   unfolding writesOf
   in-1 h r page q z =
-      first-at index (when (p .intentions) (sweep picks (pages 1) 16)) from-2 (rw (sweeps (p .intentions) (pages 1) a ha) h)
-      ∙ sweep-at (p .intentions) index picks (pages 1) (counted (p .intentions) a index ha h)
+      first-at index (when (p .intentions) (sweep picks (pages 1) N)) from-2 (rw (sweeps (p .intentions) (pages 1) a (S .intentions)) h)
+      ∙ sweep-at N (p .intentions) index picks (pages 1) (counted (p .intentions) a index (S .intentions) h)
       ∙ ap some (page-of 1 index r page q z)
 
-  pub in-2 : a ≤ index → index < a + b → writeAt index (writesOf p work store) ≡ some committed
-  in-2 g h =
-      after-1 g ∙ in-phase index a b (when (p .committed) (committed ∷ [])) from-3 (single (p .committed) committed b hb) h g
-      ∙ one-at (p .committed) (index - a) committed (rw (← hb) (omega arith))
+  pub in-2 : a ≤ index → index < a + b → writeAt index (writesOf g N p work store) ≡ some committed
+  in-2 l h =
+      after-1 l ∙ in-phase index a b (when (p .committed) (committed ∷ [])) from-3 (single (p .committed) committed b (S .committed)) h l
+      ∙ one-at (p .committed) (index - a) committed (rw (← S .committed) (omega arith))
 
-  pub in-3 : a + b ≤ index → index < a + b + c → writeAt index (writesOf p work store) ≡ some held
-  in-3 g h =
-      after-2 g ∙ in-phase index (a + b) c (when (p .prepared) (held ∷ [])) from-4 (single (p .prepared) held c hc) h g
-      ∙ one-at (p .prepared) (index - (a + b)) held (rw (← hc) (omega arith))
+  pub in-3 : a + b ≤ index → index < a + b + c → writeAt index (writesOf g N p work store) ≡ some held
+  in-3 l h =
+      after-2 l ∙ in-phase index (a + b) c (when (p .prepared) (held ∷ [])) from-4 (single (p .prepared) held c (S .prepared)) h l
+      ∙ one-at (p .prepared) (index - (a + b)) held (rw (← S .prepared) (omega arith))
 
-  pub in-4 : a + b + c ≤ index → index < a + b + c + d → (r : ℕ) (page : Page) → r ≡ getD (those 16 picks) (index - (a + b + c)) 16 → page ≡ sourceOf p work store r
-      → writeAt index (writesOf p work store) ≡ some (sets (17 + r) page)
-  in-4 g h r page q z =
-      after-3 g ∙ in-phase index (a + b + c) d (when (p .homes) (sweep picks (pages 17) 16)) from-5 (sweeps (p .homes) (pages 17) d hd) h g
-      ∙ sweep-at (p .homes) (index - (a + b + c)) picks (pages 17) (counted (p .homes) d (index - (a + b + c)) hd (omega arith))
-      ∙ ap some (page-of 17 (index - (a + b + c)) r page q z)
+  pub in-4 : a + b + c ≤ index → index < a + b + c + d → (r : ℕ) (page : Page) → r ≡ getD (those N picks) (index - (a + b + c)) N → page ≡ sourceOf p work store r
+      → writeAt index (writesOf g N p work store) ≡ some (sets (1 + N + r) page)
+  in-4 l h r page q z =
+      after-3 l ∙ in-phase index (a + b + c) d (when (p .homes) (sweep picks (pages (1 + N)) N)) from-5 (sweeps (p .homes) (pages (1 + N)) d (S .homes)) h l
+      ∙ sweep-at N (p .homes) (index - (a + b + c)) picks (pages (1 + N)) (counted (p .homes) d (index - (a + b + c)) (S .homes) (omega arith))
+      ∙ ap some (page-of (1 + N) (index - (a + b + c)) r page q z)
 
-  pub in-5 : a + b + c + d ≤ index → index < a + b + c + d + e → writeAt index (writesOf p work store) ≡ some empty
-  in-5 g h = after-4 g ∙ one-at (p .emptied) (index - (a + b + c + d)) empty (rw (← he) (omega arith))
+  pub in-5 : a + b + c + d ≤ index → index < a + b + c + d + e → writeAt index (writesOf g N p work store) ≡ some empty
+  in-5 l h = after-4 l ∙ one-at (p .emptied) (index - (a + b + c + d)) empty (rw (← S .emptied) (omega arith))
 
-  pub in-none : a + b + c + d + e ≤ index → writeAt index (writesOf p work store) ≡ none
-  in-none h = after-4 (omega arith) ∙ past-at (index - (a + b + c + d)) from-5 (rw (single (p .emptied) empty e he) (omega arith))
+  pub in-none : a + b + c + d + e ≤ index → writeAt index (writesOf g N p work store) ≡ none
+  in-none h = after-4 (omega arith) ∙ past-at (index - (a + b + c + d)) from-5 (rw (single (p .emptied) empty e (S .emptied)) (omega arith))
 
   -- a record with a number that there is
-  pub small-1 : index < a → (r : ℕ) → r ≡ getD (those 16 picks) index 16 → r < 16
-  small-1 h r q = rw q (record-small picks index (less (p .intentions) index (counted (p .intentions) a index ha h)))
+  pub small-1 : index < a → (r : ℕ) → r ≡ getD (those N picks) index N → r < N
+  small-1 h r q = rw q (record-small picks N index (less (p .intentions) index (counted (p .intentions) a index (S .intentions) h)))
 
-  pub small-4 : a + b + c ≤ index → index < a + b + c + d → (r : ℕ) → r ≡ getD (those 16 picks) (index - (a + b + c)) 16 → r < 16
-  small-4 g h r q = rw q (record-small picks (index - (a + b + c)) (less (p .homes) (index - (a + b + c)) (counted (p .homes) d (index - (a + b + c)) hd (omega arith))))
+  pub small-4 : a + b + c ≤ index → index < a + b + c + d → (r : ℕ) → r ≡ getD (those N picks) (index - (a + b + c)) N → r < N
+  small-4 l h r q = rw q (record-small picks N (index - (a + b + c)) (less (p .homes) (index - (a + b + c)) (counted (p .homes) d (index - (a + b + c)) (S .homes) (omega arith))))
 
 -- BETWEEN THE CODE AND THE RULES
--- one turn of the loop over the records
-module _ (map n r at seen : ℕ) (b : Bool) (e₁ : b ≡ named geometry1 map r) (e₂ : at ≡ getD (those r (named geometry1 map)) n 16) (e₃ : seen ≡ count r (named geometry1 map)) where
-  pub turn-record : (at′ : ℕ) → at′ ≡ cond (b && same seen n) r at → at′ ≡ getD (those (r + 1) (named geometry1 map)) n 16
-  turn-record at′ q =
-      q ∙ (λ i. cond (e₁ i && same (e₃ i) n) r (e₂ i)) ∙ sym (next-record (named geometry1 map) r n)
-      ∙ ap (λ (k : ℕ). getD (those k (named geometry1 map)) n 16) (sym (add-one r))
+-- a geometry of so many records, where the code can lay its commit page
+pub known-layout : (n : ℕ) → Known n → (g : Geometry) × Layout g n
+known-layout n (inl e) = (geometry1, subst⁻¹ (Layout geometry1) e layout1)
+known-layout n (inr e) = (geometry2, subst⁻¹ (Layout geometry2) e layout2)
 
-  pub turn-count : (seen′ : ℕ) → seen′ ≡ cond b (seen + 1) seen → seen′ ≡ count (r + 1) (named geometry1 map)
-  turn-count seen′ q = q ∙ (λ i. cond (e₁ i) (e₃ i + 1) (e₃ i)) ∙ sym (next-count (named geometry1 map) r) ∙ ap (λ (k : ℕ). count k (named geometry1 map)) (sym (add-one r))
+-- how many records a map names
+pub ones-are : (g : Geometry) (n map m : ℕ) → records g ≡ n → map < 2 ^ n → ((g : Geometry) → map < 2 ^ records g → m ≡ count (records g) (named g map)) → m ≡ count n (named g map)
+ones-are g n map m many h e = e g (subst⁻¹ (λ (k : ℕ). map < 2 ^ k) many h) ∙ ap (λ (k : ℕ). count k (named g map)) many
+
+-- a phase that has a page write is there
+pub there-is : (there : Bool) (k n : ℕ) → k ≡ cond there n 0 → 0 < k → there ≡ true
+there-is true k n e h = refl
+there-is false k n e h = absurd (omega arith)
+
+-- one turn of the loop over the records
+module _ (g : Geometry) (d map n r at seen : ℕ) (b : Bool) (e₁ : b ≡ named g map r) (e₂ : at ≡ getD (those r (named g map)) n d) (e₃ : seen ≡ count r (named g map)) where
+  pub turn-record : (at′ : ℕ) → at′ ≡ cond (b && same seen n) r at → at′ ≡ getD (those (r + 1) (named g map)) n d
+  turn-record at′ q =
+      q ∙ (λ i. cond (e₁ i && same (e₃ i) n) r (e₂ i)) ∙ sym (next-record (named g map) d r n)
+      ∙ ap (λ (k : ℕ). getD (those k (named g map)) n d) (sym (add-one r))
+
+  pub turn-count : (seen′ : ℕ) → seen′ ≡ cond b (seen + 1) seen → seen′ ≡ count (r + 1) (named g map)
+  turn-count seen′ q = q ∙ (λ i. cond (e₁ i) (e₃ i + 1) (e₃ i)) ∙ sym (next-count (named g map) d r) ∙ ap (λ (k : ℕ). count k (named g map)) (sym (add-one r))
+
+-- no more are named than there are
+pub one-more-least : (b : Bool) (n r x : ℕ) → x ≡ cond b (n + 1) n → n ≤ r → x ≤ r + 1
+one-more-least true n r x e h = omega (arith, e, h)
+one-more-least false n r x e h = omega (arith, e, h)
 
 -- the page that is written
 pub source-stored : (p : Plan) (work store : List ℕ) (r : ℕ) (page : Page) → page ≡ pagesOf store (1 + r) → p .stored ≡ true → page ≡ sourceOf p work store r
@@ -270,3 +297,7 @@ spelled (x ∷ xs) part page n h e =
 pub within : (x : ℕ) (there : Bool) (n : ℕ) → x ≡ cond there n 0 → x ≤ n
 within x true n e = omega (arith, e)
 within x false n e = omega (arith, e)
+
+-- an event's word alone is all of its s bytes
+pub word-is : (s : ℕ) (bs : List ℕ) → length bs ≡ s → number (take s (drop (s * 0) bs)) ≡ number bs
+word-is s bs h = ap (λ (k : ℕ). number (take s (drop k bs))) (mul-zero s) ∙ ap number (take-all s bs (omega (arith, h)))

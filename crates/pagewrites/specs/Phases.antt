@@ -5,10 +5,11 @@ use mathlib.Core.List.{List, [], _∷_, _++_}
 use mathlib.Core.Option.{Option}
 use Prim.Native.Nat.{ℕ, _+_}
 use Rattle.laws.specs.Tests.{same}
+use Rattle.rules.specs.Geometry.{Geometry}
 use Rattle.rules.specs.Store.{Page, pagesOf, named, commitPage, preparedPage}
 use Rattle.rules.specs.Event.{Event}
 use Rattle.rules.specs.Commit.{PageWrite, sets}
-use Rattle.rules.specs.Editions.{geometry1, edition1}
+use Rattle.rules.specs.Form.{atomic}
 use Rattle.device.specs.Asked.{planFor}
 use Rattle.commitpage.specs.Heard.{prepared}
 use Rattle.commit.specs.Phase.{sweep, copies, topSlot}
@@ -39,18 +40,18 @@ sourceOf p work store r = cond (p .stored) (pagesOf store (1 + r)) (topSlot work
 unfoldable pub when : Bool → List PageWrite → List PageWrite
 when there ws = cond there ws []
 
--- the page writes, phase by phase
-unfoldable pub writesOf : Plan → List ℕ → List ℕ → List PageWrite
-writesOf p work store =
-    when (p .intentions) (sweep (named geometry1 (p .map)) (copies 1 (sourceOf p work store)) 16)
-    ++ (when (p .committed) (sets 0 (commitPage geometry1 (p .map)) ∷ [])
-    ++ (when (p .prepared) (sets 0 (preparedPage geometry1 (prepared (p .map) (p .identity))) ∷ [])
-    ++ (when (p .homes) (sweep (named geometry1 (p .map)) (copies 17 (sourceOf p work store)) 16)
-    ++ when (p .emptied) (sets 0 (commitPage geometry1 0) ∷ []))))
+-- the page writes, phase by phase, where there are n records
+unfoldable pub writesOf : Geometry → ℕ → Plan → List ℕ → List ℕ → List PageWrite
+writesOf g n p work store =
+    when (p .intentions) (sweep (named g (p .map)) (copies 1 (sourceOf p work store)) n)
+    ++ (when (p .committed) (sets 0 (commitPage g (p .map)) ∷ [])
+    ++ (when (p .prepared) (sets 0 (preparedPage g (prepared (p .map) (p .identity))) ∷ [])
+    ++ (when (p .homes) (sweep (named g (p .map)) (copies (1 + n) (sourceOf p work store)) n)
+    ++ when (p .emptied) (sets 0 (commitPage g 0) ∷ []))))
 
 -- a plan's page writes are those that the rules plan for an event, or for a bad one
-pub record Plans (x : Arrays) (e : Option Event) (p : Plan) : Type 0 where
-  pub writes : writesOf p (x .work) (x .store) ≡ planFor geometry1 (view edition1 x) e
+pub record Plans (g : Geometry) (n : ℕ) (x : Arrays) (e : Option Event) (p : Plan) : Type 0 where
+  pub writes : writesOf g n p (x .work) (x .store) ≡ planFor g (view (atomic g) x) e
 
 -- opens the definitions of this module: for what is proved by computing
 unfoldable pub open-phases : Unit {0}

@@ -1,19 +1,22 @@
-// The page writes of an event one by one, before it is played: which of them a number names is told from the map of the records that it changes.
+// The page writes of an event one by one, before it is played: which of them a number names is told from the map of the records that it changes. For any
+// edition: there are `records` records, and `joint` tells whether transactions can be prepared.
 ghost use mathlib.Core.Path.{_≡_};
-ghost use mathlib.Core.Bool.{true, false, cond};
+ghost use mathlib.Core.Bool.{Bool, true, false, cond};
 ghost use mathlib.Core.List.{List, _∷_};
 ghost use mathlib.Core.Option.{some};
-ghost use Prim.Native.Nat.{ℕ, _+_, _*_, _<_};
+ghost use Prim.Native.Nat.{ℕ, _+_, _*_, _^_, _<_, _≤_};
 ghost use lib.ListN.{length, getD};
 ghost use Rattle.laws.specs.Counting.{those};
+ghost use Rattle.rules.specs.Geometry.{Geometry};
 ghost use Rattle.rules.specs.Store.{named};
 ghost use Rattle.rules.specs.Event.{recover, decide};
-ghost use Rattle.rules.specs.Editions.{geometry1, edition1, workBytes};
+ghost use Rattle.rules.specs.Editions.{Edition, geometryOf, formOf, InNumbers};
 ghost use Rattle.device.specs.Plan.{writeAt};
 ghost use Rattle.device.specs.Asked.{told, planFor};
+ghost use Rattle.commitpage.specs.Layout.{Known, Layout};
 ghost use Rattle.commits.specs.Settling.{settling};
 ghost use Rattle.numbers.specs.Named.{transactionOf};
-ghost use Rattle.event.specs.Meaning.{meaning, InRange};
+ghost use Rattle.event.specs.Meaning.{meaning};
 ghost use Rattle.state.specs.Whole.{arrays, view, Intact, Reserves};
 ghost use Rattle.pagewrites.specs.Phases.{nothing, ofTop, ofRecovery, ofDecision, sourceOf, writesOf, Plans};
 use event::Event;
@@ -112,7 +115,7 @@ fn length_if(yes: bool, n: u8) -> u8
 
 // One more, where it is counted.
 fn one_more_if(n: u8, yes: bool) -> u8
-    requires { ⌜ n < 16 ⌝ }
+    requires { ⌜ n < 64 ⌝ }
     ensures { λ r. ⌜ r ≡ cond yes (n + 1) n ⌝ }
 {
     if yes { n + 1 } else { n }
@@ -125,14 +128,15 @@ fn record_if(old: u8, yes: bool, r: u8) -> u8
     if yes { r } else { old }
 }
 
-// The record with number n, from 0, among those that a map names; 16 where there is none.
-fn record_at(map: u64, n: u8) -> u8
-    ensures { λ r. ⌜ r ≡ getD (those 16 (named geometry1 map)) n 16 ⌝ }
+// The record with number n, from 0, among those that a map names; `records` where there is none.
+fn record_at(map: u64, records: u8, n: u8) -> u8
+    requires { ⌜ records ≤ 64 ⌝ }
+    ensures { λ r. ⌜ ((g : Geometry) → Layout g records → r ≡ getD (those records (named g map)) n records) ⌝ }
 {
-    let mut at = 16u8;
+    let mut at = records;
     let mut seen = 0u8;
-    for r in 0..16u8 {
-        let named = commitpage::names(map, 16, r);
+    for r in 0..records {
+        let named = commitpage::names(map, records, r);
         at = record_if(at, named & (seen == n), r);
         seen = one_more_if(seen, named);
     }
@@ -150,7 +154,7 @@ fn put_write(write: &mut [u8], number: u8, page: [u8; 32])
 
 // The page that is written for record r.
 fn page_for(p: Plan, r: u8, work: &[u8], store: &[u8]) -> [u8; 32]
-    requires { ⌜ (r < 16) × (length (now work) ≡ workBytes) × (length (now store) ≡ 1056) ⌝ }
+    requires { ⌜ (r < 64) × (512 * r + 32 ≤ length (now work)) × (32 * r + 64 ≤ length (now store)) ⌝ }
     ensures { λ x. ⌜ x ≡ sourceOf p (now (work .entry)) (now (store .entry)) r ⌝ }
 {
     let n = r as usize;
@@ -161,12 +165,21 @@ fn page_for(p: Plan, r: u8, work: &[u8], store: &[u8]) -> [u8; 32]
 }
 
 // The page write number `index` of a plan: 0, or 12 where there is none.
-fn put_numbered(p: Plan, work: &[u8], store: &[u8], index: u8, write: &mut [u8]) -> u8
-    requires { ⌜ (p .map < 65536) × (length (now work) ≡ workBytes) × (length (now store) ≡ 1056) × (length (now write) ≡ 33) ⌝ }
-    ensures { λ r.
-        let said = told (writeAt index (writesOf p (now (work .entry)) (now (store .entry)))) (now (write .entry)) in
-        ⌜ (r ≡ said .answer) × (now (write .exit) ≡ said .write) ⌝ }
+fn put_numbered(
+    p: Plan,
+    work: &[u8],
+    store: &[u8],
+    records: usize,
+    index: u8,
+    write: &mut [u8],
+) -> u8
+    requires { ⌜ Known records × (p .map < 2 ^ records) × (p .prepared ≡ true → records ≡ 16) × (length (now work) ≡ 512 * records)
+        × (length (now store) ≡ 32 * (1 + (records + records))) × (length (now write) ≡ 33) ⌝ }
+    ensures { λ r. ⌜ ((g : Geometry) →
+        let said = told (writeAt index (writesOf g records p (now (work .entry)) (now (store .entry)))) (now (write .entry)) in
+        Layout g records → (r ≡ said .answer) × (now (write .exit) ≡ said .write)) ⌝ }
 {
+    let n = records as u8;
     let m = commitpage::ones(p.map);
     let a = length_if(p.intentions, m);
     let b = a + length_if(p.committed, 1);
@@ -174,12 +187,12 @@ fn put_numbered(p: Plan, work: &[u8], store: &[u8], index: u8, write: &mut [u8])
     let d = c + length_if(p.homes, m);
     let e = d + length_if(p.emptied, 1);
     if index < a {
-        let r = record_at(p.map, index);
+        let r = record_at(p.map, n, index);
         put_write(write, 1 + r, page_for(p, r, work, store));
         return 0;
     }
     if index < b {
-        put_write(write, 0, commitpage::commit_page(p.map, 16));
+        put_write(write, 0, commitpage::commit_page(p.map, records));
         return 0;
     }
     if index < c {
@@ -187,12 +200,12 @@ fn put_numbered(p: Plan, work: &[u8], store: &[u8], index: u8, write: &mut [u8])
         return 0;
     }
     if index < d {
-        let s = record_at(p.map, index - c);
-        put_write(write, 17 + s, page_for(p, s, work, store));
+        let s = record_at(p.map, n, index - c);
+        put_write(write, 1 + n + s, page_for(p, s, work, store));
         return 0;
     }
     if index < e {
-        put_write(write, 0, commitpage::commit_page(0, 16));
+        put_write(write, 0, commitpage::commit_page(0, records));
         return 0;
     }
     12
@@ -203,17 +216,20 @@ fn top_plan(
     up: u8,
     parent: &[u8; 24],
     depth: &[u8; 24],
-    writers: &[u32; 16],
+    writers: &[u32],
+    records: usize,
     reserved: u64,
     t: TransactionNumber,
     prepares: bool,
     identity: u8,
 ) -> Plan
-    requires { ⌜ (length (now parent) ≡ 24) × (length (now depth) ≡ 24) × (length (now writers) ≡ 16) × ((u : ℕ) → getD (now parent) u 0 < 32) ⌝ }
-    ensures { λ p. ⌜ ((line held retained work store : List ℕ) (k i : ℕ) →
+    requires { ⌜ (records ≤ 64) × (prepares ≡ true → records ≡ 16) × (length (now parent) ≡ 24) × (length (now depth) ≡ 24) × (length (now writers) ≡ records)
+        × ((u : ℕ) → getD (now parent) u 0 < 32) ⌝ }
+    ensures { λ p. ⌜ ((edition : Edition) (joint : Bool) (line held retained work store : List ℕ) (k i : ℕ) →
         let x = arrays up (now (parent .entry)) (now (depth .entry)) line held retained (now (writers .entry)) work store in
-        Intact edition1 x → Reserves geometry1 store reserved i → Plans x (some (settling prepares (transactionOf t) k identity)) p) ⌝ }
-    ensures { λ p. ⌜ p .map < 65536 ⌝ }
+        InNumbers edition records joint → Intact (formOf edition) x → Reserves (geometryOf edition) store reserved i
+        → Plans (geometryOf edition) records x (some (settling prepares (transactionOf t) k identity)) p) ⌝ }
+    ensures { λ p. ⌜ (p .map < 2 ^ records) × (p .prepared ≡ true → records ≡ 16) ⌝ }
 {
     let n = t.number();
     if up != 1 {
@@ -230,7 +246,7 @@ fn top_plan(
     if d != 1 {
         return none();
     }
-    let map = commitpage::map_of(&writers[..], 16, n);
+    let map = commitpage::map_of(writers, records, n);
     if (map != 0) & (reserved != 0) {
         return none();
     }
@@ -238,17 +254,17 @@ fn top_plan(
 }
 
 // Of a recovery: none where it is refused.
-fn recovery_plan(up: u8, store: &[u8]) -> Plan
-    requires { ⌜ length (now store) ≡ 1056 ⌝ }
-    ensures { λ p. ⌜ ((parent depth line held retained writers work : List ℕ) (k : ℕ) →
+fn recovery_plan(up: u8, store: &[u8], records: usize, joint: bool) -> Plan
+    requires { ⌜ Known records × (joint ≡ true → records ≡ 16) × (length (now store) ≡ 32 * (1 + (records + records))) ⌝ }
+    ensures { λ p. ⌜ ((edition : Edition) (parent depth line held retained writers work : List ℕ) (k : ℕ) →
         let x = arrays up parent depth line held retained writers work (now (store .entry)) in
-        Intact edition1 x → Plans x (some (recover k)) p) ⌝ }
-    ensures { λ p. ⌜ p .map < 65536 ⌝ }
+        InNumbers edition records joint → Intact (formOf edition) x → Plans (geometryOf edition) records x (some (recover k)) p) ⌝ }
+    ensures { λ p. ⌜ (p .map < 2 ^ records) × (p .prepared ≡ true → records ≡ 16) ⌝ }
 {
     if up == 1 {
         return none();
     }
-    let c = commit::read_map(store, 16, true);
+    let c = commit::read_map(store, records, joint);
     let map = c.map;
     if !c.good {
         return none();
@@ -257,12 +273,13 @@ fn recovery_plan(up: u8, store: &[u8]) -> Plan
 }
 
 // Of the decision on identity i: none while down, and none on another than the prepared one.
-fn decision_plan(up: u8, reserved: u64, identity: u8, commits: bool, i: u8) -> Plan
-    requires { ⌜ reserved < 65536 ⌝ }
-    ensures { λ p. ⌜ ((parent depth line held retained writers work store : List ℕ) (k : ℕ) →
+fn decision_plan(up: u8, records: usize, reserved: u64, identity: u8, commits: bool, i: u8) -> Plan
+    requires { ⌜ reserved < 2 ^ records ⌝ }
+    ensures { λ p. ⌜ ((edition : Edition) (joint : Bool) (parent depth line held retained writers work store : List ℕ) (k : ℕ) →
         let x = arrays up parent depth line held retained writers work store in
-        Intact edition1 x → Reserves geometry1 store reserved identity → Plans x (some (decide commits k i)) p) ⌝ }
-    ensures { λ p. ⌜ p .map < 65536 ⌝ }
+        InNumbers edition records joint → Intact (formOf edition) x → Reserves (geometryOf edition) store reserved identity
+        → Plans (geometryOf edition) records x (some (decide commits k i)) p) ⌝ }
+    ensures { λ p. ⌜ (p .map < 2 ^ records) × (p .prepared ≡ true → records ≡ 16) ⌝ }
 {
     if up != 1 {
         return none();
@@ -278,24 +295,26 @@ fn plan_of(
     up: u8,
     parent: &[u8; 24],
     depth: &[u8; 24],
-    writers: &[u32; 16],
+    writers: &[u32],
     store: &[u8],
+    records: usize,
+    joint: bool,
     e: Event,
 ) -> Plan
-    requires { ⌜ (length (now parent) ≡ 24) × (length (now depth) ≡ 24) × (length (now writers) ≡ 16) × (length (now store) ≡ 1056)
-        × ((u : ℕ) → getD (now parent) u 0 < 32) × InRange e ⌝ }
-    ensures { λ p. ⌜ ((line held retained work : List ℕ) →
+    requires { ⌜ Known records × (joint ≡ true → records ≡ 16) × (8 < e .kind → joint ≡ true) × (length (now parent) ≡ 24) × (length (now depth) ≡ 24)
+        × (length (now writers) ≡ records) × (length (now store) ≡ 32 * (1 + (records + records))) × ((u : ℕ) → getD (now parent) u 0 < 32) ⌝ }
+    ensures { λ p. ⌜ ((edition : Edition) (line held retained work : List ℕ) →
         let x = arrays up (now (parent .entry)) (now (depth .entry)) line held retained (now (writers .entry)) work (now (store .entry)) in
-        Intact edition1 x → Plans x (meaning e) p) ⌝ }
-    ensures { λ p. ⌜ p .map < 65536 ⌝ }
+        InNumbers edition records joint → Intact (formOf edition) x → Plans (geometryOf edition) records x (meaning e) p) ⌝ }
+    ensures { λ p. ⌜ (p .map < 2 ^ records) × (p .prepared ≡ true → records ≡ 16) ⌝ }
 {
     let kind = e.kind;
-    let held = commit::read_held(store, 16, true);
+    let held = commit::read_held(store, records, joint);
     if kind == 8 {
-        return recovery_plan(up, store);
+        return recovery_plan(up, store, records, joint);
     }
     if kind == 10 {
-        return decision_plan(up, held.map, held.identity, e.offset != 0, e.value);
+        return decision_plan(up, records, held.map, held.identity, e.offset != 0, e.value);
     }
     if (kind == 5) | (kind == 9) {
         return match TransactionNumber::checked(e.transaction) {
@@ -304,6 +323,7 @@ fn plan_of(
                 parent,
                 depth,
                 writers,
+                records,
                 held.map,
                 t,
                 kind == 9,
@@ -321,20 +341,23 @@ pub fn page_write(
     up: u8,
     parent: &[u8; 24],
     depth: &[u8; 24],
-    writers: &[u32; 16],
+    writers: &[u32],
     work: &[u8],
     store: &[u8],
+    records: usize,
+    joint: bool,
     e: Event,
     index: u8,
     write: &mut [u8],
 ) -> u8
-    requires { ⌜ (length (now parent) ≡ 24) × (length (now depth) ≡ 24) × (length (now writers) ≡ 16) × (length (now work) ≡ workBytes)
-        × (length (now store) ≡ 1056) × (length (now write) ≡ 33) × ((u : ℕ) → getD (now parent) u 0 < 32) × InRange e ⌝ }
-    ensures { λ r. ⌜ ((line held retained : List ℕ) →
+    requires { ⌜ Known records × (joint ≡ true → records ≡ 16) × (8 < e .kind → joint ≡ true) × (length (now parent) ≡ 24) × (length (now depth) ≡ 24)
+        × (length (now writers) ≡ records) × (length (now work) ≡ 512 * records) × (length (now store) ≡ 32 * (1 + (records + records)))
+        × (length (now write) ≡ 33) × ((u : ℕ) → getD (now parent) u 0 < 32) ⌝ }
+    ensures { λ r. ⌜ ((edition : Edition) (line held retained : List ℕ) →
         let x = arrays up (now (parent .entry)) (now (depth .entry)) line held retained (now (writers .entry)) (now (work .entry)) (now (store .entry)) in
-        let said = told (writeAt index (planFor geometry1 (view edition1 x) (meaning e))) (now (write .entry)) in
-        Intact edition1 x → (r ≡ said .answer) × (now (write .exit) ≡ said .write)) ⌝ }
+        let said = told (writeAt index (planFor (geometryOf edition) (view (formOf edition) x) (meaning e))) (now (write .entry)) in
+        InNumbers edition records joint → Intact (formOf edition) x → (r ≡ said .answer) × (now (write .exit) ≡ said .write)) ⌝ }
 {
-    let p = plan_of(up, parent, depth, writers, store, e);
-    put_numbered(p, work, store, index, write)
+    let p = plan_of(up, parent, depth, writers, store, records, joint, e);
+    put_numbered(p, work, store, records, index, write)
 }

@@ -1,2 +1,2 @@
--- What is lent as a state.
-pub mod Portion
+-- What a list from the start leaves.
+pub mod Lists

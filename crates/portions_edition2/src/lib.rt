@@ -1,56 +1,33 @@
-// A portion of edition 2: a list of its events over the engine with an answer each; the state between two portions; and the start. A crate beside edition
-// 1's, for an archive of its own: where `step` is called once, the compiler makes the numbers of the edition constants all the way down.
+// A list of edition 2's events over the engine, from the start, with an answer each. A crate beside edition 1's portions, for an archive of its own: where
+// `step` is called once, the compiler makes the numbers of the edition constants all the way down.
 ghost use mathlib.Core.Path.{_≡_};
-ghost use mathlib.Core.List.{List};
-ghost use Prim.Native.Nat.{ℕ, _*_, _/_, _≤_};
+ghost use Prim.Native.Nat.{_*_, _/_, _≤_};
 ghost use lib.ListN.{length};
-ghost use Rattle.rules.specs.Store.{pagesOf};
-ghost use Rattle.rules.specs.State.{down};
-ghost use Rattle.rules.specs.Editions.{edition2};
-ghost use Rattle.state.specs.Whole.{view, Intact};
-ghost use Rattle.state.specs.Portion.{Portion};
-ghost use Rattle.portions_edition2.specs.Portion.{whole};
+ghost use Rattle.portions_edition2.specs.Lists.{Ended-as};
 use event::Answer;
 use event::edition2::Edition2;
 
-// The engine's state between two portions, 1,428 bytes with no padding; all zeros is the start. A caller keeps it and lends it: the order of the fields
-// is final.
-#[repr(C)]
-pub struct Engine {
-    pub line: [u32; 24],
-    pub held: [u32; 128],
-    pub retained: [u32; 128],
+// What is left of the state after a list: all that the page writes of the next event are told from, beside the working buffer and the store.
+pub struct Ended {
     pub writers: [u32; 64],
     pub parent: [u8; 24],
     pub depth: [u8; 24],
     pub up: u8,
-    // zeros
-    pub spare: [u8; 3],
 }
 
-// A portion of events: the engine comes in and goes out by value, and is changed in place between. What follows from its parents and depths alone
-// is found at the start and not kept. Nothing is prepared in this edition, whatever the store says: `read_held` answers so.
-pub fn portion(
-    e: Engine,
-    store: &mut [u8],
-    events: &[u8],
-    work: &mut [u8],
-    answers: &mut [u8],
-) -> Engine
-    requires { ⌜ Intact edition2 (whole e (now work) (now store)) × (length (now events) ≤ 32768) × (2 * (length (now events) / 8) ≤ length (now answers)) ⌝ }
-    ensures { λ r.
-        let before = whole e (now (work .entry)) (now (store .entry)) in
-        let after = whole r (now (work .exit)) (now (store .exit)) in
-        ⌜ Portion edition2 before (now (events .entry)) (now (answers .entry)) after (now (answers .exit)) ⌝ }
-    ensures { λ r. ⌜ r .spare ≡ e .spare ⌝ }
+// A list from the start, which is down with nothing live, held, retained or written: all zeros. Nothing is prepared in this edition, whatever the store
+// says: `read_held` answers so.
+pub fn from_start(store: &mut [u8], events: &[u8], work: &mut [u8], answers: &mut [u8]) -> Ended
+    requires { ⌜ (length (now store) ≡ 4128) × (length (now work) ≡ 32768) × (length (now events) ≤ 32768) × (2 * (length (now events) / 8) ≤ length (now answers)) ⌝ }
+    ensures { λ r. ⌜ Ended-as (now (store .entry)) (now (events .entry)) (now (answers .entry)) r (now (store .exit)) (now (work .exit)) (now (answers .exit)) ⌝ }
 {
-    let mut up = e.up;
-    let mut parent = e.parent;
-    let mut depth = e.depth;
-    let mut line = e.line;
-    let mut held = e.held;
-    let mut retained = e.retained;
-    let mut writers = e.writers;
+    let mut up = 0u8;
+    let mut parent = [0u8; 24];
+    let mut depth = [0u8; 24];
+    let mut line = [0u32; 24];
+    let mut held = [0u32; 128];
+    let mut retained = [0u32; 128];
+    let mut writers = [0u32; 64];
     let mut live = transactions::live_set(&depth);
     let mut children = transactions::children_of(&parent, &depth);
     let p = commit::read_held(&store[..], 64, false);
@@ -79,31 +56,10 @@ pub fn portion(
         );
         Answer::put(answers, k, a);
     }
-    let spare = e.spare;
-    Engine {
-        line,
-        held,
-        retained,
+    Ended {
         writers,
         parent,
         depth,
         up,
-        spare,
-    }
-}
-
-// The start: down, and nothing live, held, retained or written. All zeros.
-pub fn start() -> Engine
-    ensures { λ e. ⌜ ((work store : List ℕ) → length work ≡ 32768 → length store ≡ 4128 → Intact edition2 (whole e work store) × (view edition2 (whole e work store) ≡ down (pagesOf store))) ⌝ }
-{
-    Engine {
-        line: [0; 24],
-        held: [0; 128],
-        retained: [0; 128],
-        writers: [0; 64],
-        parent: [0; 24],
-        depth: [0; 24],
-        up: 0,
-        spare: [0; 3],
     }
 }

@@ -5,10 +5,8 @@ use crate::answer::{Answer, Refusal};
 use crate::commit_page::{CommitPage, Page};
 use crate::event::{encode, Event};
 use crate::limits::{ANSWER_BYTES, EVENT_BYTES, PAGE_BYTES, PAGE_WRITE_BYTES, RECORDS, STORE_BYTES, WORK_BYTES};
+use crate::page_write::NO_SUCH_WRITE;
 use crate::{raw, PageWrite, Record, State, Work};
-
-/// What the library answers where an event makes no page write of a number.
-const NO_SUCH_WRITE: u8 = 12;
 
 /// The stable store, owned.
 ///

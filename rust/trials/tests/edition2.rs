@@ -1,7 +1,7 @@
 //! Edition 2, sixty-four records, on the proved engine and on the player: the points of the rules in literal bytes, every
 //! count of a commit of all records, and the lists of edition 1 in its words.
 
-use nekahuiro::limits::PAGE_BYTES;
+use nekahuiro::limits::{PAGE_BYTES, PAGE_WRITE_BYTES};
 use nekahuiro::{edition2, raw, CommitPage, Fields};
 use nekahuiro_history::serial_of;
 use nekahuiro_lists::stores::edition2::{committed, damaged, fresh, DAMAGES, STORE_BYTES};
@@ -423,6 +423,154 @@ fn page_writes_are_told() {
         let word = words::<Edition2>(&[commit(0, count as u8)]);
         assert_eq!(Player::portion(&mut volatile, &mut store, &word, &mut [0; 32_768], &mut answer), 0);
         assert_eq!((store, answer[1]), (carried, count as u8));
+    }
+}
+
+/// What the buffer for a page write holds before the call.
+const UNTOUCHED: [u8; PAGE_WRITE_BYTES] = [0xD7; PAGE_WRITE_BYTES];
+
+/// The page writes that the library tells of an event word after a list. Store and answers must be left as the run of
+/// the list leaves them, and behind the last page write nothing is told.
+fn told_after(start: &[u8], list: &[u8], word: [u8; 8]) -> Result<Vec<(u8, [u8; 32])>, String> {
+    let answers = vec![0xEE; list.len() / 4 + 3];
+    let (mut ran, mut ran_answers) = (start.to_vec(), answers.clone());
+    if raw::edition2::run(&mut ran, list, &mut [0x55; 32_768], &mut ran_answers) != 0 {
+        return Err("the run is refused".to_string());
+    }
+    let mut writes = Vec::new();
+    for index in 0..=255 {
+        let (mut store, mut work, mut left, mut write) = (start.to_vec(), [0xAA; 32_768], answers.clone(), UNTOUCHED);
+        let number = raw::edition2::page_write(&mut store, list, &mut work, &mut left, &word, index, &mut write);
+        if (&store, &left) != (&ran, &ran_answers) {
+            return Err(format!("page write {index}: the store or the answers aren't the run's"));
+        }
+        match number {
+            0 => writes.push((write[0], write[1..].try_into().expect("32 bytes"))),
+            12 if write == UNTOUCHED => break,
+            number => return Err(format!("page write {index}: {number}, {write:02X?}")),
+        }
+    }
+    let (mut store, mut write) = (start.to_vec(), UNTOUCHED);
+    let (work, last) = (&mut [0; 32_768], &mut answers.clone());
+    match raw::edition2::page_write(&mut store, list, work, last, &word, 255, &mut write) {
+        12 if write == UNTOUCHED => Ok(writes),
+        number => Err(format!("page write 255: {number}")),
+    }
+}
+
+/// The page writes of an event word after a list are the player's, and with the first k carried out the store is the one
+/// that the library leaves where the event comes with count k. How many there are.
+fn check_told(start: &[u8], list: &[u8], word: [u8; 8]) -> Result<usize, String> {
+    let (mut volatile, mut store) = (Volatile::default(), start.to_vec());
+    let mut answers = vec![0; list.len() / 4];
+    if Player::portion(&mut volatile, &mut store, list, &mut [0; 32_768], &mut answers) != 0 {
+        return Err("the player refuses the list".to_string());
+    }
+    let due = Player::page_writes(&volatile, &store, word).ok_or("the player has no state")?;
+    let writes = told_after(start, list, word)?;
+    if writes != due {
+        return Err(format!("page writes {writes:02X?}, the player's {due:02X?}"));
+    }
+    let fields = edition2::fields_of(word);
+    let counts = if matches!(fields.kind, 5 | 8) && !due.is_empty() { 0..=due.len() + 1 } else { 0..=0 };
+    for count in counts.filter(|_| !due.is_empty()) {
+        let cut = edition2::word_of(Fields { count: count as u8, ..fields });
+        let (mut run, list) = (start.to_vec(), [list, &cut].concat());
+        let mut answers = vec![0; list.len() / 4];
+        let number = raw::edition2::run(&mut run, &list, &mut [0; 32_768], &mut answers);
+        for (page, bytes) in &due[..count.min(due.len())] {
+            store[usize::from(*page) * 32..][..32].copy_from_slice(bytes);
+        }
+        if number != 0 || run != store || usize::from(answers[answers.len() - 1]) != count.min(due.len()) {
+            return Err(format!("with count {count} the library leaves another store"));
+        }
+    }
+    Ok(due.len())
+}
+
+/// The page writes of every event of random lists, each after the list before it, and of others that could come instead.
+#[test]
+fn page_writes_after_random_lists() {
+    let lists = settings::lists() / 1_000;
+    let (events, writes) = (AtomicU64::new(0), AtomicU64::new(0));
+    let failure = share(lists, |number| {
+        let case = random::case::<Edition2>(settings::seed() + 55, number);
+        let mut rng = Rng::new(number);
+        let count = case.events.len() / 8;
+        for _ in 0..count.min(12) {
+            let at = 8 * rng.below(count);
+            let next: [u8; 8] = case.events[at..][..8].try_into().expect("eight bytes");
+            let transaction = rng.below(6) as u8;
+            let other = rng.one_of([recover(9), commit(transaction, 0), commit(transaction, 255), commit(31, 3)]);
+            for word in [next, edition2::word_of(other)] {
+                let found = check_told(&case.store, &case.events[..at], word);
+                let found = found.map_err(|text| format!("case {number}, event {}: {text}", at / 8))?;
+                events.fetch_add(1, Ordering::Relaxed);
+                writes.fetch_add(found as u64, Ordering::Relaxed);
+            }
+        }
+        Ok(())
+    });
+    assert_eq!(failure, None, "seed {}", settings::seed());
+    println!("page writes after lists of edition 2: {events:?} events, {writes:?} page writes");
+}
+
+/// A commit of all records after a list, and a recovery of all of them: 130 page writes and 65.
+#[test]
+fn page_writes_of_all_records() {
+    let writes_all = (0..64).flat_map(|record| [lock(0, record), write(0, record, 0, 0x80 + record)]);
+    let list: Vec<Fields> = [recover(255), begin(TOP)].into_iter().chain(writes_all).collect();
+    let word = edition2::word_of(commit(0, 0));
+    assert_eq!(check_told(&fresh(), &words::<Edition2>(&list), word), Ok(130));
+    let store = committed(&mut Rng::new(8), u64::MAX);
+    assert_eq!(check_told(&store, &[], edition2::word_of(recover(0))), Ok(65));
+    // While up a recover is refused, and a commit of nobody: no page write.
+    let up = words::<Edition2>(&[recover(255)]);
+    assert_eq!(check_told(&store, &up, edition2::word_of(recover(0))), Ok(0));
+    assert_eq!(check_told(&store, &up, word), Ok(0));
+    assert_eq!(check_told(&store, &up, [0x90; 8]), Ok(0));
+}
+
+/// Wrong lengths of a question for a page write: the run's in its order, then the event's and the page write's; no buffer
+/// is touched.
+#[test]
+fn a_question_is_refused_by_lengths() {
+    let due = |store, work, events: usize, answers, event, write| match () {
+        () if store != 4_128 => 22,
+        () if work != 32_768 => 24,
+        () if events % 8 != 0 || events > 32_768 => 20,
+        () if answers < events / 4 => 21,
+        () if event != 8 => 20,
+        () if write != 33 => 21,
+        () => 12,
+    };
+    let list = vec![0; 32_776];
+    for store in [0, 1_056, 4_127, 4_128, 4_129] {
+        for work in [0, 8_192, 32_767, 32_768] {
+            for events in [0, 4, 8, 12, 16, 32_768, 32_776] {
+                for answers in [0, 1, 2, 4, 8_191, 8_192] {
+                    for event in [0, 4, 7, 8, 9, 16] {
+                        for write in [0, 32, 33, 34] {
+                            let before = (vec![0; store], vec![0x77; work], vec![0x99; answers], vec![0xD7; write]);
+                            let mut lent = before.clone();
+                            let number = raw::edition2::page_write(
+                                &mut lent.0,
+                                &list[..events],
+                                &mut lent.1,
+                                &mut lent.2,
+                                &list[..event],
+                                0,
+                                &mut lent.3,
+                            );
+                            let lengths = format!("{store}, {work}, {events}, {answers}, {event}, {write}");
+                            assert_eq!(number, due(store, work, events, answers, event, write), "{lengths}");
+                            assert!(number == 12 || lent == before, "{lengths}: a buffer was touched");
+                            assert_eq!(lent.3, before.3, "{lengths}");
+                        }
+                    }
+                }
+            }
+        }
     }
 }
 

@@ -18,8 +18,7 @@ use Rattle.nekahuiro_edition2.proofs.nekahuiro_run_edition2.Statement.{
 use Rattle.nekahuiro_edition2.proofs.nekahuiro_run_edition2.Tie as tie
 use Rattle.nekahuiro_edition2.proofs.nekahuiro_run_edition2.Reads as reads
 use Rattle.nekahuiro_edition2.proofs.nekahuiro_run_edition2.Lts as lts
-use Rattle.portions_edition2.proofs.portion.Reads as portion-reads
-use Rattle.portions_edition2.proofs.start.Reads as start-reads
+use Rattle.portions_edition2.proofs.from_start.Reads as from-start-reads
 use Rattle.lengths.proofs.refusal.Reads as refusal-reads
 
 -- a run, with what holds of it where it is played
@@ -35,14 +34,8 @@ returns c =
     let a = c .before .before .before .before .before .before .args in
     signed (run-refused 64 8 geometry2 (layout2 .many) bytes2 refl (a .store .now) (a .events .now) (a .work .now) (a .answers .now) (c .before .refusal .result) (c .before .refusal .ensures) (c .if1 .taken))
 
-start-requires : tie.Need-start-requires
-start-requires c κs = search needs
-
-portion-requires : tie.Need-portion-requires
-portion-requires c κs =
-    let a = c .before .before .before .before .before .before .before .before .before .before .args in
-    let l = lengths-of 64 8 _ _ _ _ (sym (c .before .before .before .before .before .refusal .ensures) ∙ c .before .before .before .before .if1 .left) in
-    (c .before .before .before .start .ensures (a .work .now) (a .store .now) (l .work) (l .store) .0, l .short, l .room)
+from-start-requires : tie.Need-from-start-requires
+from-start-requires c κs = let l = lengths-of 64 8 _ _ _ _ (sym (c .before .before .before .before .refusal .ensures) ∙ c .before .before .before .if1 .left) in (l .store, l .work, l .short, l .room)
 
 same-length : tie.Need-same-length
 same-length c = search needs
@@ -55,11 +48,10 @@ same-length-3 c = search needs
 
 returns-2 : tie.Need-returns-2
 returns-2 c =
-    let a = c .before .before .before .before .before .before .before .before .before .before .before .before .before .before .before .before .before .args in
-    let none = sym (c .before .before .before .before .before .before .before .before .before .before .before .before .refusal .ensures) ∙ c .before .before .before .before .before .before .before .before .before .before .before .if1 .left in
-    let l = lengths-of 64 8 _ _ _ _ none in
-    let begun = c .before .before .before .before .before .before .before .before .before .before .start .ensures (a .work .now) (a .store .now) (l .work) (l .store) in
-    let left = from-start edition2 (a .store .now) (a .events .now) (a .answers .now) _ _ _ (begun .1) (c .before .before .before .before .before .before .portion .ensures .0) in
+    let a = c .before .before .before .before .before .before .before .before .before .before .before .before .before .before .before .before .args in
+    let none = sym (c .before .before .before .before .before .before .before .before .before .before .before .refusal .ensures) ∙ c .before .before .before .before .before .before .before .before .before .before .if1 .left in
+    let E = c .before .before .before .before .before .before .from-start .ensures in
+    let left = from-start edition2 (a .store .now) (a .events .now) (a .answers .now) _ _ _ (E .begun) (E .leads) in
     signed (run-played 64 8 geometry2 (layout2 .many) bytes2 refl (a .store .now) (a .events .now) (a .work .now) (a .answers .now) _ _ _ none left (search needs))
 
 pub nekahuiro-run-edition2-spec : {M : Type 1} → statement M
@@ -68,8 +60,7 @@ nekahuiro-run-edition2-spec =
     (tie.spec
     refusal-requires
     returns
-    start-requires
-    portion-requires
+    from-start-requires
     same-length
     same-length-2
     same-length-3

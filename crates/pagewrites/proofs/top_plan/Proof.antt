@@ -2,8 +2,7 @@
 use mathlib.Core.Path.{sym, _∙_}
 use native.Mathlib.Omega.{arith}
 use Rattle.laws.specs.Tests.{same}
-use Rattle.rules.specs.Editions.{geometry1}
-use Rattle.commitpage.proofs.Places.{layout1}
+use Rattle.rules.specs.Editions.{geometryOf}
 use Rattle.pagewrites.proofs.Planned.{top-down, top-unknown, top-parent, top-beneath, top-busy, top-plans, by-number, above-zero, child-found, nothing-small, top-small}
 use borrow.Author.Needs.{needs}
 use Rattle.pagewrites.proofs.top_plan.Statement.{statement}
@@ -24,7 +23,7 @@ none-requires : tie.Need-none-requires
 none-requires c κs = search needs
 
 returns : tie.Need-returns
-returns c = (λ line held retained work store k i I H. top-down _ I _ _ k _ _ (c .none .ensures) (c .before .if1 .taken), nothing-small _ (c .none .ensures))
+returns c = (λ edition joint line held retained work store k i N I H. top-down (geometryOf edition) _ (N .many) _ I _ _ k _ _ (c .none .ensures) (c .before .if1 .taken), nothing-small _ _ (c .none .ensures))
 
 cast-d : tie.Need-cast-d
 cast-d c = search needs
@@ -36,7 +35,7 @@ none-requires-2 : tie.Need-none-requires-2
 none-requires-2 c κs = search needs
 
 returns-2 : tie.Need-returns-2
-returns-2 c = (λ line held retained work store k i I H. by-number _ _ k _ _ _ _ (c .before .before .before .before .number .ensures .0) (top-unknown _ I _ _ k _ _ (c .none2 .ensures) (c .before .before .before .if1 .left) (c .before .if2 .taken)), nothing-small _ (c .none2 .ensures))
+returns-2 c = (λ edition joint line held retained work store k i N I H. by-number (geometryOf edition) _ (N .many) _ _ k _ _ _ _ (c .before .before .before .before .number .ensures .0) (top-unknown (geometryOf edition) _ (N .many) _ I _ _ k _ _ (c .none2 .ensures) (c .before .before .before .if1 .left) (c .before .if2 .taken)), nothing-small _ _ (c .none2 .ensures))
 
 children-of-requires : tie.Need-children-of-requires
 children-of-requires c κs = search needs
@@ -48,30 +47,30 @@ none-requires-3 : tie.Need-none-requires-3
 none-requires-3 c κs = search needs
 
 returns-3 : tie.Need-returns-3
-returns-3 c = (λ line held retained work store k i I H. by-number _ _ k _ _ _ _ (c .before .before .before .before .before .before .before .before .number .ensures .0) (top-parent _ I _ _ k _ (record { up = c .before .before .before .before .before .before .before .if1 .left; live = above-zero _ (c .before .before .before .before .before .if2 .left) }) _ (c .none3 .ensures) (sym (child-found _ _ _ _ (c .before .before .before .before .before .before .before .before .number .ensures .1) (c .before .before .before .before .children-of .ensures .1) (c .before .before .has-child .ensures)) ∙ c .before .if3 .taken)), nothing-small _ (c .none3 .ensures))
+returns-3 c = (λ edition joint line held retained work store k i N I H. by-number (geometryOf edition) _ (N .many) _ _ k _ _ _ _ (c .before .before .before .before .before .before .before .before .number .ensures .0) (top-parent (geometryOf edition) _ (N .many) _ I _ _ k _ (record { up = c .before .before .before .before .before .before .before .if1 .left; live = above-zero _ (c .before .before .before .before .before .if2 .left) }) _ (c .none3 .ensures) (sym (child-found (geometryOf edition) _ (N .many) _ _ _ _ (c .before .before .before .before .before .before .before .before .number .ensures .1) (c .before .before .before .before .children-of .ensures .1) (c .before .before .has-child .ensures)) ∙ c .before .if3 .taken)), nothing-small _ _ (c .none3 .ensures))
 
 none-requires-4 : tie.Need-none-requires-4
 none-requires-4 c κs = search needs
 
 returns-4 : tie.Need-returns-4
-returns-4 c = (λ line held retained work store k i I H. by-number _ _ k _ _ _ _ (c .before .before .before .before .before .before .before .before .before .number .ensures .0) (top-beneath _ I _ _ k _ (record { up = c .before .before .before .before .before .before .before .before .if1 .left; live = above-zero _ (c .before .before .before .before .before .before .if2 .left) }) (sym (child-found _ _ _ _ (c .before .before .before .before .before .before .before .before .before .number .ensures .1) (c .before .before .before .before .before .children-of .ensures .1) (c .before .before .before .has-child .ensures)) ∙ c .before .before .if3 .left) _ i H _ (c .none4 .ensures) (c .before .if4 .taken)), nothing-small _ (c .none4 .ensures))
+returns-4 c = (λ edition joint line held retained work store k i N I H. by-number (geometryOf edition) _ (N .many) _ _ k _ _ _ _ (c .before .before .before .before .before .before .before .before .before .number .ensures .0) (top-beneath (geometryOf edition) _ (N .many) _ I _ _ k _ (record { up = c .before .before .before .before .before .before .before .before .if1 .left; live = above-zero _ (c .before .before .before .before .before .before .if2 .left) }) (sym (child-found (geometryOf edition) _ (N .many) _ _ _ _ (c .before .before .before .before .before .before .before .before .before .number .ensures .1) (c .before .before .before .before .before .children-of .ensures .1) (c .before .before .before .has-child .ensures)) ∙ c .before .before .if3 .left) _ i H _ (c .none4 .ensures) (c .before .if4 .taken)), nothing-small _ _ (c .none4 .ensures))
 
 map-of-requires : tie.Need-map-of-requires
-map-of-requires c κs = (let h = c .before .before .before .before .before .before .before .before .before .number .ensures .1 in omega arith, omega arith, search needs)
+map-of-requires c κs = (let h = c .before .before .before .before .before .before .before .before .number .ensures .1 in omega arith, c .before .before .before .before .before .before .before .before .before .before .pre .0, c .before .before .before .before .before .before .before .before .before .before .pre .4)
 
 none-requires-5 : tie.Need-none-requires-5
 none-requires-5 c κs = search needs
 
 returns-5 : tie.Need-returns-5
 unfolding same
-returns-5 c = (λ line held retained work store k i I H. by-number _ _ k _ _ _ _ (c .before .before .before .before .before .before .before .before .before .before .before .before .number .ensures .0) (top-busy _ I _ _ k _ (record { up = c .before .before .before .before .before .before .before .before .before .before .before .if1 .left; live = above-zero _ (c .before .before .before .before .before .before .before .before .before .if2 .left) }) (sym (child-found _ _ _ _ (c .before .before .before .before .before .before .before .before .before .before .before .before .number .ensures .1) (c .before .before .before .before .before .before .before .before .children-of .ensures .1) (c .before .before .before .before .before .before .has-child .ensures)) ∙ c .before .before .before .before .before .if3 .left) _ i H _ (c .before .before .map-of .ensures .0 geometry1 (layout1 .many)) (c .before .before .before .before .if4 .left) _ (c .none5 .ensures) (c .before .if5 .taken)), nothing-small _ (c .none5 .ensures))
+returns-5 c = (λ edition joint line held retained work store k i N I H. by-number (geometryOf edition) _ (N .many) _ _ k _ _ _ _ (c .before .before .before .before .before .before .before .before .before .before .before .number .ensures .0) (top-busy (geometryOf edition) _ (N .many) _ I _ _ k _ (record { up = c .before .before .before .before .before .before .before .before .before .before .if1 .left; live = above-zero _ (c .before .before .before .before .before .before .before .before .if2 .left) }) (sym (child-found (geometryOf edition) _ (N .many) _ _ _ _ (c .before .before .before .before .before .before .before .before .before .before .before .number .ensures .1) (c .before .before .before .before .before .before .before .children-of .ensures .1) (c .before .before .before .before .before .has-child .ensures)) ∙ c .before .before .before .before .if3 .left) _ i H _ (c .before .before .map-of .ensures .0 (geometryOf edition) (N .many)) (c .before .before .before .if4 .left) _ (c .none5 .ensures) (c .before .if5 .taken)), nothing-small _ _ (c .none5 .ensures))
 
 of-top-requires : tie.Need-of-top-requires
 of-top-requires c κs = search needs
 
 returns-6 : tie.Need-returns-6
 unfolding same
-returns-6 c = (λ line held retained work store k i I H. by-number _ _ k _ _ _ _ (c .before .before .before .before .before .before .before .before .before .before .before .before .number .ensures .0) (top-plans _ I _ _ k _ (record { up = c .before .before .before .before .before .before .before .before .before .before .before .if1 .left; live = above-zero _ (c .before .before .before .before .before .before .before .before .before .if2 .left) }) (sym (child-found _ _ _ _ (c .before .before .before .before .before .before .before .before .before .before .before .before .number .ensures .1) (c .before .before .before .before .before .before .before .before .children-of .ensures .1) (c .before .before .before .before .before .before .has-child .ensures)) ∙ c .before .before .before .before .before .if3 .left) _ i H _ (c .before .before .map-of .ensures .0 geometry1 (layout1 .many)) (c .before .before .before .before .if4 .left) _ (c .of-top .ensures) (c .before .if5 .left)), top-small _ _ _ _ (c .of-top .ensures) (c .before .before .map-of .ensures .1))
+returns-6 c = (λ edition joint line held retained work store k i N I H. by-number (geometryOf edition) _ (N .many) _ _ k _ _ _ _ (c .before .before .before .before .before .before .before .before .before .before .before .number .ensures .0) (top-plans (geometryOf edition) _ (N .many) _ I _ _ k _ (record { up = c .before .before .before .before .before .before .before .before .before .before .if1 .left; live = above-zero _ (c .before .before .before .before .before .before .before .before .if2 .left) }) (sym (child-found (geometryOf edition) _ (N .many) _ _ _ _ (c .before .before .before .before .before .before .before .before .before .before .before .number .ensures .1) (c .before .before .before .before .before .before .before .children-of .ensures .1) (c .before .before .before .before .before .has-child .ensures)) ∙ c .before .before .before .before .if3 .left) _ i H _ (c .before .before .map-of .ensures .0 (geometryOf edition) (N .many)) (c .before .before .before .if4 .left) _ (c .of-top .ensures) (c .before .if5 .left)), top-small _ _ _ _ _ (c .of-top .ensures) (c .before .before .map-of .ensures .1) (c .before .before .before .before .before .before .before .before .before .before .before .before .before .pre .1))
 
 pub top-plan-spec : {M : Type 1} → statement M
 top-plan-spec =

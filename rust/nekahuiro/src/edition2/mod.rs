@@ -1,7 +1,8 @@
 //! Edition 2: the same store with sixty-four records, and event words of eight bytes.
 //!
 //! It has a library of its own, libnekahuiro_edition2.a, which the feature `edition2` links beside the other. Rules
-//! and answers are the same; there is no prepare, decide and query, and a list is played as a whole.
+//! and answers are the same; there is no prepare, decide and query, and a list is played as a whole. The page writes of
+//! the event that comes next after a list are told too, for a device: [`Store::page_writes`].
 //!
 //! ```
 //! use nekahuiro::edition2::{Event, Record, Store};

@@ -9,9 +9,9 @@ use std::fmt;
 pub enum Refusal {
     /// 4: page 0 is damaged.
     Damaged,
-    /// 20: the event list is no whole number of words, or too long.
+    /// 20: the event list is no whole number of words, or too long, or an event asked about is no word.
     List,
-    /// 21: the answer buffer is too short.
+    /// 21: the answer buffer is too short, or the one for a page write has the wrong length.
     Answers,
     /// 22: the store has the wrong length.
     Store,

@@ -2,9 +2,10 @@
 
 use super::limits::{EVENT_BYTES, RECORDS, STORE_BYTES, WORK_BYTES};
 use super::{encode, CommitPage, Event, Record, Refusal};
-use crate::limits::{ANSWER_BYTES, PAGE_BYTES};
+use crate::limits::{ANSWER_BYTES, PAGE_BYTES, PAGE_WRITE_BYTES};
+use crate::page_write::NO_SUCH_WRITE;
 use crate::raw::edition2 as raw;
-use crate::{Answer, Clock, Limit, Page, Place, Verdict};
+use crate::{Answer, Clock, Limit, Page, PageWrite, Place, Verdict};
 
 /// The stable store, owned.
 #[derive(Clone, Debug, PartialEq, Eq)]
@@ -68,6 +69,45 @@ impl Store {
     pub fn play_lent(&mut self, words: &[u8], work: &mut [u8], answers: &mut [u8]) -> Result<(), Refusal> {
         match raw::run(&mut self.bytes, words, work, answers) {
             0 => Ok(()),
+            number => Err(Refusal::of(number)),
+        }
+    }
+
+    /// The page writes that an event makes after a list, if nothing cuts it, in their order. None if the event is
+    /// refused or writes no page. The list is played on a copy: this store stays, and a device programs the pages told.
+    ///
+    /// ```
+    /// use nekahuiro::edition2::{Event, Store};
+    /// let list = "recover 255, begin none, lock 0 63, write 0 63 2 A5, commit 0 255";
+    /// let events: Vec<Event> = list.split(',').map(str::parse).collect::<Result<_, _>>()?;
+    /// let writes = Store::fresh().page_writes(&events[..4], events[4])?;
+    /// let pages: Vec<u8> = writes.iter().map(|write| write.page).collect();
+    /// assert_eq!(pages, [64, 0, 128, 0]); // intention page, commit page, home page, empty page
+    /// # Ok::<(), Box<dyn std::error::Error>>(())
+    /// ```
+    pub fn page_writes(&self, list: &[Event], event: Event) -> Result<Vec<PageWrite>, Refusal> {
+        let mut work = vec![0; WORK_BYTES];
+        let mut answers = vec![0; list.len() * ANSWER_BYTES];
+        let (list, word) = (encode(list), event.word());
+        let told = |index| self.page_write_lent(&list, word, index, &mut work, &mut answers).transpose();
+        (0..=u8::MAX).map_while(told).collect()
+    }
+
+    /// The one of [`Store::page_writes`] with this number, from 0, if there is one: for event words in plain bytes, with
+    /// buffers lent by the caller. The answers to the list are left in `answers`.
+    pub fn page_write_lent(
+        &self,
+        list: &[u8],
+        word: [u8; EVENT_BYTES],
+        index: u8,
+        work: &mut [u8],
+        answers: &mut [u8],
+    ) -> Result<Option<PageWrite>, Refusal> {
+        let mut played = self.bytes;
+        let mut write = [0; PAGE_WRITE_BYTES];
+        match raw::page_write(&mut played, list, work, answers, &word, index, &mut write) {
+            0 => Ok(Some(PageWrite::of(write))),
+            NO_SUCH_WRITE => Ok(None),
             number => Err(Refusal::of(number)),
         }
     }

@@ -1,25 +1,28 @@
 -- The loop's invariant: the first k events have been played, their answers stand, and the sets of kin are those of the arrays.
 use mathlib.Core.Path.{_≡_, refl, sym}
 use mathlib.Core.Bool.{true≢false}
+use mathlib.Core.List.{List}
 use mathlib.Core.Logic.{inr}
 use Prim.Native.Nat.{ℕ, _*_, _-_, _/_, _<_, _≤_}
 use native.Mathlib.Omega.{arith}
 use lib.ListN.{length}
 use borrow.Author.Needs.{needs}
 use Rattle.rules.specs.Geometry.{records, pageCount}
-use Rattle.rules.specs.Editions.{geometry2, edition2}
+use Rattle.rules.specs.Editions.{geometry2, edition2, second}
 use Rattle.rules.proofs.AtomicPages.{atomic-laws}
 use Rattle.rules.proofs.Editions.{proper2}
 use Rattle.arrays.specs.Kin.{Kin}
 use Rattle.commitpage.proofs.Places.{layout2}
 use Rattle.event.proofs.Words.{bytes2}
-use Rattle.state.specs.Whole.{arrays, Reserves}
+use Rattle.state.specs.Whole.{arrays, Intact, Reserves}
+use Rattle.crashes.proofs.Editions.{served-of}
+use Rattle.crashes.proofs.Falls.{zeros, zeros-intact, zeros-down}
 use Rattle.state.proofs.Parents.{parent-named}
 use Rattle.state.proofs.Playing.{Playing, playing-none, playing-next, playing-all}
-use Rattle.portions_edition2.proofs.portion.Statement.{statement}
-use Rattle.portions_edition2.proofs.portion.Tie as tie
-use Rattle.portions_edition2.proofs.portion.Reads as reads
-use Rattle.portions_edition2.proofs.portion.Lts as lts
+use Rattle.portions_edition2.proofs.from_start.Statement.{statement}
+use Rattle.portions_edition2.proofs.from_start.Tie as tie
+use Rattle.portions_edition2.proofs.from_start.Reads as reads
+use Rattle.portions_edition2.proofs.from_start.Lts as lts
 use Rattle.engine.proofs.step.Reads as step-reads
 use Rattle.commit.proofs.read_held.Reads as read-held-reads
 use Rattle.event.proofs.Answer.put.Reads as put-reads
@@ -29,25 +32,30 @@ use Rattle.event.proofs.edition2.Edition2.word_at.Reads as word-at-reads
 use Rattle.transactions.proofs.children_of.Reads as children-of-reads
 use Rattle.transactions.proofs.live_set.Reads as live-set-reads
 
+-- all zeros stand for the start
+begins : (work store : List ℕ) → length work ≡ 32768 → length store ≡ 4128 → Intact edition2 (zeros 64 work store)
+unfolding records pageCount
+begins work store w s = zeros-intact edition2 64 work store (layout2 .many) w s (served-of second)
+
 abbrev Inv-loop : tie.InvT-loop
-Inv-loop e store₀ events work₀ answers₀ up₀ parent₀ depth₀ line₀ held₀ retained₀ writers₀ live₀ children₀ reserved₀ identity₀ table n k₀ store work answers up parent depth line held retained writers live children reserved identity k =
+Inv-loop store₀ events work₀ answers₀ up₀ parent₀ depth₀ line₀ held₀ retained₀ writers₀ live₀ children₀ reserved₀ identity₀ table n k₀ store work answers up parent depth line held retained writers live children reserved identity k =
     (k ≤ n) × (n ≡ length events / 8) × (n ≤ 4096) × (8 * n ≤ length events) × (2 * n ≤ length answers₀)
     × Playing edition2 8 (arrays up₀ parent₀ depth₀ line₀ held₀ retained₀ writers₀ work₀ store₀) events answers₀ n k (arrays up parent depth line held retained writers work store) answers
     × Kin parent depth live children × Reserves geometry2 store reserved identity
 
 abbrev μ-loop : tie.MeasureT-loop
-μ-loop e store₀ events work₀ answers₀ up₀ parent₀ depth₀ line₀ held₀ retained₀ writers₀ live₀ children₀ reserved₀ identity₀ table n k₀ store work answers up parent depth line held retained writers live children reserved identity k =
+μ-loop store₀ events work₀ answers₀ up₀ parent₀ depth₀ line₀ held₀ retained₀ writers₀ live₀ children₀ reserved₀ identity₀ table n k₀ store work answers up parent depth line held retained writers live children reserved identity k =
     n - k
 
 live-set-requires : tie.Need-live-set-requires Inv-loop μ-loop
 live-set-requires c κs = search needs
 
 children-of-requires : tie.Need-children-of-requires Inv-loop μ-loop
-children-of-requires c κs = (search needs, search needs, parent-named edition2 _ (c .before .before .before .before .before .before .before .before .before .before .before .before .before .before .pre .0))
+children-of-requires c κs = (search needs, search needs, parent-named edition2 _ (begins (c .before .before .before .before .before .before .before .before .args .work .now) (c .before .before .before .before .before .before .before .before .args .store .now) (c .before .before .before .before .before .before .before .before .pre .1) (c .before .before .before .before .before .before .before .before .pre .0)))
 
 read-held-requires : tie.Need-read-held-requires Inv-loop μ-loop
 unfolding records pageCount
-read-held-requires c κs = (inr refl, λ e. absurd (true≢false (sym e)), c .before .before .before .before .before .before .before .before .before .before .before .before .before .before .before .before .pre .0 .form .stores)
+read-held-requires c κs = (inr refl, λ e. absurd (true≢false (sym e)), (begins (c .before .before .before .before .before .before .before .before .before .before .args .work .now) (c .before .before .before .before .before .before .before .before .before .before .args .store .now) (c .before .before .before .before .before .before .before .before .before .before .pre .1) (c .before .before .before .before .before .before .before .before .before .before .pre .0)) .form .stores)
 
 table-requires : tie.Need-table-requires Inv-loop μ-loop
 table-requires c κs = search needs
@@ -60,8 +68,8 @@ loop-holds c =
       omega arith,
       omega arith,
       omega arith,
-      playing-none edition2 8 _ _ _ _ (c .before .before .before .before .before .before .before .before .before .before .before .before .before .before .before .before .before .before .pre .0),
-      record { lives = c .before .before .before .before .before .before .live-set .ensures; under = h .1; named = parent-named edition2 _ (c .before .before .before .before .before .before .before .before .before .before .before .before .before .before .before .before .before .before .pre .0); long = h .0 },
+      playing-none edition2 8 _ _ _ _ (begins (c .before .before .before .before .before .before .before .before .before .before .before .before .args .work .now) (c .before .before .before .before .before .before .before .before .before .before .before .before .args .store .now) (c .before .before .before .before .before .before .before .before .before .before .before .before .pre .1) (c .before .before .before .before .before .before .before .before .before .before .before .before .pre .0)),
+      record { lives = c .before .before .before .before .before .before .live-set .ensures; under = h .1; named = parent-named edition2 _ (begins (c .before .before .before .before .before .before .before .before .before .before .before .before .args .work .now) (c .before .before .before .before .before .before .before .before .before .before .before .before .args .store .now) (c .before .before .before .before .before .before .before .before .before .before .before .before .pre .1) (c .before .before .before .before .before .before .before .before .before .before .before .before .pre .0)); long = h .0 },
       sym (c .before .read-held .ensures .0 geometry2 layout2 refl),
     )
 
@@ -106,7 +114,7 @@ loop-less c = let q = c .before .before .before .before .before .before .before 
 loop-again : tie.Need-loop-again Inv-loop μ-loop
 loop-again c =
     let l = c .before .before .before .before .before .before .before .before .before .before .before .before .before .before .before .before .before .before .before .before .before .before .before .before .before .before .before .before .before .loop in
-    let a = c .before .before .before .before .before .before .before .before .before .before .before .before .before .before .before .before .before .before .before .before .before .before .before .before .before .before .before .before .before .before .before .before .before .before .before .before .before .before .before .before .before .before .before .before .before .before .before .before .args in
+    let a = c .before .before .before .before .before .before .before .before .before .before .before .before .before .before .before .before .before .before .before .before .before .before .before .before .before .before .before .before .before .before .before .before .before .before .before .before .before .before .before .before .before .before .args in
     let q : l .k < _ = c .before .before .before .before .before .before .before .before .before .before .before .before .before .before .before .before .before .before .before .before .before .before .before .before .before .before .before .before .loop-test .taken in
     let b = l .inv .0 in (
       omega arith,
@@ -120,19 +128,28 @@ loop-again c =
     )
 
 same-length : tie.Need-same-length Inv-loop μ-loop
-same-length c = search needs
+unfolding records pageCount
+same-length c = let e : length (c .before .loop .store) ≡ 4128 = c .before .loop .inv .5 .intact .form .stores in let s : length (c .before .before .before .before .before .before .before .before .before .before .before .before .before .before .args .store .now) ≡ 4128 = c .before .before .before .before .before .before .before .before .before .before .before .before .before .before .pre .0 in search needs
 
 same-length-2 : tie.Need-same-length-2 Inv-loop μ-loop
-same-length-2 c = search needs
+unfolding records pageCount
+same-length-2 c = let e : length (c .before .loop .work) ≡ 32768 = c .before .loop .inv .5 .intact .form .works in let s : length (c .before .before .before .before .before .before .before .before .before .before .before .before .before .before .args .work .now) ≡ 32768 = c .before .before .before .before .before .before .before .before .before .before .before .before .before .before .pre .1 in search needs
 
 same-length-3 : tie.Need-same-length-3 Inv-loop μ-loop
 same-length-3 c = search needs
 
 returns : tie.Need-returns Inv-loop μ-loop
-returns c = let l = c .before .before .loop in (playing-all edition2 8 bytes2 (atomic-laws geometry2 proper2 .to-from) _ _ _ _ _ (l .k) _ (omega arith) (l .inv .1) (l .inv .5), refl)
+returns c = let l = c .before .loop in record {
+  before = zeros 64 (c .before .before .before .before .before .before .before .before .before .before .before .before .before .before .args .work .now) (c .before .before .before .before .before .before .before .before .before .before .before .before .before .before .args .store .now);
+  begun = zeros-down edition2 64 (c .before .before .before .before .before .before .before .before .before .before .before .before .before .before .args .work .now) (c .before .before .before .before .before .before .before .before .before .before .before .before .before .before .args .store .now);
+  line = l .line;
+  held = l .held;
+  retained = l .retained;
+  leads = playing-all edition2 8 bytes2 (atomic-laws geometry2 proper2 .to-from) _ _ _ _ _ (l .k) _ (omega arith) (l .inv .1) (l .inv .5);
+}
 
-pub portion-spec : {M : Type 1} → statement M
-portion-spec =
+pub from-start-spec : {M : Type 1} → statement M
+from-start-spec =
     tie.close
     (tie.spec
     Inv-loop

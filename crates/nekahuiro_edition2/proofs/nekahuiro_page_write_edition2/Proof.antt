@@ -1,0 +1,108 @@
+-- The lengths decide; where they are right a portion from the start is the list's run, and the page write is the one that the rules plan on the state
+-- that it leaves.
+use borrow.Author.Needs.{needs}
+use mathlib.Core.Path.{_≡_, refl, sym, ap, _∙_}
+use mathlib.Core.Bool.{true≢false}
+use mathlib.Core.Logic.{inr}
+use native.Mathlib.Omega.{arith}
+use lib.ListN.{length}
+use Rattle.rules.specs.Geometry.{records, pageCount}
+use Rattle.rules.specs.Event.{decode}
+use Rattle.rules.specs.Editions.{geometry2, edition2, second}
+use Rattle.commitpage.proofs.Places.{layout2}
+use Rattle.state.proofs.Parents.{parent-named}
+use Rattle.lengths.proofs.Lengths.{lengths-of, question-of}
+use Rattle.pagewrites.proofs.Numbered.{word-is}
+use Rattle.nekahuiro_edition2.proofs.PageWrites.{list-refused, event-refused, list-asked}
+use Rattle.nekahuiro_edition2.proofs.nekahuiro_page_write_edition2.Statement.{statement}
+use Rattle.nekahuiro_edition2.proofs.nekahuiro_page_write_edition2.Tie as tie
+use Rattle.nekahuiro_edition2.proofs.nekahuiro_page_write_edition2.Reads as reads
+use Rattle.nekahuiro_edition2.proofs.nekahuiro_page_write_edition2.Lts as lts
+use Rattle.event.proofs.edition2.Edition2.of_word.Reads as of-word-reads
+use Rattle.event.proofs.edition2.Edition2.table.Reads as table-reads
+use Rattle.event.proofs.edition2.Edition2.word_at.Reads as word-at-reads
+use Rattle.lengths.proofs.question.Reads as question-reads
+use Rattle.lengths.proofs.refusal.Reads as refusal-reads
+use Rattle.pagewrites.proofs.page_write.Reads as page-write-reads
+use Rattle.portions_edition2.proofs.from_start.Reads as from-start-reads
+
+refusal-requires : tie.Need-refusal-requires
+refusal-requires c κs = (omega arith, omega arith, omega arith)
+
+returns : tie.Need-returns
+returns c =
+    let a = c .before .before .before .before .before .before .before .before .args in
+    list-refused (a .store .now) (a .events .now) (a .work .now) (a .answers .now) (a .event .now) (a .index) (a .write .now) (c .before .refusal .result) (c .before .refusal .ensures) (c .if1 .taken)
+
+question-requires : tie.Need-question-requires
+question-requires c κs = omega arith
+
+returns-2 : tie.Need-returns-2
+returns-2 c =
+    let a = c .before .before .before .before .before .before .before .before .before .before .args in
+    event-refused (a .store .now) (a .events .now) (a .work .now) (a .answers .now) (a .event .now) (a .index) (a .write .now) (sym (c .before .before .before .refusal .ensures) ∙ c .before .before .if1 .left) (c .before .question .result) (c .before .question .ensures) (c .if2 .taken)
+
+from-start-requires : tie.Need-from-start-requires
+from-start-requires c κs = let l = lengths-of 64 8 _ _ _ _ (sym (c .before .before .before .before .before .before .refusal .ensures) ∙ c .before .before .before .before .before .if1 .left) in (l .store, l .work, l .short, l .room)
+
+table-requires : tie.Need-table-requires
+table-requires c κs = search needs
+
+word-at-requires : tie.Need-word-at-requires
+word-at-requires c κs = let h = question-of 64 8 _ _ _ _ (sym (c .before .before .before .before .before .before .before .before .before .before .before .before .before .before .before .question .ensures) ∙ c .before .before .before .before .before .before .before .before .before .before .before .before .before .before .if2 .left) .event in (omega arith, omega (arith, h))
+
+slice-aggregate-page-write : tie.Need-slice-aggregate-page-write
+unfolding records
+slice-aggregate-page-write c = let h : length (c .before .before .before .before .before .before .before .before .before .before .before .before .before .before .from-start .result .writers) ≡ 64 = c .before .before .before .before .before .before .before .before .before .before .before .before .before .before .from-start .ensures .leads .intact .form .writerss in sym h
+
+of-word-requires : tie.Need-of-word-requires
+of-word-requires c κs = c .before .before .before .before .before .before .before .table .ensures
+
+page-write-requires : tie.Need-page-write-requires
+unfolding records pageCount
+page-write-requires c κs =
+    let I = c .before .before .before .before .before .before .before .before .before .before .before .before .before .before .before .before .before .before .before .from-start .ensures .leads .intact in
+    (inr refl, (λ e. absurd (true≢false (sym e))), c .before .of-word .ensures .1 .joint, I .form .parents, I .form .depths, I .form .writerss, I .form .works, I .form .stores, question-of 64 8 _ _ _ _ (sym (c .before .before .before .before .before .before .before .before .before .before .before .before .before .before .before .before .before .before .before .before .before .before .before .before .question .ensures) ∙ c .before .before .before .before .before .before .before .before .before .before .before .before .before .before .before .before .before .before .before .before .before .before .before .if2 .left) .write, parent-named edition2 _ I)
+
+same-length : tie.Need-same-length
+same-length c = search needs
+
+same-length-2 : tie.Need-same-length-2
+same-length-2 c = search needs
+
+same-length-3 : tie.Need-same-length-3
+same-length-3 c = search needs
+
+same-length-4 : tie.Need-same-length-4
+same-length-4 c = search needs
+
+returns-3 : tie.Need-returns-3
+unfolding records
+returns-3 c =
+    let a = c .before .before .before .before .before .before .before .before .before .before .before .before .before .before .before .before .before .before .before .before .before .before .before .before .before .before .before .before .before .before .before .before .before .before .before .before .args in
+    let fits = sym (c .before .before .before .before .before .before .before .before .before .before .before .before .before .before .before .before .before .before .before .before .before .before .before .before .before .before .before .before .before .refusal .ensures) ∙ c .before .before .before .before .before .before .before .before .before .before .before .before .before .before .before .before .before .before .before .before .before .before .before .before .before .before .before .before .if1 .left in
+    let asked = sym (c .before .before .before .before .before .before .before .before .before .before .before .before .before .before .before .before .before .before .before .before .before .before .before .before .before .before .before .question .ensures) ∙ c .before .before .before .before .before .before .before .before .before .before .before .before .before .before .before .before .before .before .before .before .before .before .before .before .before .before .if2 .left in
+    let E = c .before .before .before .before .before .before .before .before .before .before .before .before .before .before .before .before .before .before .before .before .before .before .from-start .ensures in
+    list-asked (a .store .now) (a .events .now) (a .work .now) (a .answers .now) (a .event .now) (a .index) (a .write .now) fits asked (E .before) _ _ (E .begun) (E .leads) (E .leads .intact .form .works ∙ sym (lengths-of 64 8 _ _ _ _ fits .work)) _
+    (ap (decode geometry2) (sym (c .before .before .before .before .before .before .before .before .before .before .before .word-at .ensures ∙ word-is 8 (a .event .now) (question-of 64 8 _ _ _ _ asked .event))) ∙ c .before .before .before .before .of-word .ensures .0) _ _
+    (c .before .before .page-write .ensures second (E .line) (E .held) (E .retained) (record { many = layout2 .many; two-phase = refl }) (E .leads .intact))
+
+pub nekahuiro-page-write-edition2-spec : {M : Type 1} → statement M
+nekahuiro-page-write-edition2-spec =
+    tie.close
+    (tie.spec
+    refusal-requires
+    returns
+    question-requires
+    returns-2
+    from-start-requires
+    table-requires
+    word-at-requires
+    slice-aggregate-page-write
+    of-word-requires
+    page-write-requires
+    same-length
+    same-length-2
+    same-length-3
+    same-length-4
+    returns-3)
