@@ -18,7 +18,8 @@
  *     size_t, `place` as a uint16_t, `state` as its struct is.
  *   - At least NEKAHUIRO_STACK_BYTES of stack are free, or NEKAHUIRO_AUDIT_STACK_BYTES for an audit.
  * Buffers stay the caller's, and their contents may be anything. What each call answers and leaves in
- * every buffer is proved for all contents and all sizes: see docs/PROMISES.md.
+ * every buffer is proved for all contents and all sizes: see docs/PROMISES.md. docs/FORMAT.md has the
+ * formats byte by byte.
  */
 #ifndef NEKAHUIRO_H
 #define NEKAHUIRO_H

@@ -1,15 +1,15 @@
 -- A difference of two 32-bit readings fits 64 bits with a sign; the three judgements by their tests.
-use mathlib.Core.Path.{_≡_, refl, sym, ap, subst⁻¹, _∙_}
+use mathlib.Core.Path.{_≡_, refl, ap, subst⁻¹}
 use mathlib.Core.Bool.{Bool, true, false, cond}
-use Prim.Native.Nat.{ℕ, zero, suc, _+_, _-_, _<_, _≤_, _^_}
+use Prim.Native.Nat.{ℕ, zero, suc, _+_, _-_, _<_, _^_}
 use native.Mathlib.Omega.{arith}
 use lib.Dec.{T, ltb, ltb→lt}
 use lib.IntN.{ℤ, pos, negsuc, subℕ, _-ℤ_}
 use lib.Signed.{ltZ, leZ}
 use mir.Syntax.{w32, w64}
-use mir.Val.{Fits, SFits, toZ, ofZ}
-use mir.Facts.{toZ-ofZ, toZ-pos, fits-lt-pow}
-use Rattle.rules.specs.Age.{Age, ahead, live, stale, judged}
+use mir.Val.{Fits, SFits, toZ}
+use mir.Facts.{toZ-pos, fits-lt-pow}
+use Rattle.rules.specs.Age.{ahead, live, stale, judged}
 
 -- a reading that was widened
 pub widened : {n : ℕ} → Fits w32 n → toZ w64 n ≡ pos n

@@ -1,7 +1,5 @@
 -- The judgement of an age as the rules have it.
-use lib.IntN.{ℤ}
 use Rattle.rules.specs.Age.{Age, ahead, live, stale}
-use Rattle.age.specs.declared.Minutes.{Minutes}
 use Rattle.age.specs.declared.Judged.{Judged}
 
 -- the case of the enum, with its age

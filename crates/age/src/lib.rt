@@ -1,6 +1,6 @@
 // How old a stamp is at a clock reading. A clock reading, a limit and an age are types of their own: none can be handed in for another.
 ghost use mathlib.Core.Path.{_≡_};
-ghost use lib.IntN.{ℤ, pos, subℕ};
+ghost use lib.IntN.{subℕ};
 ghost use Rattle.rules.specs.Age.{judged};
 ghost use Rattle.age.specs.Meaning.{meaning};
 

@@ -1,7 +1,7 @@
 -- The agreement. The depot decides a round of an identity once. An order that is under way tells the decision that the depot holds, since no
 -- message outlives its round; and what is prepared at the gateway was prepared in the round that runs, since no identity is given while one is
 -- prepared with it. So the gateway stores only what the depot has decided for that round.
-use mathlib.Core.Path.{_≡_, refl, sym, ap, subst, _∙_}
+use mathlib.Core.Path.{_≡_, refl, sym, ap, _∙_}
 use mathlib.Core.Bool.{Bool, true, false, cond, true≢false, false≢true}
 use mathlib.Core.List.{List}
 use mathlib.Core.Logic.{_≢_, _⊎_, inl, inr}
@@ -21,7 +21,7 @@ use Rattle.rules.proofs.AtomicPages.{atomic-laws}
 use Rattle.rules.proofs.Soundness.{Reached, reached-start, reached-word}
 use Rattle.agreement.specs.Depot.{Stage, Input, start, yes, no, giveUp, Order, toPrepare, toCommit, toAbort, goes, table, decision, open-depot}
 use Rattle.agreement.specs.Messages.{Message, order, vote, about, inputOf, following, isOwn, reply, News, nothing, taken, ended, news, open-messages}
-use Rattle.agreement.specs.Agreement.{Network, sending, World, preparedAt, played, depotTurns, sinceThen, obeyedThen, gateTurns, loses, Quiet, Unused, Fresh, Happens, starts, givesUp, votes, orders, plays, lost, Reaches, here, then, first, Agree, Agreement}
+use Rattle.agreement.specs.Agreement.{Network, sending, World, preparedAt, played, depotTurns, sinceThen, obeyedThen, gateTurns, loses, Fresh, Happens, starts, givesUp, votes, orders, plays, lost, Reaches, here, then, first, Agreement}
 use Rattle.agreement.proofs.Table.{ruling, isStart, none-some, keeps, asks}
 use Rattle.agreement.proofs.Follows.{Follows, Fits, news-fits, follows-word}
 

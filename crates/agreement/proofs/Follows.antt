@@ -1,20 +1,18 @@
 -- The identity that is prepared in the store follows what the gateway's events and answers tell: only a prepare of it prepares it, and only a
 -- decision on it ends that, so.
-use mathlib.Core.Path.{_≡_, refl, sym, ap, subst⁻¹, _∙_}
-use mathlib.Core.Bool.{Bool, true, false, cond, _&&_, true≢false, false≢true}
+use mathlib.Core.Path.{_≡_, refl, ap, subst⁻¹, _∙_}
+use mathlib.Core.Bool.{Bool, true, false, _&&_}
 use mathlib.Core.List.{List, [], _∷_}
-use mathlib.Core.Logic.{_≢_}
 use mathlib.Core.Option.{Option, none, some}
 use Prim.Native.Nat.{ℕ, _<_}
 use native.Mathlib.Omega.{arith}
 use Rattle.laws.specs.Tests.{same}
-use Rattle.laws.proofs.Tests.{same?, Same, is, isnt, same-eq, same-refl, ne-false}
-use Rattle.laws.proofs.Booleans.{or-cases, clash}
+use Rattle.laws.proofs.Tests.{same?, Same, is, isnt, same-refl, ne-false}
 use Rattle.rules.specs.Event.{Event, begin, lock, write, read, commit, abort, crash, recover, prepare, decide, query, fits, decode}
 use Rattle.rules.specs.State.{lineOf, down}
 use Rattle.rules.specs.Commit.{Cut}
 use Rattle.rules.specs.Form.{Form}
-use Rattle.rules.specs.Step.{Answer, done, refused, cut, valueOf, isFor, isTop, StateOf, OutcomeOf, begun, locked, wrote, ended as endedState, passed, retaining, aborted, raised, concluded, finished, refusal, commitsTop, commitsChild, commits, recovers, decides, changes, busy, act, judged, step}
+use Rattle.rules.specs.Step.{Answer, done, refused, cut, valueOf, isFor, isTop, StateOf, OutcomeOf, begun, locked, wrote, ended as endedState, retaining, aborted, raised, concluded, finished, refusal, commitsTop, commitsChild, commits, recovers, decides, changes, busy, act, step}
 use Rattle.rules.specs.Sound.{Sound}
 use Rattle.rules.proofs.Medium.{MediumLaws, changedIn, isClear}
 use Rattle.rules.proofs.Event.{decode-fits}

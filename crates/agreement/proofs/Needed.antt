@@ -1,12 +1,11 @@
 -- Both halves of the premise on identities are needed: with either alone the two ends can hold opposite decisions. With both, they do come to decide.
 -- Each is a run of edition 1 from a fresh store, by computing.
-use mathlib.Core.Path.{_≡_, refl, ap}
-use mathlib.Core.Bool.{Bool, true, false, true≢false, false≢true}
-use mathlib.Core.List.{List, [], _∷_}
-use mathlib.Core.Logic.{_≢_, _⊎_, inl, inr}
+use mathlib.Core.Path.{refl, ap}
+use mathlib.Core.Bool.{true, false, true≢false, false≢true}
+use mathlib.Core.List.{List}
+use mathlib.Core.Logic.{_≢_, inl, inr}
 use mathlib.Core.Option.{Option, none, some}
-use Prim.Native.Nat.{ℕ, suc}
-use lib.ListN.{length}
+use Prim.Native.Nat.{ℕ}
 use Rattle.laws.specs.Tests.{open-tests}
 use Rattle.laws.specs.Counting.{open-counting}
 use Rattle.laws.specs.Functions.{open-functions}
@@ -21,8 +20,8 @@ use Rattle.rules.specs.Commit.{open-commit}
 use Rattle.rules.specs.Step.{open-step}
 use Rattle.rules.specs.Editions.{edition1}
 use Rattle.agreement.specs.Depot.{asked, committed, aborted, toPrepare, toCommit, toAbort, open-depot}
-use Rattle.agreement.specs.Messages.{Message, open-messages}
-use Rattle.agreement.specs.Agreement.{World, preparedAt, depotTurns, gateTurns, loses, Quiet, Unused, Fresh, Happens, starts, givesUp, votes, orders, plays, lost, Reaches, here, then, first, Agreement, open-agreement}
+use Rattle.agreement.specs.Messages.{open-messages}
+use Rattle.agreement.specs.Agreement.{World, depotTurns, gateTurns, loses, Quiet, Unused, Fresh, starts, givesUp, votes, orders, plays, lost, Reaches, here, then, first, Agreement, open-agreement}
 
 abbrev W : Type 1
 W = World edition1

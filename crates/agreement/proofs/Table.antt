@@ -1,6 +1,6 @@
 -- The depot's table: an identity isn't given while a vote is asked for, and nothing else moves an idle one; a decision is told again and not given
 -- up. A start leaves no decision; else a decision that is held stays, and the order tells the one that is held then.
-use mathlib.Core.Path.{_≡_, refl, sym, ap, subst, _∙_}
+use mathlib.Core.Path.{_≡_, refl, ap, subst}
 use mathlib.Core.Bool.{Bool, true, false, true≢false, false≢true}
 use mathlib.Core.Logic.{_≢_}
 use mathlib.Core.Option.{Option, none, some}

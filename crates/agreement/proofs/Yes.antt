@@ -1,15 +1,14 @@
 -- A yes is true when it is sent: the gateway is up, and its identity is prepared there, or it was a prepare that changed nothing and just committed.
-use mathlib.Core.Path.{_≡_, refl, sym, ap, subst, subst⁻¹, _∙_}
-use mathlib.Core.Bool.{Bool, true, false, cond, true≢false, false≢true}
+use mathlib.Core.Path.{_≡_, refl, ap, subst, subst⁻¹}
+use mathlib.Core.Bool.{Bool, true, false, false≢true}
 use mathlib.Core.Logic.{_≢_, _⊎_, inl, inr}
 use mathlib.Core.Option.{Option, none, some}
 use Prim.Native.Nat.{ℕ}
 use native.Mathlib.Omega.{arith}
 use Rattle.laws.specs.Tests.{same}
-use Rattle.laws.proofs.Tests.{same?, Same, is, isnt, Is, is?, yes′, no′, same-eq, ne-false}
+use Rattle.laws.proofs.Tests.{same?, Same, is, isnt, Is, is?, yes′, no′, ne-false}
 use Rattle.laws.proofs.Booleans.{clash}
 use Rattle.rules.specs.Event.{Event, begin, lock, write, read, commit, abort, crash, recover, prepare, decide, query, decode}
-use Rattle.rules.specs.State.{down}
 use Rattle.rules.specs.Commit.{Cut}
 use Rattle.rules.specs.Form.{Form}
 use Rattle.rules.specs.Step.{Answer, done, refused, cut, valueOf, isFor, StateOf, OutcomeOf, ended as endedState, concluded, commitsTop, act, step}

@@ -1,7 +1,7 @@
 -- A depot and a gateway over a network that loses, repeats and delays messages, and the claim of document 02, L9: both ends never hold opposite
 -- decisions for one transaction. The gateway is the store with its rules, playing event words.
 use mathlib.Core.Path.{_≡_}
-use mathlib.Core.Bool.{Bool, true, false, cond}
+use mathlib.Core.Bool.{Bool, true, cond}
 use mathlib.Core.List.{List}
 use mathlib.Core.Logic.{_≢_, _⊎_}
 use mathlib.Core.Option.{Option, none, some}
@@ -11,8 +11,8 @@ use Rattle.laws.specs.Tests.{same}
 use Rattle.rules.specs.Event.{decode}
 use Rattle.rules.specs.State.{down}
 use Rattle.rules.specs.Form.{Form}
-use Rattle.rules.specs.Step.{Answer, StateOf, OutcomeOf, step}
-use Rattle.agreement.specs.Depot.{Stage, idle, Input, start, giveUp, Order, goes, table, decision}
+use Rattle.rules.specs.Step.{StateOf, OutcomeOf, step}
+use Rattle.agreement.specs.Depot.{Stage, idle, start, giveUp, Order, goes, table, decision}
 use Rattle.agreement.specs.Messages.{Message, order, vote, about, inputOf, following, isOwn, reply, News, nothing, taken, ended, news}
 
 -- the messages that may still arrive, any number of times each

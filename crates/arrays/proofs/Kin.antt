@@ -10,7 +10,7 @@ use native.Mathlib.Omega.{arith}
 use lib.ListN.{length, getD, set, length-set, replicate, length-replicate, getD-replicate, List·getD-eq-default}
 use lib.Seq.{getD-set-same, getD-set-other}
 use Rattle.laws.specs.Tests.{same}
-use Rattle.laws.specs.Counting.{any, lowest}
+use Rattle.laws.specs.Counting.{lowest}
 use Rattle.laws.specs.Functions.{updated}
 use Rattle.laws.specs.Bits.{bits}
 use Rattle.laws.proofs.Tests.{same?, Same, is, isnt, same-refl, ne-false}

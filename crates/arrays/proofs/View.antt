@@ -1,20 +1,20 @@
 -- Parents, depths and liveness as the arrays of numbers give them.
-use mathlib.Core.Path.{_≡_, refl, sym, ap, ap₂, _∙_, fun-ext}
-use mathlib.Core.Bool.{Bool, true, false, not, cond, _&&_, _||_, false≢true}
+use mathlib.Core.Path.{_≡_, refl, ap}
+use mathlib.Core.Bool.{Bool, true, false, not, cond, _&&_, false≢true}
 use mathlib.Core.List.{List}
 use mathlib.Core.Logic.{dite}
-use mathlib.Core.Option.{Option, none, some}
+use mathlib.Core.Option.{none, some}
 use native.Mathlib.Decide.{decLt}
-use Prim.Native.Nat.{ℕ, zero, suc, _≤_, _<_}
+use Prim.Native.Nat.{ℕ, zero, suc, _<_}
 use native.Mathlib.Omega.{arith}
 use lib.Dec.{eqb·suc-zero}
 use lib.ListN.{length, getD, List·getD-eq-default}
 use Rattle.laws.specs.Tests.{same}
-use Rattle.rules.specs.Store.{Page, pagesOf}
-use Rattle.rules.specs.State.{Bearer, free, active, isActive, parentIn, depthIn}
+use Rattle.rules.specs.Store.{Page}
+use Rattle.rules.specs.State.{isActive, parentIn, depthIn}
 use Rattle.rules.specs.Versions.{isSome}
 use Rattle.sets.specs.Sets.{sets}
-use Rattle.arrays.specs.View.{bearerAt, bearersOf, slot, versionsOf}
+use Rattle.arrays.specs.View.{bearerAt, bearersOf, versionsOf}
 
 depth-of : (p d : ℕ) → depthIn (bearerAt p d) ≡ d
 unfolding bearerAt depthIn

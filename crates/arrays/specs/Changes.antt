@@ -43,7 +43,7 @@ less gone s k = not (gone k) && s k
 unfoldable pub leaving : (ℕ → Bool) → Owners → Owners
 leaving gone o r = less gone (o r)
 
--- the set s without t, and with p where t had a part in it
+-- the set s with p in the place of t if t had the lock, else s without t
 unfoldable pub heirsOf : Bool → (ℕ → Bool) → ℕ → ℕ → ℕ → Bool
 heirsOf had s t p k = (not (same k t) && s k) || (same k p && had)
 

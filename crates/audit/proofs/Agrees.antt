@@ -1,7 +1,7 @@
 -- THE PLAIN ENGINE AGREES WITH THE RULES: what is due to the next event by the ledger is what the rules answer, and the store that it leaves is
 -- theirs; and with each row the ledger goes on telling the state.
-use mathlib.Core.Path.{_≡_, refl, sym, ap, ap₂, subst⁻¹, _∙_, fun-ext}
-use mathlib.Core.Bool.{Bool, true, false, not, cond, _&&_, _||_, true≢false, false≢true, and-false}
+use mathlib.Core.Path.{_≡_, refl, sym, ap, subst⁻¹, _∙_, fun-ext}
+use mathlib.Core.Bool.{Bool, true, false, not, cond, _&&_, _||_, false≢true, and-false}
 use mathlib.Core.List.{List, [], _∷_}
 use mathlib.Core.Logic.{_≢_}
 use mathlib.Core.Option.{Option, none, some}
@@ -9,7 +9,7 @@ use Prim.Native.Nat.{ℕ}
 use lib.ListN.{getD}
 use Rattle.laws.specs.Tests.{same}
 use Rattle.laws.specs.Counting.{all, lowest}
-use Rattle.laws.proofs.Tests.{same?, Same, is, isnt, same-eq, same-refl, ne-false, Is, is?, yes′, no′}
+use Rattle.laws.proofs.Tests.{same?, Same, is, isnt, same-refl, ne-false, Is, is?, yes′, no′}
 use Rattle.laws.proofs.Booleans.{clash, not-false}
 use Rattle.rules.specs.Geometry.{records, transactions, nobody}
 use Rattle.rules.specs.Store.{Page}
@@ -26,18 +26,18 @@ use Rattle.rules.proofs.Acceptance.{read-ok, commit-ok, Judged, acts, refuses, 
 use Rattle.rules.proofs.Grades.{Grade, writeMode, anyMode}
 use Rattle.rules.proofs.Locks.{rooted-of, tree-of, live-line, member-live, child-line}
 use Rattle.rules.proofs.Soundness.{Reached}
-use Rattle.history.specs.History.{Fate, bearing, committed, stored, waiting, ended, History, nothingYet, standsWith, writesTo, overlaid, told, effectOf, effect, after}
+use Rattle.history.specs.History.{Fate, bearing, committed, stored, waiting, ended, History, overlaid, told}
 use Rattle.history.specs.Claims.{seenBy}
 use Rattle.history.proofs.Overlay.{overlaid-pick, writesTo-pick}
 use Rattle.history.proofs.Roots.{Root}
 use Rattle.history.proofs.Data.{reads-is}
 use Rattle.history.proofs.Table.{Table, bearer-some, stands-is, seen-is}
 use Rattle.history.proofs.Invariant.{Holds, Held, step-after}
-use Rattle.audit.specs.Plain.{Ledger, borne, isParent, depthOf, locksOf, hasChanged, passedBy, grantsBy, upBy, learned, Due, readBy, changesBy, dueRefusals, dueCut, dueDone, dueCommit, dueTo, dueBy, due}
+use Rattle.audit.specs.Plain.{Ledger, borne, isParent, locksOf, hasChanged, upBy, learned, Due, readBy, changesBy, dueRefusals, dueCut, dueDone, dueCommit, dueTo, dueBy, due}
 use Rattle.audit.proofs.Free.{isPlain, Free, none-reserved, not-busy, step-free}
 use Rattle.audit.proofs.Picked.{locksOf-pick}
 use Rattle.audit.proofs.Kin.{borne-is, depth-is, child-is, top-parent, child-parent}
-use Rattle.audit.proofs.Locking.{bears, Locking}
+use Rattle.audit.proofs.Locking.{bears}
 use Rattle.audit.proofs.Learns.{Locked, step-locked}
 use Rattle.audit.proofs.Blocks.{grant-is}
 

@@ -1,22 +1,22 @@
 -- THE AUDITOR'S OWN ENGINE GIVES THE VERDICT THAT A RUN OF THE RULES GIVES, for every start store, list, answers and end store.
-use mathlib.Core.Path.{_≡_, refl, sym, ap, ap₂, subst, subst⁻¹, _∙_, fun-ext}
-use mathlib.Core.Bool.{Bool, true, false, not, cond, _&&_, _||_, true≢false, false≢true}
+use mathlib.Core.Path.{_≡_, refl, ap, subst, _∙_}
+use mathlib.Core.Bool.{Bool, true, false, not, cond, _||_, true≢false}
 use mathlib.Core.List.{List, [], _∷_, _++_}
 use mathlib.Core.Logic.{_≢_}
 use mathlib.Core.Option.{Option, none, some}
-use Prim.Native.Nat.{ℕ, zero, suc, _+_, _*_, _<_, _≤_, _%_}
+use Prim.Native.Nat.{ℕ, suc, _+_, _*_, _%_}
 use native.Mathlib.Omega.{arith}
 use lib.ListN.{length, getD, drop, replicate, length-replicate}
 use Rattle.laws.specs.Tests.{same, under, open-tests}
 use Rattle.laws.specs.Counting.{lowest, lowestFrom}
 use Rattle.laws.proofs.Tests.{same-eq, same-refl, or-false-left, or-false-right, under-lt, lt-under}
-use Rattle.laws.proofs.Booleans.{clash, refute, not-false}
+use Rattle.laws.proofs.Booleans.{refute, not-false}
 use Rattle.rules.specs.Geometry.{records, pageCount, workSize, wordSize, longest}
 use Rattle.rules.specs.Store.{Page}
 use Rattle.rules.specs.Event.{decode}
 use Rattle.rules.specs.State.{down}
 use Rattle.rules.specs.Form.{Form}
-use Rattle.rules.specs.Step.{Answer, numberOf, valueOf, firstOf, isBusy, StateOf, OutcomeOf, step}
+use Rattle.rules.specs.Step.{Answer, numberOf, valueOf, firstOf, isBusy, StateOf, step}
 use Rattle.rules.specs.Run.{words, answerBytes, play, eventsIn, runRefusals, runAll, runBy, run}
 use Rattle.rules.specs.Editions.{geometry1, edition1}
 use Rattle.rules.proofs.Medium.{MediumLaws}
@@ -31,12 +31,10 @@ use Rattle.history.proofs.Roots.{lost}
 use Rattle.history.proofs.Invariant.{Holds, held-word}
 use Rattle.history.proofs.Starts.{startRoot, start-holds, plain-start}
 use Rattle.audit.specs.Plain.{Ledger, blankLedger, learned, locksOf}
-use Rattle.audit.specs.Audit.{Verdict, belongs, wrongEvent, wrongPage, refuses, isTwoPhase, someTwoPhase, auditRefusals, sameAnswer, samePage, verdict, verdictOf, auditBy, audit, audit1}
+use Rattle.audit.specs.Audit.{belongs, wrongEvent, wrongPage, isTwoPhase, someTwoPhase, auditRefusals, sameAnswer, samePage, verdict, verdictOf, auditBy, audit, audit1}
 use Rattle.audit.specs.Walk.{Walked, wrong, right, answered, walk, verdictBy, plainBy, plainAudit}
-use Rattle.audit.proofs.Locking.{Locking}
-use Rattle.audit.proofs.Learns.{Locked}
 use Rattle.audit.proofs.Free.{plain-word}
-use Rattle.audit.proofs.Agrees.{dueOf, Agrees, due-is, agree-step}
+use Rattle.audit.proofs.Agrees.{Agrees, due-is, agree-step}
 
 module _ (f : Form) (M : MediumLaws (f .geometry) (f .medium)) (start : ℕ → Page) (given ran : List ℕ) where
   -- from i on the bytes of what ran are the answers of these words from s

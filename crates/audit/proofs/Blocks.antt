@@ -1,13 +1,13 @@
 -- Who bars a lock is found among the accepted locks: the rule of grants, told from the ledger.
 use mathlib.Core.Path.{_≡_, refl, sym, ap, ap₂, _∙_, fun-ext}
-use mathlib.Core.Bool.{Bool, true, false, not, cond, _&&_, _||_, true≢false, false≢true, or-true}
+use mathlib.Core.Bool.{Bool, true, false, not, cond, _&&_, _||_, true≢false, or-true}
 use mathlib.Core.List.{List, [], _∷_}
 use mathlib.Core.Logic.{_≢_}
 use Prim.Native.Nat.{ℕ, zero, suc, _<_, _≤_}
 use native.Mathlib.Omega.{arith}
 use Rattle.laws.specs.Tests.{same}
 use Rattle.laws.specs.Counting.{all}
-use Rattle.laws.proofs.Tests.{same?, Same, is, isnt, same-eq, same-refl, ne-false, Is, is?, yes′, no′}
+use Rattle.laws.proofs.Tests.{same?, Same, is, isnt, same-refl, ne-false, Is, is?, yes′, no′}
 use Rattle.laws.proofs.Booleans.{clash, refute}
 use Rattle.laws.proofs.Counting.{all-true, all-of}
 use Rattle.rules.specs.Geometry.{transactions, nobody}
@@ -15,10 +15,10 @@ use Rattle.rules.specs.Event.{Access}
 use Rattle.rules.specs.State.{Bearers, isActive, lineOf, mem, Mode, Modes}
 use Rattle.rules.specs.Locks.{modeFor, bars, holdersAllow, retainersAllow, grantable}
 use Rattle.rules.proofs.Bearers.{Rooted}
-use Rattle.rules.proofs.Grades.{Grade, barring}
+use Rattle.rules.proofs.Grades.{barring}
 use Rattle.history.specs.History.{Fate, bearing, committed, stored, waiting, ended, History, isBearing, isWithin}
 use Rattle.history.proofs.Roots.{Root, settled, lost, waiting as awaiting, at, isAt}
-use Rattle.history.proofs.Table.{Table, bearer-one, bearer-some, within-is}
+use Rattle.history.proofs.Table.{Table, bearer-one, within-is}
 use Rattle.audit.specs.Plain.{Grant, Ledger, rises, locksWith, locksOf, blocks}
 use Rattle.audit.proofs.Picked.{locksOf-or, locksOf-pick}
 use Rattle.audit.proofs.Locking.{over-stand, bears, stand, Locking, none-stands}

@@ -1,6 +1,6 @@
 -- The lock law where a transaction ends, alone or with all beneath it, and where all end.
 use mathlib.Core.Path.{_≡_, refl, sym, ap, _∙_}
-use mathlib.Core.Bool.{Bool, true, false, not, cond, _&&_, true≢false, and-false}
+use mathlib.Core.Bool.{Bool, true, false, not, cond, _&&_, and-false}
 use mathlib.Core.List.{List}
 use mathlib.Core.Logic.{_≢_}
 use Prim.Native.Nat.{ℕ}
@@ -10,11 +10,10 @@ use Rattle.laws.proofs.Tests.{same?, Same, is, isnt, same-refl, ne-false, Is, i
 use Rattle.laws.proofs.Booleans.{clash}
 use Rattle.rules.specs.State.{Bearers, isActive, nothing, Modes}
 use Rattle.rules.specs.Locks.{inherited, discarded}
-use Rattle.rules.proofs.Grades.{Grade}
 use Rattle.history.specs.History.{Fate, bearing, committed, stored, waiting, ended, History, isBearing, turned, ending, allEnding}
-use Rattle.history.proofs.Roots.{Root, lost, at, isAt, move, lose, allLost}
+use Rattle.history.proofs.Roots.{Root, lost, at, move, lose, allLost}
 use Rattle.history.proofs.Table.{Table, bearing≢, bearer-one}
-use Rattle.audit.specs.Plain.{Grant, locksOf}
+use Rattle.audit.specs.Plain.{Grant}
 use Rattle.audit.proofs.Picked.{locksOf-none, locksOf-pick}
 use Rattle.audit.proofs.Locking.{bears, stand, Locking, live-stands, ended-locking}
 use Rattle.audit.proofs.Handed.{at-lose, lose-retains, hand-retains}

@@ -1,21 +1,20 @@
 -- A list without kinds 9 to 11, over a start store in which nothing is prepared: nothing ever is. So the refusals that a prepared transaction
 -- brings are never given, and what the rules say of the list is what they said before there were such kinds.
-use mathlib.Core.Path.{_≡_, refl, sym, ap, subst⁻¹, _∙_}
-use mathlib.Core.Bool.{Bool, true, false, cond, _&&_, _||_, false≢true, true≢false, and-false}
+use mathlib.Core.Path.{_≡_, refl, subst⁻¹, _∙_}
+use mathlib.Core.Bool.{Bool, true, false, cond, _&&_, false≢true, true≢false, and-false}
 use mathlib.Core.List.{List, [], _∷_}
 use mathlib.Core.Option.{Option, none, some}
 use Prim.Native.Nat.{ℕ, zero, suc}
 use Rattle.laws.specs.Tests.{under, open-tests}
-use Rattle.laws.proofs.Booleans.{clash, refute}
 use Rattle.rules.specs.Geometry.{Geometry}
-use Rattle.rules.specs.Event.{Event, Fields, begin, lock, write, read, commit, abort, crash, recover, prepare, decide, query, accessOf, reportOf, decisionOf, fields, wellFormed, eventOf, decode}
-use Rattle.rules.specs.State.{lineOf, live, down}
+use Rattle.rules.specs.Event.{Event, Fields, begin, lock, write, read, commit, abort, crash, recover, prepare, decide, query, fields, wellFormed, eventOf, decode}
+use Rattle.rules.specs.State.{lineOf, down}
 use Rattle.rules.specs.Versions.{isSome}
 use Rattle.rules.specs.Commit.{Cut}
 use Rattle.rules.specs.Form.{Form}
-use Rattle.rules.specs.Step.{isBusy, StateOf, OutcomeOf, firstFree, begun, locked, wrote, ended as endedState, passed as passedState, retaining, aborted, raised, concluded, finished, changes, busy, reserved, refusal, commitsTop, commitsChild, commits, recovers, act, step}
+use Rattle.rules.specs.Step.{isBusy, StateOf, OutcomeOf, begun, locked, wrote, ended as endedState, passed as passedState, retaining, aborted, raised, concluded, finished, changes, busy, reserved, refusal, commitsTop, commitsChild, commits, recovers, act, step}
 use Rattle.rules.specs.Sound.{Sound}
-use Rattle.rules.proofs.Medium.{MediumLaws, isClear}
+use Rattle.rules.proofs.Medium.{MediumLaws}
 use Rattle.rules.proofs.Acceptance.{commit-ok, Judged, acts, refuses, judge?}
 use Rattle.rules.proofs.Reserved.{clear-of}
 use Rattle.audit.specs.Audit.{isTwoPhase}

@@ -6,7 +6,6 @@ use mathlib.Core.Logic.{_≢_}
 use mathlib.Core.Option.{Option, none, some}
 use Prim.Native.Nat.{ℕ}
 use Rattle.laws.specs.Tests.{same}
-use Rattle.laws.specs.Functions.{updated}
 use Rattle.laws.proofs.Tests.{same?, Same, is, isnt, same-refl, ne-false}
 use Rattle.laws.proofs.Booleans.{clash, refute, or-right}
 use Rattle.rules.specs.Geometry.{records}
@@ -16,16 +15,16 @@ use Rattle.rules.specs.State.{isActive, lineOf, mem, Modes, live, down}
 use Rattle.rules.specs.Locks.{reported}
 use Rattle.rules.specs.Commit.{Cut}
 use Rattle.rules.specs.Form.{Form}
-use Rattle.rules.specs.Step.{Answer, done, refused, cut, valueOf, StateOf, OutcomeOf, firstFree, begun, locked, wrote, ended as endedState, passed as passedState, retaining, aborted, raised, concluded, finished, refusal, commitsTop, commitsChild, commits, recovers, act, step}
+use Rattle.rules.specs.Step.{done, cut, valueOf, StateOf, OutcomeOf, firstFree, begun, locked, wrote, ended as endedState, passed as passedState, retaining, aborted, raised, concluded, finished, refusal, commitsTop, commitsChild, commits, recovers, act, step}
 use Rattle.rules.specs.Sound.{Sound}
 use Rattle.rules.proofs.Tree.{isCons, antisym}
-use Rattle.rules.proofs.Acceptance.{begin-ok, lock-ok, write-ok, CommitOk, commit-ok, abort-ok, Judged, acts, refuses, judge?}
+use Rattle.rules.proofs.Acceptance.{lock-ok, commit-ok, abort-ok, Judged, acts, refuses, judge?}
 use Rattle.rules.proofs.Locks.{ChildOf, rooted-of, tree-of, live-line, own-line, member-live, child-line}
-use Rattle.history.specs.History.{Fate, committed, stored, ended, Write, History, isBearing, isWithin, suffices, ending, allEnding, effect, effectOf, commitFate, after, told}
-use Rattle.history.proofs.Roots.{Root, lost, at}
+use Rattle.history.specs.History.{committed, stored, ended, Write, History, isBearing, isWithin, suffices, allEnding, effect, effectOf, commitFate, after, told}
+use Rattle.history.proofs.Roots.{Root, lost}
 use Rattle.history.proofs.Table.{Table, bearer-one, within-is}
 use Rattle.history.proofs.Invariant.{Holds}
-use Rattle.audit.specs.Plain.{Grant, Ledger, passedBy, grantsBy, upBy, learned}
+use Rattle.audit.specs.Plain.{Ledger, passedBy, grantsBy, upBy, learned}
 use Rattle.audit.proofs.Free.{isPlain}
 use Rattle.audit.proofs.Kin.{top-parent, child-parent}
 use Rattle.audit.proofs.Locking.{Locking, none-stands, begin-locking, lock-locking}

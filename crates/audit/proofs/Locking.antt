@@ -2,24 +2,23 @@
 -- every grade of modes; kept by a begin, by a lock, and when transactions end with their locks discarded or handed to a parent.
 use mathlib.Core.Path.{_≡_, refl, sym, ap, ap₂, _∙_}
 use mathlib.Core.Bool.{Bool, true, false, not, cond, _&&_, _||_, true≢false, and-false}
-use mathlib.Core.List.{List, [], _∷_}
+use mathlib.Core.List.{List, _∷_}
 use mathlib.Core.Logic.{_≢_}
 use Prim.Native.Nat.{ℕ, suc, _<_, _≤_}
 use native.Mathlib.Omega.{arith}
 use Rattle.laws.specs.Tests.{same, under}
 use Rattle.laws.specs.Functions.{updated}
-use Rattle.laws.proofs.Tests.{same?, Same, is, isnt, same-eq, same-refl, ne-false, Is, is?, yes′, no′, under-lt, not-under}
+use Rattle.laws.proofs.Tests.{same?, Same, is, isnt, ne-false, Is, is?, yes′, no′, under-lt, not-under}
 use Rattle.laws.proofs.Booleans.{clash}
-use Rattle.rules.specs.Geometry.{nobody}
 use Rattle.rules.specs.Event.{Access}
-use Rattle.rules.specs.State.{Bearers, isActive, Mode, nothing, stronger, Modes}
-use Rattle.rules.specs.Locks.{modeFor, granted, inherited, discarded}
+use Rattle.rules.specs.State.{Bearers, isActive, Modes}
+use Rattle.rules.specs.Locks.{modeFor, granted, discarded}
 use Rattle.rules.proofs.Grades.{Grade}
 use Rattle.history.specs.History.{Fate, bearing, committed, stored, waiting, ended, History, isBearing, turned, ending, after, begins}
-use Rattle.history.proofs.Roots.{Root, settled, lost, at, isAt, move, lose, moved-to, moved-past}
+use Rattle.history.proofs.Roots.{Root, lost, at, isAt}
 use Rattle.history.proofs.Table.{Table, bearing≢, bearer-known}
 use Rattle.audit.specs.Plain.{Grant, locksOf}
-use Rattle.audit.proofs.Picked.{locksOf-or, locksOf-none, locksOf-pick, locksOf-fresh}
+use Rattle.audit.proofs.Picked.{locksOf-none, locksOf-pick, locksOf-fresh}
 
 -- bears the number t
 abbrev pub bears : ℕ → Fate → Bool

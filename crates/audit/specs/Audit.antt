@@ -1,7 +1,7 @@
 -- What the auditor answers (document 02, L13): whether a start store, a list, its answers and an end store belong together, as a run of the
 -- rules over that store and that list says. This is the auditor's promise; nothing here is about how it finds out.
 use Prim.Native.Nat.{ℕ, suc, _*_, _%_}
-use mathlib.Core.Bool.{Bool, true, false, not, cond, _&&_, _||_}
+use mathlib.Core.Bool.{Bool, false, not, cond, _&&_, _||_}
 use mathlib.Core.List.{List, [], _∷_}
 use mathlib.Core.Option.{Option, none, some}
 use lib.ListN.{length, getD, replicate}
@@ -11,7 +11,7 @@ use Rattle.laws.specs.Bytes.{sameList}
 use Rattle.rules.specs.Geometry.{Geometry, pageCount, workSize, wordSize, longest}
 use Rattle.rules.specs.Store.{pagesOf}
 use Rattle.rules.specs.Event.{fields}
-use Rattle.rules.specs.Form.{Form, Medium}
+use Rattle.rules.specs.Form.{Form}
 use Rattle.rules.specs.Step.{firstOf, isBusy}
 use Rattle.rules.specs.Run.{words, eventsIn, Result, run}
 use Rattle.rules.specs.Editions.{edition1}

@@ -9,13 +9,13 @@ use lib.ListN.{getD}
 use Rattle.laws.specs.Tests.{same}
 use Rattle.laws.specs.Counting.{all, any, lowest}
 use Rattle.laws.specs.Functions.{updated}
-use Rattle.rules.specs.Geometry.{Geometry, records, transactions, nobody}
+use Rattle.rules.specs.Geometry.{transactions, nobody}
 use Rattle.rules.specs.Store.{Page}
 use Rattle.rules.specs.Event.{Event, Access, begin, lock, write, read, commit, abort, crash, recover, prepare, decide, query}
-use Rattle.rules.specs.State.{Mode, nothing, isLock, isWriting}
+use Rattle.rules.specs.State.{Mode, isLock, isWriting}
 use Rattle.rules.specs.Locks.{modeFor, bars}
 use Rattle.rules.specs.Commit.{Cut}
-use Rattle.rules.specs.Form.{Form, Medium}
+use Rattle.rules.specs.Form.{Form}
 use Rattle.rules.specs.Step.{Answer, done, refused, cut, firstOf}
 use Rattle.history.specs.History.{History, nothingYet, isWithin, isBearing, standsWith, writesTo, overlaid, told}
 use Rattle.history.specs.Claims.{seenBy}

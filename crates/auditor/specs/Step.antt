@@ -1,7 +1,7 @@
 -- One event of an audit: the answer that is due by the tables, and the tables after it.
 use Prim.Native.Nat.{ℕ, suc, _≤_}
 use mathlib.Core.Path.{_≡_}
-use mathlib.Core.Bool.{Bool, true}
+use mathlib.Core.Bool.{true}
 use mathlib.Core.List.{List}
 use mathlib.Core.Logic.{_≢_}
 use mathlib.Core.Option.{Option}
@@ -11,7 +11,7 @@ use Rattle.rules.specs.Store.{Page, pagesOf}
 use Rattle.rules.specs.Event.{Event}
 use Rattle.rules.specs.Step.{numberOf, valueOf}
 use Rattle.rules.specs.Editions.{geometry1, edition1}
-use Rattle.audit.specs.Plain.{learned, isParent, due}
+use Rattle.audit.specs.Plain.{learned, due}
 use Rattle.links.specs.Links.{Earlier}
 use Rattle.scans.specs.Scans.{eventAt}
 use Rattle.bearers.specs.Tables.{Tables, Matched, ledgerOf}

@@ -1,28 +1,22 @@
 // The auditor: it finds the answer that is due to each event in the history so far, and keeps no version and no lock.
 ghost use mathlib.Core.Path.{_≡_};
-ghost use mathlib.Core.Bool.{Bool, true, false, cond, not, _&&_, _||_};
+ghost use mathlib.Core.Bool.{Bool, true, false, cond, not, _||_};
 ghost use mathlib.Core.List.{List};
 ghost use mathlib.Core.Logic.{_≢_};
-ghost use mathlib.Core.Option.{Option, none, some};
-ghost use Prim.Native.Nat.{ℕ, suc, _+_, _-_, _*_, _<_, _≤_};
+ghost use mathlib.Core.Option.{some};
+ghost use Prim.Native.Nat.{ℕ, _+_, _-_, _*_, _<_, _≤_};
 ghost use lib.ListN.{length, getD, set};
-ghost use Rattle.rules.specs.Store.{Page, pagesOf, mapOf, named};
+ghost use Rattle.rules.specs.Store.{Page};
 ghost use Rattle.rules.specs.Event.{begin, lock, write, read, commit, abort, crash, recover, accessOf, reportOf};
-ghost use Rattle.rules.specs.Editions.{geometry1, edition1};
-ghost use Rattle.laws.specs.Tests.{same, under};
-ghost use Rattle.laws.specs.Functions.{updated};
-ghost use Rattle.history.specs.History.{standsWith, writesTo, overlaid, changedBy};
+ghost use Rattle.rules.specs.Editions.{edition1};
+ghost use Rattle.laws.specs.Tests.{under};
 ghost use Rattle.history.specs.Demand3.{settledIn};
 ghost use Rattle.event.specs.Flags.{flags};
 ghost use Rattle.event.specs.Meaning.{meaning, InRange};
-ghost use Rattle.audit.specs.Plain.{Ledger, isParent, changesBy};
-ghost use Rattle.rules.specs.Geometry.{records};
-ghost use Rattle.rules.specs.Commit.{commitAt};
-ghost use Rattle.commit.specs.Phase.{Leaves};
-ghost use Rattle.links.specs.Links.{Earlier, Linked};
-ghost use Rattle.scans.specs.Scans.{writesUpTo, showsTo};
+ghost use Rattle.audit.specs.Plain.{isParent};
+ghost use Rattle.links.specs.Links.{Earlier};
 ghost use Rattle.bearers.specs.Tables.{tables, Matched, ledgerOf};
-ghost use Rattle.auditor.specs.Step.{Consistent, Audited, Ready, Before};
+ghost use Rattle.auditor.specs.Step.{Audited, Ready, Before};
 use event::Event;
 
 // An answer's two bytes.

@@ -6,7 +6,7 @@ ghost use Prim.Native.Nat.{ℕ, _+_, _*_, _<_, _≤_};
 ghost use lib.ListN.{length, getD};
 ghost use Rattle.laws.specs.Tests.{same};
 ghost use Rattle.rules.specs.Geometry.{records};
-ghost use Rattle.rules.specs.Store.{Page, pagesOf, mapOf, named, readCommit, mapIn, commitPage};
+ghost use Rattle.rules.specs.Store.{pagesOf, mapOf, named, readCommit, mapIn, commitPage};
 ghost use Rattle.rules.specs.Commit.{sets, commitAt, recoverAt};
 ghost use Rattle.rules.specs.Editions.{geometry1, edition1};
 ghost use Rattle.history.specs.History.{standsWith, writesTo, changedBy};
@@ -88,7 +88,7 @@ fn changed_map(
     map
 }
 
-// One page write, if anything is left of the count: page n becomes `page`. The answer is what is left then.
+// Page n becomes `page`, if the count `left` allows another page write. Returns what remains of the count.
 fn write_one(store: &mut [u8], n: usize, page: [u8; 32], left: u8) -> u8
     requires { ⌜ (n < 33) × (length (now store) ≡ 1056) ⌝ }
     ensures { λ x. ⌜ Phase left (sets n page ∷ []) (pagesOf (now (store .entry))) (pagesOf (now (store .exit))) x ⌝ }

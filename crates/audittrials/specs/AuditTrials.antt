@@ -1,8 +1,8 @@
 -- Rows of what the auditor answers, decided by computing: verdicts at their edges, and the refusals in their order.
-use Prim.Native.Nat.{ℕ, zero, suc, _+_, _*_, _/_, _%_}
+use Prim.Native.Nat.{ℕ, suc, _+_, _*_, _/_, _%_}
 use mathlib.Core.Bool.{Bool, true, false, _&&_}
 use mathlib.Core.List.{List, [], _∷_, _++_}
-use lib.ListN.{length, take, drop, set, replicate}
+use lib.ListN.{length, drop, set, replicate}
 use Rattle.laws.specs.Tests.{same}
 use Rattle.laws.specs.Bytes.{bytes}
 use Rattle.rules.specs.Geometry.{pageSize, pageCount, longest}

@@ -1,17 +1,16 @@
 -- One entry of an array changes: what the arrays stand for then.
 use mathlib.Core.Path.{_≡_, refl, sym, ap, _∙_, fun-ext}
-use mathlib.Core.Bool.{Bool, true, false, not, cond, _&&_, true≢false}
+use mathlib.Core.Bool.{Bool, true, false, cond}
 use mathlib.Core.List.{List}
-use mathlib.Core.Logic.{_≢_}
-use Prim.Native.Nat.{ℕ, suc, _+_, _-_, _<_, _≤_}
+use Prim.Native.Nat.{ℕ, _+_, _-_, _<_, _≤_}
 use native.Mathlib.Omega.{arith}
 use lib.ListN.{length, getD, set, length-set}
 use lib.Seq.{getD-set-same, getD-set-other}
 use Rattle.laws.specs.Tests.{same, under, open-tests}
 use Rattle.laws.specs.Functions.{updated}
-use Rattle.laws.proofs.Tests.{same?, Same, is, isnt, same-refl, ne-false, under-lt, lt-under, not-under}
+use Rattle.laws.proofs.Tests.{same?, Same, is, isnt, under-lt, lt-under, not-under}
 use Rattle.laws.proofs.Booleans.{refute}
-use Rattle.history.specs.History.{Fate, bearing, committed, stored, ended, isBearing}
+use Rattle.history.specs.History.{bearing, committed, stored, ended, isBearing}
 use Rattle.links.specs.Links.{fateOf, passedOf, entryAt, fateIn, passedIn}
 
 pub entry-set : (l : List ℕ) (i v k : ℕ) → i < length l → getD (set l i v) k 0 ≡ cond (same k i) v (getD l k 0)

@@ -1,17 +1,17 @@
 -- The sweep over the numbers that ends transactions: one number more.
-use mathlib.Core.Path.{_≡_, refl, sym, ap, subst⁻¹, _∙_}
-use mathlib.Core.Bool.{Bool, true, false, not, cond, _&&_, _||_, true≢false, and-false}
+use mathlib.Core.Path.{_≡_, refl, sym, ap, _∙_}
+use mathlib.Core.Bool.{Bool, true, false, not, cond, _&&_, and-false}
 use mathlib.Core.List.{List}
 use mathlib.Core.Logic.{_≢_}
-use Prim.Native.Nat.{ℕ, suc, _+_, _-_, _<_, _≤_}
+use Prim.Native.Nat.{ℕ, _+_, _-_, _<_, _≤_}
 use native.Mathlib.Omega.{arith}
-use lib.ListN.{length, getD, set, length-set}
+use lib.ListN.{getD, set}
 use Rattle.laws.specs.Tests.{same, under}
 use Rattle.laws.proofs.Tests.{same?, Same, is, isnt, same-refl, ne-false, Is, is?, yes′, no′, under-lt, lt-under, not-under}
 use Rattle.laws.proofs.Booleans.{refute, clash}
 use Rattle.bearers.specs.Tables.{Matched, Ending}
 use Rattle.bearers.proofs.Change.{entry-set}
-use Rattle.bearers.proofs.Matching.{number-small, matched-end}
+use Rattle.bearers.proofs.Matching.{matched-end}
 
 -- a test of a bound moves at the bound alone
 pub under-next : (f b : ℕ) → f ≢ b → under f (b + 1) ≡ under f b

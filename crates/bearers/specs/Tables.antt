@@ -1,20 +1,14 @@
 -- The auditor's tables: for each event the transaction that owns it, for each transaction its parent and its fate, for each number who bears it.
-use Prim.Native.Nat.{ℕ, suc, _+_, _-_, _<_, _≤_}
+use Prim.Native.Nat.{ℕ, _+_, _-_, _<_, _≤_}
 use mathlib.Core.Path.{_≡_}
 use mathlib.Core.Bool.{Bool, not, cond, _&&_, _||_}
 use mathlib.Core.List.{List}
 use mathlib.Core.Logic.{_≢_}
-use mathlib.Core.Option.{Option}
 use lib.ListN.{length, getD}
 use Rattle.laws.specs.Tests.{same, under}
 use Rattle.history.specs.History.{climbs}
-use Rattle.rules.specs.Geometry.{records}
-use Rattle.rules.specs.Store.{Page, Pages}
-use Rattle.rules.specs.Event.{Event}
-use Rattle.rules.specs.Step.{numberOf, valueOf}
-use Rattle.rules.specs.Editions.{geometry1, edition1}
-use Rattle.audit.specs.Plain.{Ledger, learned, due}
-use Rattle.links.specs.Links.{entryAt, fateIn, passedIn, Earlier}
+use Rattle.audit.specs.Plain.{Ledger}
+use Rattle.links.specs.Links.{entryAt, fateIn, passedIn}
 use Rattle.scans.specs.Scans.{grantsTo, writesUpTo}
 
 pub record Tables : Type 0 where

@@ -1,14 +1,12 @@
 // Who bears which transaction number, and what becomes of transactions.
 //   bearer[t]   the transaction that bears number t; 0 where it is free
 ghost use mathlib.Core.Path.{_≡_};
-ghost use mathlib.Core.Bool.{Bool, cond, not, _&&_, _||_};
-ghost use mathlib.Core.Logic.{_≢_};
-ghost use Prim.Native.Nat.{ℕ, _+_, _-_, _*_, _<_, _≤_};
+ghost use mathlib.Core.Bool.{cond, not, _&&_};
+ghost use Prim.Native.Nat.{ℕ, _-_, _<_, _≤_};
 ghost use lib.ListN.{length, getD, set};
-ghost use Rattle.laws.specs.Tests.{same, under};
+ghost use Rattle.laws.specs.Tests.{same};
 ghost use Rattle.laws.specs.Counting.{any, lowest};
 ghost use Rattle.rules.specs.Geometry.{transactions};
-ghost use Rattle.history.specs.History.{climbs};
 ghost use Rattle.links.specs.Links.{entryAt, Earlier};
 ghost use Rattle.bearers.specs.Tables.{Matched, takes, Ending};
 

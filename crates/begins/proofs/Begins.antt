@@ -1,9 +1,9 @@
 -- Begins, in the rules.
 use mathlib.Core.Path.{_≡_, refl, sym, ap, ap₂, subst⁻¹, _∙_, fun-ext}
-use mathlib.Core.Bool.{Bool, true, false, not, cond, _&&_, _||_, or-true, true≢false}
-use mathlib.Core.List.{List, [], _∷_}
+use mathlib.Core.Bool.{Bool, true, false, cond, _||_, or-true}
+use mathlib.Core.List.{List, _∷_}
 use mathlib.Core.Logic.{_≢_}
-use mathlib.Core.Option.{Option, none, some}
+use mathlib.Core.Option.{none, some}
 use Prim.Native.Nat.{ℕ, zero, suc, _+_, _<_, _≤_}
 use native.Mathlib.Omega.{arith}
 use native.Mathlib.Numerals.{add-one}
@@ -18,9 +18,9 @@ use Rattle.laws.proofs.Booleans.{refute, clash}
 use Rattle.laws.proofs.Counting.{Lowest, found, missing, lowest-is}
 use Rattle.rules.specs.Geometry.{nobody}
 use Rattle.rules.specs.Store.{pagesOf}
-use Rattle.rules.specs.Event.{Event, begin}
+use Rattle.rules.specs.Event.{begin}
 use Rattle.rules.specs.State.{Bearers, active, isActive, depthIn, lineOf, mem, live}
-use Rattle.rules.specs.Form.{Form, Medium}
+use Rattle.rules.specs.Form.{Form}
 use Rattle.rules.specs.Step.{firstFree, begun, finished}
 use Rattle.rules.specs.Editions.{depths}
 use Rattle.rules.proofs.Bearers.{begunIn, begun-line}
@@ -32,7 +32,7 @@ use Rattle.arrays.specs.Changes.{Row}
 use Rattle.arrays.specs.Kin.{Kin}
 use Rattle.arrays.proofs.Kin.{kin-begun}
 use Rattle.arrays.proofs.View.{depth-is, free-is}
-use Rattle.state.specs.Whole.{Arrays, arrays, view, lineIn, Formed, Intact, Stepped}
+use Rattle.state.specs.Whole.{Arrays, arrays, view, lineIn, Intact, Stepped}
 use Rattle.state.proofs.Rules.{full, not-full, begin-unknown, begin-deep, begin-full, begin-done}
 use Rattle.state.proofs.Steps.{answer, finishes, unmoved, state-eq, up-is, live-is, not-live, wrote-is}
 

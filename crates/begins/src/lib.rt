@@ -9,7 +9,7 @@ ghost use Rattle.rules.specs.Event.{begin};
 ghost use Rattle.rules.specs.Editions.{depths, Edition, formOf};
 ghost use Rattle.sets.specs.Sets.{sets};
 ghost use Rattle.arrays.specs.Kin.{Kin};
-ghost use Rattle.state.specs.Whole.{Arrays, arrays, Intact, Stepped};
+ghost use Rattle.state.specs.Whole.{arrays, Intact, Stepped};
 use event::Answer;
 
 const DEPTH_LIMIT: u8 = page::DEPTHS as u8;

@@ -2,7 +2,7 @@
 -- demand 3 are proved.
 use mathlib.Core.Path.{_≡_, refl, sym, ap, subst, subst⁻¹, _∙_}
 use mathlib.Core.Bool.{Bool, true, false, true≢false}
-use mathlib.Core.List.{List, [], _∷_}
+use mathlib.Core.List.{List, []}
 use mathlib.Core.Logic.{_≢_}
 use mathlib.Core.Option.{Option, none, some}
 use Prim.Native.Nat.{ℕ}
@@ -16,7 +16,7 @@ use Rattle.rules.specs.Step.{StateOf, firstOf}
 use Rattle.rules.specs.Run.{eventsIn, runRefusals}
 use Rattle.rules.specs.Sound.{Sound}
 use Rattle.rules.specs.Portion.{Lent, allEvents, allZero, Fits, AllFit, Portion, portionAll, portion, chain, chainFrom, As-whole}
-use Rattle.rules.specs.Calls.{Call, lents, left, Promised, AllPromised}
+use Rattle.rules.specs.Calls.{Call, lents, left, Promised}
 use Rattle.rules.specs.Editions.{edition1, workBytes}
 use Rattle.rules.specs.Editions as editions
 use Rattle.rules.proofs.Portions.{first-lacks, Case, plays, refuses, case?, finds-one, lengths-first, lengths-only, unsound-refused, Carried, carried-start, sound-portion, chain-whole}

@@ -20,7 +20,7 @@ use Rattle.rules.specs.Commit.{Cut, commitAt, prepareAt}
 use Rattle.rules.specs.Step.{done, cut, hasChild, ended, passed, retaining, concluded, numberOf, valueOf, changes, busy, commitsTop, commitsChild, commits, step}
 use Rattle.rules.specs.Sound.{inLine}
 use Rattle.rules.specs.Geometry.{Geometry, Proper, records}
-use Rattle.rules.specs.Form.{Form, Medium, atomic}
+use Rattle.rules.specs.Form.{Form, atomic}
 use Rattle.rules.specs.Editions.{depths}
 use Rattle.rules.proofs.Locks.{rooted-of, no-child, versions-in-line, line-apart}
 use Rattle.rules.proofs.Soundness.{alone-closed}

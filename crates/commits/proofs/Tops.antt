@@ -8,7 +8,7 @@ use lib.ListN.{getD}
 use Rattle.laws.specs.Tests.{under}
 use Rattle.laws.proofs.Tests.{Is, is?, yes′, no′, under-lt, not-under}
 use Rattle.rules.specs.Geometry.{Geometry, records}
-use Rattle.rules.specs.Form.{Form, atomic}
+use Rattle.rules.specs.Form.{atomic}
 use Rattle.rules.specs.Store.{pagesOf, mapOf, named}
 use Rattle.rules.specs.Editions.{depths}
 use Rattle.rules.proofs.Map.{named-mapOf}

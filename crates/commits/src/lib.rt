@@ -2,7 +2,7 @@
 ghost use mathlib.Core.Path.{_≡_};
 ghost use mathlib.Core.Bool.{true, false};
 ghost use mathlib.Core.List.{List};
-ghost use mathlib.Core.Option.{Option, none, some};
+ghost use mathlib.Core.Option.{some};
 ghost use Prim.Native.Nat.{ℕ, _+_, _*_, _^_, _<_, _≤_};
 ghost use lib.ListN.{length, getD};
 ghost use Rattle.rules.specs.Store.{Pages, pagesOf};
@@ -17,7 +17,7 @@ ghost use Rattle.commitpage.specs.Layout.{Known, Layout};
 ghost use Rattle.commit.specs.Phase.{Leaves, versionsIn};
 ghost use Rattle.commits.specs.Settling.{settling, settlingAt};
 ghost use Rattle.numbers.specs.Named.{transactionOf};
-ghost use Rattle.state.specs.Whole.{Arrays, arrays, view, Intact, Stepped, Ready, Reserves};
+ghost use Rattle.state.specs.Whole.{arrays, view, Intact, Stepped, Ready, Reserves};
 use event::Answer;
 use numbers::TransactionNumber;
 

@@ -4,7 +4,7 @@ use mathlib.Core.Bool.{Bool, true}
 use Prim.Native.Nat.{ℕ, _+_, _*_, _≤_}
 use native.Mathlib.Omega.{arith}
 use Rattle.rules.specs.Geometry.{Geometry, records, pageCount}
-use Rattle.rules.specs.Form.{Medium, atomicPages}
+use Rattle.rules.specs.Form.{atomicPages}
 use Rattle.rules.specs.Editions.{Edition, first, second, geometryOf, formOf, InNumbers, depths}
 use Rattle.state.specs.Whole.{Served}
 use Rattle.commitpage.specs.Layout.{Known, Layout}

@@ -1,25 +1,24 @@
 -- All go, and the engine is down: arrays of zeros. A crash, and a recovery.
 use mathlib.Core.Path.{_≡_, refl, sym, ap, ap₂, subst⁻¹, _∙_, fun-ext}
-use mathlib.Core.Bool.{Bool, true, false, not, cond, true≢false}
-use mathlib.Core.List.{List, [], _∷_}
+use mathlib.Core.Bool.{Bool, true, false, cond, true≢false}
+use mathlib.Core.List.{List}
 use mathlib.Core.Logic.{_≢_}
 use mathlib.Core.Option.{Option, none, some}
 use Prim.Native.Nat.{ℕ, zero, suc, _*_, _≤_}
 use native.Mathlib.Omega.{arith}
 use lib.ListN.{length, getD, replicate, length-replicate}
-use Rattle.laws.specs.Tests.{same}
 use Rattle.laws.specs.Bits.{bits}
 use Rattle.laws.proofs.Tests.{same-refl, ne-false}
 use Rattle.laws.proofs.Bits.{bits-zero}
 use Rattle.laws.proofs.Booleans.{not-false, not-true, refute, clash}
 use Rattle.rules.specs.Store.{Page, Pages, pagesOf, readCommit, mapIn, damaged}
-use Rattle.rules.specs.Event.{Event, crash, recover}
+use Rattle.rules.specs.Event.{crash, recover}
 use Rattle.rules.specs.State.{Bearer, free, active, isActive, depthIn, chain, lineOf, mem, Mode, nothing, reading, writing, isLock, State, live, holds, retains, down}
 use Rattle.rules.specs.Versions.{isSome}
 use Rattle.rules.specs.Commit.{Cut, recoverAt}
 use Rattle.rules.specs.Geometry.{Geometry, records}
-use Rattle.rules.specs.Form.{Form, Medium, atomic}
-use Rattle.rules.specs.Step.{done, refused, cut, StateOf, numberOf, valueOf, raised, concluded, recovers, step}
+use Rattle.rules.specs.Form.{Form, atomic}
+use Rattle.rules.specs.Step.{done, cut, StateOf, numberOf, valueOf, raised, concluded, recovers, step}
 use Rattle.rules.specs.Sound.{Sound}
 use Rattle.rules.proofs.Parts.{sound-down}
 use Rattle.rules.proofs.Locks.{no-version}

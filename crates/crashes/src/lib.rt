@@ -2,14 +2,14 @@
 ghost use mathlib.Core.Path.{_≡_};
 ghost use mathlib.Core.Bool.{true};
 ghost use mathlib.Core.List.{List};
-ghost use mathlib.Core.Option.{Option, none, some};
+ghost use mathlib.Core.Option.{some};
 ghost use Prim.Native.Nat.{ℕ, _+_, _*_, _≤_};
 ghost use lib.ListN.{length, replicate};
 ghost use Rattle.rules.specs.Event.{crash, recover};
 ghost use Rattle.rules.specs.Editions.{Edition, formOf, InNumbers};
 ghost use Rattle.arrays.specs.Kin.{Kin};
 ghost use Rattle.commitpage.specs.Layout.{Known};
-ghost use Rattle.state.specs.Whole.{Arrays, arrays, Intact, Stepped};
+ghost use Rattle.state.specs.Whole.{arrays, Intact, Stepped};
 use event::Answer;
 
 // All transactions go, with their locks and versions, and the engine is down.

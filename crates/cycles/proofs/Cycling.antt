@@ -9,7 +9,7 @@ use lib.ListN.{length, getD, List·getD-eq-default}
 use Rattle.laws.specs.Tests.{same, under}
 use Rattle.laws.specs.Counting.{any, all, count, lowest}
 use Rattle.laws.specs.Bits.{bits}
-use Rattle.laws.proofs.Tests.{same-refl, same-eq, is, Is, is?, yes′, no′, under-lt, not-under, or-false-left, or-false-right}
+use Rattle.laws.proofs.Tests.{same-refl, same-eq, Is, is?, yes′, no′, under-lt, not-under, or-false-left, or-false-right}
 use Rattle.laws.proofs.Booleans.{and-left, and-right, or-cases, or-left, or-right, not-true, not-false, clash}
 use Rattle.laws.proofs.Counting.{any-of, all-true, lowest-fails}
 use Rattle.laws.proofs.Bits.{bits-zero}

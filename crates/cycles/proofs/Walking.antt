@@ -13,7 +13,7 @@ use lib.Bits.{bitAnd}
 use Rattle.laws.specs.Tests.{same, under}
 use Rattle.laws.specs.Counting.{any, count, lowest}
 use Rattle.laws.specs.Bits.{bits}
-use Rattle.laws.proofs.Tests.{same-refl, same-eq, ne-false, is, Is, is?, yes′, no′, under-lt, not-under, or-false-left, or-false-right}
+use Rattle.laws.proofs.Tests.{same-refl, same-eq, ne-false, Is, is?, yes′, no′, under-lt, not-under, or-false-left, or-false-right}
 use Rattle.laws.proofs.Booleans.{and-left, and-right, or-cases, not-true, clash}
 use Rattle.laws.proofs.Counting.{any-false, Lowest, found, missing, lowest-is}
 use Rattle.laws.proofs.Bits.{bits-zero, bits-and}

@@ -4,7 +4,6 @@ use mathlib.Core.Bool.{Bool, true, false, not, cond, _&&_, true≢false}
 use mathlib.Core.List.{List}
 use mathlib.Core.Option.{some}
 use Prim.Native.Nat.{ℕ, _^_, _<_}
-use native.Mathlib.Omega.{arith}
 use lib.ListN.{length}
 use lib.Pow.{pow-pos}
 use Rattle.laws.specs.Tests.{same}
@@ -15,11 +14,11 @@ use Rattle.rules.specs.State.{down}
 use Rattle.rules.specs.Commit.{Cut, decideAt}
 use Rattle.rules.specs.Step.{done, cut, isFor, numberOf, valueOf, raised, concluded, finished, recovers, decides, step}
 use Rattle.rules.specs.Geometry.{Geometry, records}
-use Rattle.rules.specs.Form.{Form, Medium, atomic}
+use Rattle.rules.specs.Form.{Form, atomic}
 use Rattle.rules.proofs.PreparedPage.{prepared-is}
 use Rattle.commitpage.specs.Heard.{prepared}
 use Rattle.commit.specs.Phase.{Leaves}
-use Rattle.state.specs.Whole.{Arrays, arrays, view, Formed, Intact, saying, Stepped, Reserves}
+use Rattle.state.specs.Whole.{Arrays, arrays, view, Intact, saying, Stepped, Reserves}
 use Rattle.state.proofs.Rules.{decide-done, query-done}
 use Rattle.state.proofs.Steps.{answer, stepped, finishes, state-eq, up-is}
 use Rattle.state.proofs.Reserves.{isFor-is, one-prepared}

@@ -9,11 +9,11 @@ use Rattle.laws.specs.Bytes.{number}
 use Rattle.rules.specs.Geometry.{Geometry}
 use Rattle.rules.specs.Event.{decode}
 use Rattle.rules.specs.State.{down}
-use Rattle.rules.specs.Form.{Medium, atomicPages, atomic}
+use Rattle.rules.specs.Form.{atomicPages, atomic}
 use Rattle.rules.specs.Step.{StateOf, firstOf}
-use Rattle.rules.specs.Run.{Result, words, play, eventsIn, runRefusals, runAll}
+use Rattle.rules.specs.Run.{words, play, eventsIn, runRefusals, runAll}
 use Rattle.device.specs.Plan.{writeAt}
-use Rattle.device.specs.Asked.{Asked, told, planFor, askLengths}
+use Rattle.device.specs.Asked.{told, planFor, askLengths}
 
 -- the operation's answer, and what it leaves in the store, in the answer buffer and in the buffer lent for a page write
 pub record AskedAfter : Type 0 where

@@ -14,7 +14,7 @@ use Rattle.rules.specs.Geometry.{Geometry, Proper, records, pageCount}
 use Rattle.rules.specs.Store.{pagesOf}
 use Rattle.rules.specs.Event.{Event, begin, lock, write, read, commit, abort, crash, recover, prepare, decide, query, accessOf, reportOf, decisionOf, eventOf, fits}
 use Rattle.rules.specs.State.{live}
-use Rattle.rules.specs.Form.{Form, Medium, atomicPages}
+use Rattle.rules.specs.Form.{Form, atomicPages}
 use Rattle.rules.specs.Step.{refused, hasChild, StateOf, step}
 use Rattle.rules.specs.Sound.{Sound}
 use Rattle.rules.specs.Editions.{geometry1, Edition, geometryOf, formOf, InNumbers}
@@ -23,7 +23,6 @@ use Rattle.rules.proofs.AtomicPages.{atomic-laws}
 use Rattle.rules.proofs.Editions.{proper1}
 use Rattle.rules.proofs.Soundness.{sound-step, sound-bad}
 use Rattle.rules.proofs.Waiting.{lock-waits, write-waits, read-waits}
-use Rattle.commitpage.specs.Layout.{Layout}
 use Rattle.commitpage.proofs.Places.{laid}
 use Rattle.commits.specs.Settling.{settling}
 use Rattle.event.specs.Meaning.{meaning, fieldsOf, InWord}

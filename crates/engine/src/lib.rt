@@ -6,7 +6,6 @@
 // `record_event` have what is left, by kind.
 ghost use mathlib.Core.Path.{_≡_};
 ghost use mathlib.Core.Bool.{Bool, true};
-ghost use mathlib.Core.List.{List};
 ghost use mathlib.Core.Logic.{_≢_};
 ghost use Prim.Native.Nat.{ℕ, _+_, _*_, _<_, _≤_};
 ghost use lib.ListN.{length, getD};
@@ -15,7 +14,7 @@ ghost use Rattle.numbers.specs.Named.{transactionOf, recordOf};
 ghost use Rattle.event.specs.Meaning.{meaning, InWord};
 ghost use Rattle.arrays.specs.Kin.{Kin};
 ghost use Rattle.slots.specs.Parts.{Sources};
-ghost use Rattle.state.specs.Whole.{Arrays, arrays, Intact, Stepped, ReadyLeaf, Reserves};
+ghost use Rattle.state.specs.Whole.{arrays, Intact, Stepped, ReadyLeaf, Reserves};
 use event::Answer;
 use event::Event;
 use numbers::RecordNamed;

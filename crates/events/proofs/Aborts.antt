@@ -13,8 +13,7 @@ use Rattle.laws.proofs.Booleans.{refute}
 use Rattle.rules.specs.Event.{abort}
 use Rattle.rules.specs.State.{Bearers, lineOf, mem, Modes}
 use Rattle.rules.specs.Locks.{inherited, reported, discarded}
-use Rattle.rules.specs.Store.{pagesOf}
-use Rattle.rules.specs.Form.{Form, Medium}
+use Rattle.rules.specs.Form.{Form}
 use Rattle.rules.specs.Geometry.{records}
 use Rattle.rules.specs.Step.{ended, retaining, aborted}
 use Rattle.rules.proofs.Locks.{own-line, beneath-closed}

@@ -6,20 +6,17 @@ use mathlib.Core.Option.{none, some}
 use Prim.Native.Nat.{ℕ, _-_, _*_, _<_}
 use native.Mathlib.Omega.{arith}
 use lib.ListN.{length, getD, set}
-use Rattle.laws.specs.Tests.{same}
 use Rattle.laws.specs.Functions.{updated}
 use Rattle.laws.proofs.Tests.{same?, Same, is, isnt, Is, is?, yes′, no′}
 use Rattle.laws.proofs.Updated.{updated-same, updated-other}
 use Rattle.rules.specs.Store.{Page, named, pagesOf}
 use Rattle.rules.specs.Event.{Access, lock, write, read}
-use Rattle.rules.specs.State.{lineOf, State, live}
+use Rattle.rules.specs.State.{lineOf, live}
 use Rattle.rules.specs.Locks.{grantable}
 use Rattle.rules.specs.Versions.{withVersion}
-use Rattle.rules.specs.Form.{Form, Medium, atomic}
+use Rattle.rules.specs.Form.{Form, atomic}
 use Rattle.rules.specs.Geometry.{Geometry, records}
-use Rattle.rules.specs.Step as rules
-use Rattle.rules.specs.Step.{refused, reserved, StateOf, OutcomeOf, numberOf, valueOf, locked, wrote, finished, visible}
-use Rattle.rules.specs.Sound.{Sound}
+use Rattle.rules.specs.Step.{refused, reserved, numberOf, valueOf, locked, wrote, finished, visible}
 use Rattle.rules.specs.Editions.{depths}
 use Rattle.sets.specs.Sets.{sets}
 use Rattle.arrays.specs.View.{Owners, anyMode, writeMode, bearersOf, modesOf, Nested, slot, versionsOf, seen}
@@ -27,9 +24,8 @@ use Rattle.arrays.specs.Changes.{barring, openTo, joined, joinedFor}
 use Rattle.arrays.proofs.Nested.{joined-nested}
 use Rattle.arrays.proofs.Modes.{grantable-is, joined-granted}
 use Rattle.locks.specs.Granting.{Granting}
-use Rattle.slots.specs.Parts.{Sources, Written}
+use Rattle.slots.specs.Parts.{Written}
 use Rattle.state.specs.Whole.{Arrays, arrays, view, lineIn, Formed, Intact, saying, Stepped, ReadyLeaf, Reserves}
-use Rattle.event.specs.declared.Answer.{Answer}
 use Rattle.state.proofs.Rules.{lock-done, lock-refused, read-done, read-refused, write-done, write-refused}
 use Rattle.state.proofs.Reserves.{reserved-test}
 use Rattle.state.proofs.Steps.{answer, stepped, finishes, unmoved, state-eq, up-is, live-is, holds-is, holds-writing-is, shallow, writer-deep, writer-alone}

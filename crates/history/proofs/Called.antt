@@ -7,7 +7,7 @@ use Rattle.rules.specs.Geometry.{Geometry}
 use Rattle.rules.specs.Form.{Form}
 use Rattle.rules.specs.Step.{StateOf}
 use Rattle.rules.specs.Portion.{Chain, chain, chainFrom}
-use Rattle.rules.specs.Calls.{Call, lents, left, joinedOf, AllPromised}
+use Rattle.rules.specs.Calls.{Call, lents, left, AllPromised}
 use Rattle.rules.proofs.Medium.{MediumLaws}
 use Rattle.rules.proofs.Portions.{Carried, carried-start}
 use Rattle.rules.proofs.Calls.{AsChain, calls-chain}

@@ -36,7 +36,7 @@ use Rattle.history.proofs.Data.{Data, write-data, begin-data}
 use Rattle.history.proofs.Waits.{waits-begun, waits-write}
 use Rattle.history.proofs.Table.{bearer-some, root-bearer, changed-is, within-is}
 use Rattle.history.proofs.TableKept.{begin-table, write-table}
-use Rattle.history.proofs.Tells.{Tells, renow, restored, topTurn, lost-tells, down-tells, decide-tells, prepare-tells, top-tells, child-tells, top-parent, child-parent}
+use Rattle.history.proofs.Tells.{Tells, restored, topTurn, lost-tells, down-tells, decide-tells, prepare-tells, top-tells, child-tells, top-parent, child-parent}
 
 -- an event that a word can hold, or a bad one
 abbrev pub Held : Geometry → Option Event → Type 0

@@ -1,8 +1,8 @@
 -- A list of words from a state: its rows, what becomes of the labels in the rest of it, and the first half of demand 3.
 use mathlib.Core.Path.{_≡_, refl, sym, ap, subst⁻¹, _∙_}
-use mathlib.Core.Bool.{true, false, true≢false, false≢true}
+use mathlib.Core.Bool.{true}
 use mathlib.Core.List.{List, [], _∷_, _++_}
-use mathlib.Core.Logic.{_≢_, _⊎_, inl, inr}
+use mathlib.Core.Logic.{_≢_}
 use Prim.Native.Nat.{ℕ, _≤_}
 use native.Mathlib.Omega.{arith}
 use Rattle.laws.specs.Tests.{open-tests}
@@ -10,18 +10,17 @@ use Rattle.laws.proofs.Tests.{ne-false}
 use Rattle.rules.specs.Geometry.{records}
 use Rattle.rules.specs.Store.{Page}
 use Rattle.rules.specs.Event.{decode}
-use Rattle.rules.specs.State.{live, down, open-state}
-use Rattle.rules.specs.Versions.{open-versions}
+use Rattle.rules.specs.State.{live}
 use Rattle.rules.specs.Form.{Form}
 use Rattle.rules.specs.Step.{Answer, done, refused, cut, numberOf, valueOf, StateOf, OutcomeOf, step}
 use Rattle.rules.specs.Run.{answerBytes, play}
 use Rattle.rules.proofs.Medium.{MediumLaws}
 use Rattle.rules.proofs.Acceptance.{refused-number}
 use Rattle.rules.proofs.Soundness.{Reached, reached-word}
-use Rattle.history.specs.History.{History, nothingYet, survives, overlaid, told, open-history}
+use Rattle.history.specs.History.{History, survives, overlaid, told}
 use Rattle.history.specs.Demand3.{Row, answerOf, rows, heard, history}
 use Rattle.history.proofs.Overlay.{overlaid-pick}
-use Rattle.history.proofs.Roots.{Root, settled, lost, at, isSettled}
+use Rattle.history.proofs.Roots.{Root, at, isSettled}
 use Rattle.history.proofs.Table.{bearer-known, root-bearer, survives-is}
 use Rattle.history.proofs.Invariant.{now, held-word, turn, Holds, After, step-after}
 

@@ -1,7 +1,7 @@
 -- The history before the first event holds of a start: where a transaction is prepared there, its pages are the only writes, and they wait.
 use mathlib.Core.Path.{_≡_, refl, sym, ap, _∙_}
 use mathlib.Core.Bool.{Bool, true, false, cond, _&&_, _||_, true≢false, false≢true, and-false}
-use mathlib.Core.List.{List, [], _∷_}
+use mathlib.Core.List.{[]}
 use mathlib.Core.Option.{Option, none, some}
 use Prim.Native.Nat.{ℕ, zero, suc, _<_, _≤_}
 use native.Mathlib.Omega.{arith}
@@ -12,12 +12,12 @@ use Rattle.laws.proofs.Booleans.{refute, clash}
 use Rattle.laws.proofs.Counting.{any-false, any-of}
 use Rattle.rules.specs.Geometry.{records}
 use Rattle.rules.specs.Store.{Page}
-use Rattle.rules.specs.State.{isActive, down, open-state}
+use Rattle.rules.specs.State.{down, open-state}
 use Rattle.rules.specs.Versions.{isSome, open-versions}
 use Rattle.rules.specs.Form.{Form}
 use Rattle.rules.proofs.Cuts.{not-lt-under}
 use Rattle.rules.proofs.Medium.{MediumLaws}
-use Rattle.history.specs.History.{bearing, waiting, ended, Write, History, isBearing, isCommitted, nothingYet, pageWrite, pageWrites, starting, writesTo, overlaid, open-history}
+use Rattle.history.specs.History.{bearing, waiting, ended, isBearing, isCommitted, nothingYet, pageWrite, pageWrites, starting, writesTo, overlaid, open-history}
 use Rattle.history.proofs.Roots.{Root, lost, waiting as awaiting, isSettled, isWaiting, isKept, isAt}
 use Rattle.history.proofs.Table.{entry}
 use Rattle.history.proofs.Invariant.{Holds}

@@ -1,7 +1,7 @@
 -- A top transaction survives exactly if it changed nothing or its count reaches the commit record: of stores of atomic pages.
-use mathlib.Core.Path.{_≡_, refl, sym, ap, _∙_, fun-ext}
+use mathlib.Core.Path.{_≡_, refl, ap, _∙_, fun-ext}
 use mathlib.Core.Bool.{Bool, true, false, cond, _||_}
-use mathlib.Core.List.{List, [], _∷_, _++_}
+use mathlib.Core.List.{List, [], _∷_}
 use mathlib.Core.Option.{Option, none, some}
 use Prim.Native.Nat.{ℕ}
 use lib.ListN.{length}
@@ -28,7 +28,7 @@ use Rattle.rules.proofs.Soundness.{reached-start, reached-play}
 use Rattle.rules.proofs.Portions.{play-append}
 use Rattle.rules.proofs.Editions.{proper1}
 use Rattle.history.specs.History.{changedBy}
-use Rattle.history.specs.Claims.{restarts, stateAfter, historyAfter, Reads-overlay}
+use Rattle.history.specs.Claims.{stateAfter, historyAfter}
 use Rattle.history.specs.Survival.{Survives-in-k}
 use Rattle.history.proofs.Claims.{reads-overlay, restarts-settled}
 

@@ -1,7 +1,7 @@
 -- Two states with one control and stores that agree, whose versions differ at most where a transaction does not survive: every event that is
 -- the same, or an accepted write by one that does not survive, leaves two such states, and the same answer but for what such a one reads.
 use mathlib.Core.Path.{_≡_, refl, sym, ap, ap₂, subst, subst⁻¹, _∙_, fun-ext}
-use mathlib.Core.Bool.{Bool, true, false, cond, _&&_, _||_, or-true, true≢false}
+use mathlib.Core.Bool.{Bool, true, false, _&&_, _||_, or-true, true≢false}
 use mathlib.Core.List.{List, [], _∷_}
 use mathlib.Core.Logic.{_≢_, _⊎_, inl, inr}
 use mathlib.Core.Option.{Option, none, some}

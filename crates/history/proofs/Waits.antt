@@ -1,13 +1,13 @@
 -- The pages of the prepared transaction hold the writes that wait, laid over what is settled: kept by each kind of event. A prepare, and the
 -- decision, on versions and settled records.
 use mathlib.Core.Path.{_≡_, refl, sym, ap, _∙_}
-use mathlib.Core.Bool.{Bool, true, false, cond, _&&_, _||_, true≢false, false≢true}
+use mathlib.Core.Bool.{Bool, true, false, cond, _||_, false≢true}
 use mathlib.Core.List.{List, [], _∷_}
 use mathlib.Core.Logic.{_≢_}
 use mathlib.Core.Option.{Option, none, some}
 use Prim.Native.Nat.{ℕ}
 use Rattle.laws.specs.Tests.{same}
-use Rattle.laws.proofs.Tests.{same?, Same, is, isnt, same-refl, ne-false}
+use Rattle.laws.proofs.Tests.{same?, Same, is, isnt, ne-false}
 use Rattle.rules.specs.Store.{Page}
 use Rattle.rules.specs.State.{mem, Versions}
 use Rattle.rules.specs.Versions.{isSome, else, dropped}

@@ -8,8 +8,8 @@ use lib.Dec.{eqb}
 use Rattle.rules.specs.Event.{toWrite, toRead, Event, begin, lock, write, read, commit, abort, crash, recover, prepare, decide, query}
 use Rattle.rules.specs.Step.{Answer, done, refused, cut}
 use Rattle.rules.specs.Editions.{geometry1}
-use Rattle.history.specs.History.{History, nothingYet, names, belongs, accepted}
-use Rattle.history.specs.Demand3.{Row, answerOf}
+use Rattle.history.specs.History.{nothingYet, names, belongs, accepted}
+use Rattle.history.specs.Demand3.{answerOf}
 use Rattle.history.specs.Claims.{restarts}
 use Rattle.history.specs.Trials.{Line, toldAll}
 

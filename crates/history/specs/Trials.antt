@@ -10,7 +10,7 @@ use Rattle.rules.specs.Geometry.{nobody}
 use Rattle.rules.specs.Store.{Page, blank}
 use Rattle.rules.specs.Event.{toWrite, Event, begin, lock, write, read, commit, abort, crash, recover, prepare, decide, query}
 use Rattle.rules.specs.Step.{Answer, done, refused, cut}
-use Rattle.history.specs.History.{Fate, bearing, committed, stored, waiting, ended, History, nothingYet, starting, survives, overlaid, told}
+use Rattle.history.specs.History.{Fate, bearing, committed, stored, waiting, ended, History, survives, overlaid, told}
 
 -- an event and its answer
 abbrev pub Line : Type 0

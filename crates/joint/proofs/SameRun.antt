@@ -1,6 +1,6 @@
 -- THE RUN IS THE SAME WITH PREPARE, DECIDE AND QUERY AND WITHOUT, for a list that has none of them and a start store in which nothing is prepared.
-use mathlib.Core.Path.{_≡_, refl, sym, ap, ap₂, _∙_}
-use mathlib.Core.Bool.{Bool, true, false, _||_, true≢false}
+use mathlib.Core.Path.{_≡_, refl, ap, ap₂, _∙_}
+use mathlib.Core.Bool.{true, false, true≢false}
 use mathlib.Core.List.{List, [], _∷_, _++_}
 use mathlib.Core.Option.{Option, none, some}
 use Prim.Native.Nat.{ℕ, zero, suc, _*_}
@@ -21,7 +21,7 @@ use Rattle.rules.proofs.Acceptance.{pass}
 use Rattle.rules.proofs.Medium.{MediumLaws}
 use Rattle.rules.proofs.Soundness.{Reached, reached-start, reached-word}
 use Rattle.audit.specs.Audit.{isTwoPhase, someTwoPhase}
-use Rattle.audit.proofs.Free.{isPlain, Free, plain-word, step-free}
+use Rattle.audit.proofs.Free.{Free, plain-word, step-free}
 use Rattle.joint.specs.Without.{geometryWithout, edition1Without, Same-run}
 use Rattle.joint.proofs.Steps.{decode-same, step-same}
 

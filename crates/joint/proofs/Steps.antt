@@ -1,5 +1,5 @@
 -- One event, of another kind than prepare, decide and query, over a store in which nothing is prepared.
-use mathlib.Core.Path.{_≡_, refl, sym, ap, ap₂, _∙_}
+use mathlib.Core.Path.{_≡_, refl, sym, ap, _∙_}
 use mathlib.Core.Bool.{Bool, true, false, not, cond, _&&_, _||_, true≢false, false≢true, and-false, and-true}
 use mathlib.Core.List.{List, [], _∷_}
 use mathlib.Core.Option.{Option, none, some}
@@ -7,12 +7,12 @@ use Prim.Native.Nat.{ℕ, zero, suc}
 use Rattle.laws.specs.Tests.{same, under, open-tests}
 use Rattle.rules.specs.Geometry.{open-geometry}
 use Rattle.rules.specs.Store.{Page, Pages, Prepared, readCommit, readPrepared, identityIn, isPrepared, isDamaged, damaged, open-store}
-use Rattle.rules.specs.Event.{Event, Uses, Fields, begin, lock, write, read, commit, abort, crash, recover, prepare, decide, query, field, fields, row, noKind, uses, usesOf, limitOf, offsetLimitOf, wellFormed, eventOf, decode}
+use Rattle.rules.specs.Event.{Event, Uses, Fields, begin, lock, write, read, commit, abort, crash, recover, prepare, decide, query, fields, row, noKind, uses, usesOf, limitOf, offsetLimitOf, wellFormed, eventOf, decode}
 use Rattle.rules.specs.State.{State, lineOf, live}
 use Rattle.rules.specs.Locks.{grantable}
 use Rattle.rules.specs.Versions.{isSome}
-use Rattle.rules.specs.Commit.{Cut, commitAt, recoverAt, open-commit}
-use Rattle.rules.specs.Step.{isBusy, isTop, hasChild, Outcome, firstOf, changes, busy, reserved, visible, refusals, refusal, commitsTop, commitsChild, commits, recovers, act, judged, step}
+use Rattle.rules.specs.Commit.{commitAt, recoverAt, open-commit}
+use Rattle.rules.specs.Step.{isBusy, isTop, hasChild, firstOf, changes, busy, reserved, visible, refusals, refusal, commitsTop, commitsChild, commits, recovers, act, judged, step}
 use Rattle.rules.specs.Editions.{geometry1, edition1}
 use Rattle.rules.proofs.Editions.{proper1}
 use Rattle.rules.proofs.AtomicPages.{atomic-laws}

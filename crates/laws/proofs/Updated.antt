@@ -1,6 +1,6 @@
 -- A function changed at one number: its value there, and elsewhere.
-use mathlib.Core.Path.{_≡_, refl, fun-ext}
-use mathlib.Core.Bool.{Bool, true, false, cond}
+use mathlib.Core.Path.{_≡_, fun-ext}
+use mathlib.Core.Bool.{cond}
 use mathlib.Core.Logic.{_≢_}
 use Prim.Native.Nat.{ℕ}
 use Rattle.laws.specs.Tests.{same}

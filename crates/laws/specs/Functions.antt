@@ -1,8 +1,6 @@
 -- A function changed at one number; a list's places as a function.
-use mathlib.Core.Bool.{Bool, cond}
-use mathlib.Core.List.{List, [], _∷_}
+use mathlib.Core.Bool.{cond}
 use Prim.Native.Nat.{ℕ}
-use lib.ListN.{getD}
 use Rattle.laws.specs.Tests.{same}
 
 module _ {A : Type 0} where

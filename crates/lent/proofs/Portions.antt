@@ -9,12 +9,11 @@ use native.Mathlib.Omega.{arith}
 use lib.ListN.{length, getD, replicate}
 use lib.Seq.{ext-getD}
 use Rattle.laws.specs.Tests.{same}
-use Rattle.rules.specs.Geometry.{records, pageCount}
 use Rattle.rules.specs.Step.{firstOf}
 use Rattle.rules.specs.Run.{runRefusals}
 use Rattle.rules.specs.Sound.{Sound}
 use Rattle.rules.specs.Portion.{Finds, Portion, portionAll, portion, wordsIn}
-use Rattle.rules.specs.Editions.{geometry1, edition1, workBytes, first}
+use Rattle.rules.specs.Editions.{geometry1, edition1, first}
 use Rattle.rules.proofs.Portions.{Case, plays, refuses, case?, lengths-first, unsound-refused, sound-played}
 use Rattle.crashes.proofs.Editions.{served-of}
 use Rattle.state.specs.Whole as state

@@ -27,8 +27,8 @@ view x = state.view edition1 (whole (x .engine) (x .work) (x .store))
 abbrev pub bytes : Kept → List ℕ
 bytes x = x .store
 
--- Written as a state is: the lengths are right, the lines are those of the parents and depths, who has a lock in write mode has it, and what stands
--- for nothing is 0.
+-- In the one encoding that a state has: the lengths are right, the lines are those of the parents and depths, who has a lock in write mode has it in any
+-- mode, and every field that carries no information is 0.
 pub record Proper (x : Kept) : Type 0 where
   pub form : Formed edition1 (whole (x .engine) (x .work) (x .store))
   pub bare : x .engine .spare ≡ replicate 3 0

@@ -6,10 +6,10 @@ use Prim.Native.Nat.{ℕ, zero, suc, _-_, _<_, _≤_}
 use native.Mathlib.Omega.{arith}
 use lib.ListN.{getD}
 use Rattle.laws.specs.Tests.{same, under, open-tests}
-use Rattle.laws.proofs.Tests.{same?, Same, is, isnt, same-refl, ne-false}
-use Rattle.history.specs.History.{History, climbs, isWithin, isCommitted, follows, standsWith, isBearing, isStored, survives, Fate, bearing, committed, stored, ended}
+use Rattle.laws.proofs.Tests.{same?, Same, is, isnt, ne-false}
+use Rattle.history.specs.History.{History, climbs, isWithin, isCommitted, follows, standsWith, isBearing, isStored, survives, bearing, committed, stored, ended}
 use Rattle.audit.specs.Plain.{Ledger, rises, height, locksWith, blocks}
-use Rattle.links.specs.Links.{fateOf, entryAt, fateIn, passedIn, upIn, Earlier, Linked}
+use Rattle.links.specs.Links.{fateOf, entryAt, fateIn, upIn, Earlier, Linked}
 
 module _ (parent : List ℕ) (E : Earlier parent) where
   abbrev P : ℕ → ℕ

@@ -2,13 +2,12 @@
 //   parent[i]   its parent, begun before it; 0 for a top one
 //   fate[i]     0 ended; 1 ended, and its locks went up; 2 a child that committed; 3 a top one that survives; 32 + t: it bears the number t
 ghost use mathlib.Core.Path.{_≡_};
-ghost use mathlib.Core.Bool.{Bool, cond, not, _&&_, _||_};
-ghost use Prim.Native.Nat.{ℕ, _+_, _-_, _<_, _≤_};
-ghost use lib.ListN.{length, getD};
+ghost use mathlib.Core.Bool.{cond, not, _&&_, _||_};
+ghost use Prim.Native.Nat.{_+_, _-_, _<_, _≤_};
 ghost use Rattle.laws.specs.Tests.{same};
 ghost use Rattle.history.specs.History.{climbs, isWithin, isCommitted, standsWith, survives};
 ghost use Rattle.audit.specs.Plain.{Ledger, rises, height, blocks};
-ghost use Rattle.links.specs.Links.{fateOf, passedOf, entryAt, fateIn, upIn, Earlier, Linked};
+ghost use Rattle.links.specs.Links.{fateOf, passedOf, entryAt, upIn, Earlier, Linked};
 
 // A way up from a transaction: where it stands, and how many steps it may still go.
 pub struct Rise {

@@ -2,8 +2,8 @@
 // mode, at 2 * r + 1 those that do so in write mode. `writers` has one place for each record: the transactions that have a version of it.
 // Functions that go over all places get their number; the others ask that the places of their record exist.
 ghost use mathlib.Core.Path.{_≡_};
-ghost use mathlib.Core.Bool.{Bool, true, false, not, cond, _&&_, _||_};
-ghost use Prim.Native.Nat.{ℕ, _+_, _*_, _<_, _≤_};
+ghost use mathlib.Core.Bool.{true, false};
+ghost use Prim.Native.Nat.{_+_, _*_, _<_, _≤_};
 ghost use lib.ListN.{length, replicate};
 ghost use Rattle.laws.specs.Tests.{same};
 ghost use Rattle.laws.specs.Bits.{bits};

@@ -1,6 +1,6 @@
 -- Each entry of the code's table is the agreement's turn of its state and message; and a number stands for one state, message or reply.
-use mathlib.Core.Path.{_≡_, refl, sym, ap, ap₂, _∙_}
-use mathlib.Core.Bool.{Bool, true, false, cond}
+use mathlib.Core.Path.{_≡_, refl, sym, ap, _∙_}
+use mathlib.Core.Bool.{Bool, cond}
 use mathlib.Core.List.{List, [], _∷_}
 use mathlib.Core.Logic.{_≢_}
 use mathlib.Core.Option.{Option, none, some}
@@ -9,7 +9,7 @@ use native.Mathlib.Omega.{arith}
 use lib.ListN.{getD}
 use Rattle.laws.specs.Tests.{same, open-tests}
 use Rattle.laws.proofs.Tests.{same-refl, ne-false}
-use Rattle.agreement.specs.Depot.{Stage, idle, asked, committed, aborted, Input, start, yes, no, giveUp, Order, toPrepare, toCommit, toAbort, table, open-depot}
+use Rattle.agreement.specs.Depot.{Stage, idle, asked, committed, aborted, Input, start, yes, no, giveUp, Order, toPrepare, toCommit, toAbort, open-depot}
 use Rattle.messages.specs.Codes.{Left, stageOf, stageCode, messageOf, messageCode, replyOf, replyCode, turnOf, left, open-codes}
 
 pub stage-code : (s : Stage) → stageOf (stageCode s) ≡ some s

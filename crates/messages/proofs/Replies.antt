@@ -1,9 +1,9 @@
 -- The vote on an event and its answer is the reply of which the agreement speaks, for every answer that the rules give to an event; a bad event
 -- never has a yes.
-use mathlib.Core.Path.{_≡_, refl, sym, ap, subst⁻¹, _∙_}
-use mathlib.Core.Bool.{Bool, true, false, cond, _&&_, _||_, and-false}
-use mathlib.Core.Option.{Option, none, some}
-use Prim.Native.Nat.{ℕ, _<_, _≤_}
+use mathlib.Core.Path.{_≡_, refl, ap, subst⁻¹, _∙_}
+use mathlib.Core.Bool.{false, _&&_, and-false}
+use mathlib.Core.Option.{none, some}
+use Prim.Native.Nat.{ℕ, _≤_}
 use native.Mathlib.Omega.{arith}
 use Rattle.laws.specs.Tests.{same, open-tests}
 use Rattle.laws.proofs.Tests.{ne-false, same-refl}

@@ -3,7 +3,7 @@ use Prim.Native.Nat.{ℕ}
 use mathlib.Core.Bool.{Bool, true, _&&_}
 use mathlib.Core.List.{List, [], _∷_}
 use lib.Dec.{eqb}
-use Rattle.messages.specs.Codes.{Left, left}
+use Rattle.messages.specs.Codes.{left}
 use Rattle.messages.specs.Votes.{voteOn}
 
 -- a state and a message; the answer, the state and the reply that they leave, where the reply was 9

@@ -4,7 +4,6 @@ use mathlib.Core.Bool.{Bool, cond, _&&_, _||_}
 use mathlib.Core.Option.{Option, none, some}
 use Prim.Native.Nat.{ℕ}
 use Rattle.laws.specs.Tests.{same}
-use Rattle.agreement.specs.Depot.{yes, no}
 use Rattle.agreement.specs.Messages.{Message, order, vote, inputOf}
 use Rattle.messages.specs.Codes.{messageCode}
 

@@ -13,13 +13,13 @@ use Rattle.rules.specs.Event.{Event, decode}
 use Rattle.rules.specs.State.{down}
 use Rattle.rules.specs.Step.{StateOf, firstOf}
 use Rattle.rules.specs.Store.{pagesOf}
-use Rattle.rules.specs.Run.{Played, words, play, eventsIn, runRefusals}
+use Rattle.rules.specs.Run.{words, play, eventsIn, runRefusals}
 use Rattle.rules.specs.Editions.{geometry2, edition2}
 use Rattle.commitpage.proofs.Places.{layout2}
 use Rattle.event.proofs.Words.{bytes2}
 use Rattle.device.specs.Plan.{writeAt}
 use Rattle.device.specs.Asked.{Asked, told, planFor, askLengths}
-use Rattle.device.specs.After.{AskedAfter, orElse, after, refusedAfter, askedAfterBy, askedAfter, Told-after}
+use Rattle.device.specs.After.{orElse, after, refusedAfter, askedAfterBy, askedAfter, Told-after}
 use Rattle.state.specs.Whole.{Arrays, view}
 use Rattle.state.specs.Portion.{played, Portion}
 use Rattle.lengths.specs.Lengths.{lengthsRefused, questionRefused, refusalNumber}

@@ -1,7 +1,6 @@
 // Numbers of transactions and of records, as types of their own: neither can be taken for the other.
 ghost use mathlib.Core.Path.{_≡_};
 ghost use Prim.Native.Nat.{_<_};
-ghost use Rattle.rules.specs.Geometry.{transactions};
 ghost use Rattle.numbers.specs.Named.{transactionNamed, recordNamed, transactionOf, recordOf};
 
 // The number of a transaction, 0 to 23.

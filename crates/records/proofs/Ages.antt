@@ -1,10 +1,10 @@
 -- The stamp and the settled page are those of the rules; the cases of an age's answer.
 use mathlib.Core.Path.{_≡_, refl, sym, ap, subst⁻¹, _∙_}
-use mathlib.Core.Bool.{Bool, true, false, not, cond, _&&_, true≢false, false≢true}
+use mathlib.Core.Bool.{Bool, true, false, cond, true≢false, false≢true}
 use mathlib.Core.List.{List}
 use mathlib.Core.Logic.{_≢_}
-use mathlib.Core.Option.{Option, none, some}
-use Prim.Native.Nat.{ℕ, zero, suc, _+_, _*_, _<_, _≤_, min}
+use mathlib.Core.Option.{none, some}
+use Prim.Native.Nat.{ℕ, _+_, _*_, _<_, _≤_, min}
 use native.Mathlib.Omega.{arith}
 use lib.IntN.{ℤ, subℕ}
 use lib.ListN.{length, take, drop}
@@ -14,10 +14,10 @@ use Rattle.laws.specs.Bytes.{number}
 use Rattle.laws.proofs.Tests.{lt-under, under-lt, ne-false, same-refl}
 use Rattle.laws.proofs.Booleans.{not-false, not-true}
 use Rattle.rules.specs.Geometry.{Geometry, records, pageCount, pageSize}
-use Rattle.rules.specs.Store.{Page, pagesOf, named, readCommit, mapIn, isDamaged, damaged, isNamed, intention, home, settled}
+use Rattle.rules.specs.Store.{Page, pagesOf, named, readCommit, mapIn, damaged, isNamed, intention, home, settled}
 use Rattle.rules.specs.Step.{firstOf}
 use Rattle.rules.specs.Age.{Age, refused, judged, stamp, ageRefusals, ageBy, ageOf}
-use Rattle.rules.specs.Form.{Medium, atomic}
+use Rattle.rules.specs.Form.{atomic}
 use denote.Enum.Declared.{tagOf}
 use Rattle.numbers.proofs.RecordNamed.{the-type}
 use Rattle.numbers.specs.Named.{recordNamed, recordOf}

@@ -1,17 +1,15 @@
 -- A fresh store laid page by page: one page more at each step, and after the last the bytes of a fresh store.
 use mathlib.Core.Path.{_≡_, refl, sym, ap, ap₂, _∙_}
-use mathlib.Core.Bool.{Bool, true, false, cond}
 use mathlib.Core.List.{List, _++_}
 use mathlib.Core.Logic.{_≢_}
 use Prim.Native.Nat.{ℕ, zero, suc, _+_, _*_, _<_}
 use native.Mathlib.Omega.{arith}
 use lib.ListN.{length}
-use Rattle.laws.specs.Tests.{same}
 use Rattle.laws.specs.Functions.{updated}
 use Rattle.laws.proofs.Tests.{same?, Same, is, isnt, ne-false, same-refl}
 use Rattle.rules.specs.Geometry.{Geometry, pageCount, pageSize, records}
 use Rattle.rules.specs.Store.{Pages, pagesOf, flat, fresh}
-use Rattle.rules.specs.Form.{Form, Medium, atomic}
+use Rattle.rules.specs.Form.{atomic}
 use Rattle.rules.specs.Run.{layFresh}
 use Rattle.rules.proofs.Pages.{flat-pagesOf}
 use Rattle.lengths.specs.Lengths.{storeBytes}

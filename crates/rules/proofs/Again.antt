@@ -1,7 +1,7 @@
 -- Asking for a lock that is held already, in the mode that is asked for or a stronger one, is done and changes nothing. (The asker has no live
 -- child.)
 use mathlib.Core.Path.{_≡_, refl, sym, ap, _∙_, fun-ext}
-use mathlib.Core.Bool.{Bool, true, false, not, cond, _&&_, _||_, false≢true, or-true}
+use mathlib.Core.Bool.{true, false, not, cond, _&&_, _||_, false≢true, or-true}
 use mathlib.Core.Logic.{_≢_}
 use mathlib.Core.Option.{none, some}
 use Prim.Native.Nat.{ℕ}

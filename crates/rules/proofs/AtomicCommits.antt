@@ -15,7 +15,7 @@ use Rattle.rules.specs.Geometry.{Geometry, Proper, records, pageCount}
 use Rattle.rules.specs.Store.{Page, Pages, intention, home, mapOf, named, readCommit, mapIn, isDamaged, isEmptied, damaged, emptied, isNamed, Prepared, readPrepared, isPrepared, identityIn, isReserved, pending, settled}
 use Rattle.rules.specs.State.{mem}
 use Rattle.rules.specs.Versions.{isSome, else}
-use Rattle.rules.specs.Commit.{written, applied, cutAt, pageIn, commitWrites, recoverWrites, commitAt, recoverAt}
+use Rattle.rules.specs.Commit.{applied, cutAt, pageIn, commitWrites, recoverWrites, commitAt, recoverAt}
 use Rattle.rules.specs.Form.{atomicPages}
 use Rattle.rules.specs.Step.{isBusy}
 use Rattle.rules.specs.Sound.{isCalm}

@@ -8,7 +8,6 @@ use lib.ListN.{take}
 use lib.Pow.{pow-pos}
 use Rattle.laws.specs.Counting.{those}
 use Rattle.laws.specs.Functions.{updated}
-use Rattle.laws.proofs.Tests.{is}
 use Rattle.laws.proofs.Updated.{updated-same}
 use Rattle.rules.specs.Geometry.{Geometry, Proper, records, pageCount}
 use Rattle.rules.specs.Store.{Pages, intention, commitPage, readCommit, isDamaged, isEmptied, emptied, Prepared, readPrepared, identityIn, preparedMap, isReserved, pending, settled}

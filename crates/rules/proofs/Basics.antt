@@ -17,10 +17,10 @@ use Rattle.rules.specs.Store.{Page}
 use Rattle.rules.specs.State.{lineOf, mem, Versions, State}
 use Rattle.rules.specs.Locks.{discarded}
 use Rattle.rules.specs.Versions.{also, handedUp, dropped}
-use Rattle.rules.specs.Form.{Form, Medium}
+use Rattle.rules.specs.Form.{Form}
 use Rattle.rules.specs.Step.{firstOf, ended, retaining, aborted}
 use Rattle.rules.specs.Run.{runRefusals}
-use Rattle.rules.specs.Age.{Age, ahead, live, stale, judged}
+use Rattle.rules.specs.Age.{ahead, live, stale, judged}
 
 pub ahead-below-zero : (n limit : ℕ) → judged (negsuc n) limit ≡ ahead (negsuc n)
 unfolding judged

@@ -17,7 +17,7 @@ use Rattle.rules.specs.Geometry.{Geometry, Proper, pageCount, workSize, 
 use Rattle.rules.specs.State.{down}
 use Rattle.rules.specs.Form.{Form, atomic}
 use Rattle.rules.specs.Step.{StateOf, firstOf}
-use Rattle.rules.specs.Run.{Result, Played, words, answerBytes, play, eventsIn, runRefusals, run}
+use Rattle.rules.specs.Run.{Result, Played, words, answerBytes, play, eventsIn, runRefusals}
 use Rattle.rules.specs.Portion.{Lent, allEvents, allZero, Fits, AllFit, wordsIn, Portion, portionAll, portion, added, chain, chainFrom, next, Takes, As-whole}
 use Rattle.rules.specs.Editions.{geometry1, edition1}
 use Rattle.rules.proofs.Medium.{MediumLaws}

@@ -11,7 +11,7 @@ use Rattle.rules.specs.Event.{Event, begin, lock, write, read, commit, a
 use Rattle.rules.specs.State.{lineOf, down}
 use Rattle.rules.specs.Commit.{Cut, commitAt, recoverAt}
 use Rattle.rules.specs.Form.{atomic}
-use Rattle.rules.specs.Step.{StateOf, isTop, begun, locked, wrote, ended, passed, retaining, aborted, raised, concluded, finished, changes, busy, refusal, commitsTop, commitsChild, commits, recovers, act, step}
+use Rattle.rules.specs.Step.{StateOf, isTop, begun, locked, wrote, ended, retaining, aborted, raised, concluded, finished, changes, busy, refusal, commitsTop, commitsChild, commits, recovers, act, step}
 use Rattle.rules.specs.Sound.{Sound}
 use Rattle.rules.proofs.Acceptance.{commit-ok, commit-clear, Judged, judge?, acts, refuses}
 use Rattle.rules.proofs.AtomicCommits.{clear-held, recover-held}

@@ -6,7 +6,7 @@ use Rattle.laws.specs.Tests.{same, under}
 use Rattle.laws.proofs.Tests.{under-lt}
 use Rattle.laws.proofs.Booleans.{and-right}
 use Rattle.rules.specs.Geometry.{Geometry}
-use Rattle.rules.specs.Event.{Fields, Uses, row, noKind, uses, usesOf, limitOf, offsetLimits, offsetLimitOf, wellFormed}
+use Rattle.rules.specs.Event.{Fields, row, noKind, uses, usesOf, limitOf, offsetLimits, offsetLimitOf, wellFormed}
 
 pub plain-kinds : (g : Geometry) → g .joint ≡ false → (n : ℕ) → usesOf g (suc (suc (suc (suc (suc (suc (suc (suc (suc n))))))))) .known ≡ false
 unfolding usesOf uses row noKind

@@ -1,6 +1,6 @@
 -- What the proofs about whole runs know of the stable store: laws of a medium's operations, and no more.
 use mathlib.Core.Path.{_≡_}
-use mathlib.Core.Bool.{Bool, true, false, cond, _&&_, _||_}
+use mathlib.Core.Bool.{Bool, true, false, cond, _||_}
 use mathlib.Core.List.{List}
 use mathlib.Core.Option.{Option, none, some}
 use Prim.Native.Nat.{ℕ, _<_}
@@ -10,7 +10,6 @@ use Rattle.laws.specs.Counting.{any, count}
 use Rattle.rules.specs.Geometry.{Geometry, records, pageSize, uncut}
 use Rattle.rules.specs.Store.{Page}
 use Rattle.rules.specs.Versions.{isSome, else}
-use Rattle.rules.specs.Commit.{Cut}
 use Rattle.rules.specs.Form.{Medium}
 use Rattle.rules.specs.Sound.{isCalm}
 

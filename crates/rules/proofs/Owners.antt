@@ -10,8 +10,8 @@ use Rattle.laws.specs.Tests.{same}
 use Rattle.laws.proofs.Tests.{same?, Same, is, isnt, same-eq, same-refl, ne-false, Is, is?, yes′, no′}
 use Rattle.laws.proofs.Booleans.{or-cases, or-left, or-right, and-left, and-right, clash}
 use Rattle.rules.specs.Store.{Page}
-use Rattle.rules.specs.Event.{Access, toWrite, toRead}
-use Rattle.rules.specs.State.{mem, Mode, isLock, isWriting, stronger, Modes, Versions}
+use Rattle.rules.specs.Event.{Access, toWrite}
+use Rattle.rules.specs.State.{mem, isLock, isWriting, stronger, Modes, Versions}
 use Rattle.rules.specs.Locks.{modeFor, bars, granted, inherited, discarded}
 use Rattle.rules.specs.Versions.{isSome, also, withVersion, handedUp, dropped}
 use Rattle.rules.proofs.Tree.{Lines}

@@ -1,15 +1,15 @@
 -- Where nothing can be prepared, kinds 9 to 11 are bad events and a page with state 3 is damaged: the rules are those without prepare, decide and
 -- query.
-use mathlib.Core.Path.{_≡_, refl, sym, ap, _∙_}
-use mathlib.Core.Bool.{Bool, true, false, not, cond, _&&_, false≢true, and-false}
-use mathlib.Core.Option.{Option, none, some}
+use mathlib.Core.Path.{_≡_, refl, ap, _∙_}
+use mathlib.Core.Bool.{Bool, true, false, _&&_}
+use mathlib.Core.Option.{none, some}
 use Prim.Native.Nat.{ℕ, suc, _-_, _^_, _<_}
 use native.Mathlib.Omega.{arith}
 use Rattle.laws.specs.Tests.{under}
 use Rattle.laws.proofs.Booleans.{and-right, clash}
 use Rattle.rules.specs.Geometry.{Geometry}
-use Rattle.rules.specs.Store.{Page, Pages, readCommit, Prepared, readPrepared, isPrepared, isDamaged, damaged, pending}
-use Rattle.rules.specs.Event.{Event, prepare, decide, query, Fields, fields, usesOf, wellFormed, decode, fits}
+use Rattle.rules.specs.Store.{Page, Pages, readCommit, readPrepared, isPrepared, isDamaged, damaged, pending}
+use Rattle.rules.specs.Event.{prepare, decide, query, Fields, fields, usesOf, wellFormed, decode, fits}
 use Rattle.rules.proofs.JointKinds.{plain-kinds}
 use Rattle.rules.proofs.Event.{decode-fits}
 use Rattle.rules.proofs.Prepares.{pending-free}

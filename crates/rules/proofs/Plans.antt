@@ -1,13 +1,12 @@
 -- The page writes of a prepare and of a decision in other words than their definitions: how many there are, which is the first and the last; and
 -- a page of a prepared transaction is not damaged.
-use mathlib.Core.Path.{_≡_, refl, sym, ap, _∙_}
-use mathlib.Core.Bool.{Bool, true, false, not, _&&_, and-false}
+use mathlib.Core.Path.{_≡_, refl, ap, _∙_}
+use mathlib.Core.Bool.{true, false, not, _&&_, and-false}
 use mathlib.Core.List.{List, [], _∷_, _++_}
-use mathlib.Core.Option.{Option, none, some}
-use Prim.Native.Nat.{ℕ, zero, suc, _+_}
+use mathlib.Core.Option.{Option, some}
+use Prim.Native.Nat.{ℕ, suc, _+_}
 use native.Mathlib.Omega.{arith}
-use lib.ListN.{length, take, length-append, length-map}
-use Rattle.laws.specs.Functions.{updated}
+use lib.ListN.{length, length-append, length-map}
 use Rattle.laws.proofs.Updated.{updated-same}
 use Rattle.rules.specs.Geometry.{Geometry}
 use Rattle.rules.specs.Store.{Page, Pages, intention, home, commitPage, readCommit, isDamaged, damaged, Prepared, preparedPage, readPrepared, isPrepared, preparedMap}

@@ -1,7 +1,7 @@
 -- The commit page of a prepared transaction reads back as that transaction, in every proper geometry that has such pages; it is no map's commit
 -- page, and no map's commit page is a prepared one.
 use mathlib.Core.Path.{_≡_, refl, sym, _∙_, ap, subst, subst⁻¹}
-use mathlib.Core.Bool.{Bool, true, false, not, cond, _&&_, false≢true, true≢false}
+use mathlib.Core.Bool.{Bool, true, false, not, cond, _&&_, true≢false}
 use mathlib.Core.Logic.{_≢_}
 use mathlib.Core.Option.{Option, none, some}
 use Prim.Native.Nat.{ℕ, _+_, _-_, _*_, _/_, _%_, _^_, _≤_, _<_}
@@ -9,11 +9,11 @@ use native.Mathlib.Nat.{mod-lt, mod-eq-of-lt, lt-of-le-of-lt, lt-of-lt-of-le, mu
 use native.Mathlib.Omega.{arith}
 use lib.Arith.{digits-lt}
 use lib.ListN.{length}
-use lib.Pow.{high, low, shl-lt, shl-shr, field, mod-mod-pow, pow-add, pow-pos, pow-mono}
+use lib.Pow.{low, shl-lt, shl-shr, field, mod-mod-pow, pow-add, pow-pos, pow-mono}
 use Rattle.laws.specs.Tests.{same}
 use Rattle.laws.specs.Counting.{count}
 use Rattle.laws.specs.Bytes.{number, sameList}
-use Rattle.laws.proofs.Tests.{same-eq, same-refl, ne-false, Is, is?, yes′, no′}
+use Rattle.laws.proofs.Tests.{same-refl, ne-false, Is, is?, yes′, no′}
 use Rattle.laws.proofs.Booleans.{both, not-true}
 use Rattle.laws.proofs.Those.{count-le}
 use Rattle.laws.proofs.Bytes.{number-bytes, bytes-length, sameList-refl, sameList-eq}

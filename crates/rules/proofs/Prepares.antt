@@ -1,31 +1,30 @@
 -- A prepare and a decision cut anywhere: the pages that are there then, how many writes are due, what is settled, what is prepared and pending.
 use mathlib.Core.Path.{_≡_, refl, sym, _∙_, ap, ap₂, fun-ext}
-use mathlib.Core.Bool.{Bool, true, false, cond, _&&_, _||_, true≢false, false≢true, and-false}
+use mathlib.Core.Bool.{Bool, true, false, cond, _&&_, true≢false, and-false}
 use mathlib.Core.List.{List, [], _∷_, _++_}
 use mathlib.Core.Logic.{_≢_}
-use mathlib.Core.Option.{Option, none, some}
-use Prim.Native.Nat.{ℕ, zero, suc, _+_, _*_, _^_, _≤_, _<_}
+use mathlib.Core.Option.{none, some}
+use Prim.Native.Nat.{ℕ, suc, _+_, _^_, _≤_, _<_}
 use native.Mathlib.Omega.{arith}
-use lib.ListN.{length, take, length-append, length-map}
+use lib.ListN.{length, take, length-append}
 use lib.Seq.{take-append-le, take-all}
-use lib.Pow.{pow-pos}
 use Rattle.laws.specs.Tests.{same, under}
 use Rattle.laws.specs.Counting.{count, those}
 use Rattle.laws.specs.Functions.{updated}
 use Rattle.laws.proofs.Tests.{same-refl, ne-false, Is, is?, yes′, no′, under-lt, lt-under, not-under}
 use Rattle.laws.proofs.Updated.{updated-same, updated-other}
 use Rattle.rules.specs.Geometry.{Geometry, Proper, records}
-use Rattle.rules.specs.Store.{Page, Pages, intention, home, mapOf, named, commitPage, readCommit, mapIn, isNamed, Prepared, preparedPage, readPrepared, identityIn, preparedMap, isReserved, pending, settled}
+use Rattle.rules.specs.Store.{Page, Pages, intention, home, mapOf, named, commitPage, readCommit, mapIn, isNamed, Prepared, preparedPage, readPrepared, preparedMap, isReserved, pending, settled}
 use Rattle.rules.specs.State.{mem}
 use Rattle.rules.specs.Versions.{else}
-use Rattle.rules.specs.Commit.{Cut, PageWrite, sets, written, applied, cutAt, intentions, homes, marks, recoverWrites, prepareWrites, decideWrites, recoverAt, decideAt}
+use Rattle.rules.specs.Commit.{Cut, PageWrite, sets, written, applied, cutAt, intentions, marks, recoverWrites, prepareWrites, decideWrites, recoverAt, decideAt}
 use Rattle.laws.proofs.Booleans.{and-left}
 use Rattle.rules.proofs.Plans.{prepare-takes}
 use Rattle.rules.proofs.Map.{named-zero, named-mapOf}
 use Rattle.rules.proofs.CommitPage.{read-commitPage}
-use Rattle.rules.proofs.PreparedPage.{Sensible, read-preparedPage, prepared-is, prepared-unread, not-prepared}
+use Rattle.rules.proofs.PreparedPage.{Sensible, read-preparedPage, prepared-is, prepared-unread}
 use Rattle.rules.proofs.Members.{mem-take, those-only, those-all, those-below}
-use Rattle.rules.proofs.Shows.{lay, applied-append, Shows, shows-mark, shows-intentions, names, names-below, settled-shows, names-unread}
+use Rattle.rules.proofs.Shows.{lay, applied-append, Shows, shows-mark, shows-intentions, names, names-unread}
 use Rattle.rules.proofs.Cuts.{take-none, plan-of, home-of, start, planned-length, take-intentions}
 
 -- the page writes due for n records, in a prepare

@@ -6,12 +6,12 @@ use mathlib.Core.Option.{Option, none, some}
 use Prim.Native.Nat.{ℕ, _^_, _<_}
 use Rattle.laws.specs.Tests.{same, under}
 use Rattle.laws.specs.Counting.{any, count}
-use Rattle.laws.proofs.Tests.{is, same-eq, same-refl, or-false-left, or-false-right, Is, is?, yes′, no′, under-lt}
+use Rattle.laws.proofs.Tests.{same-eq, same-refl, or-false-left, or-false-right, Is, is?, yes′, no′, under-lt}
 use Rattle.laws.proofs.Booleans.{or-cases, or-left, or-right, and-right, both, refute, clash}
 use Rattle.laws.proofs.Counting.{any-false}
 use Rattle.laws.proofs.Those.{count-none}
-use Rattle.rules.specs.Geometry.{Geometry, records, nobody}
-use Rattle.rules.specs.Event.{lock, commit, prepare, fits}
+use Rattle.rules.specs.Geometry.{Geometry, records}
+use Rattle.rules.specs.Event.{prepare, fits}
 use Rattle.rules.specs.State.{Mode, nothing, isLock, stronger, Modes, holds, retains}
 use Rattle.rules.specs.Locks.{inherited, discarded}
 use Rattle.rules.specs.Versions.{isSome}

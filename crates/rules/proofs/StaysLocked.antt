@@ -1,7 +1,7 @@
 -- What the prepared transaction changed stays as it is and stays locked, through every event, also crashes and recoveries, until a decision on it
 -- makes a page write.
 use mathlib.Core.Path.{_≡_, refl, sym, ap, subst, subst⁻¹, _∙_}
-use mathlib.Core.Bool.{Bool, true, false, not, cond, _&&_, _||_, true≢false, false≢true}
+use mathlib.Core.Bool.{Bool, true, false, not, _&&_, false≢true}
 use mathlib.Core.List.{List, [], _∷_}
 use mathlib.Core.Option.{Option, none, some}
 use Prim.Native.Nat.{ℕ}
@@ -13,8 +13,8 @@ use Rattle.rules.specs.State.{lineOf, live, down}
 use Rattle.rules.specs.Versions.{isSome}
 use Rattle.rules.specs.Commit.{Cut}
 use Rattle.rules.specs.Form.{Form}
-use Rattle.rules.specs.Step.{Answer, done, refused, valueOf, hasChild, isBusy, isFor, isTop, StateOf, OutcomeOf, changes, busy, reserved, refusal, begun, locked, wrote, ended, retaining, aborted, raised, concluded, finished, commitsTop, commitsChild, commits, recovers, decides, act, judged, step}
-use Rattle.rules.specs.Run.{Played, play}
+use Rattle.rules.specs.Step.{Answer, valueOf, hasChild, isBusy, isFor, isTop, StateOf, OutcomeOf, changes, busy, reserved, refusal, begun, locked, wrote, ended, retaining, aborted, raised, concluded, finished, commitsTop, commitsChild, commits, recovers, decides, act, step}
+use Rattle.rules.specs.Run.{play}
 use Rattle.rules.specs.Sound.{Sound}
 use Rattle.rules.proofs.Medium.{MediumLaws, changedIn, isClear}
 use Rattle.rules.proofs.Waiting.{Refused}

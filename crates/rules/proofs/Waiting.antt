@@ -1,14 +1,14 @@
 -- While a child of a transaction is live, the transaction neither locks, writes nor reads: that is refused with 14, whatever it holds, and
 -- changes nothing. A live child does not stop an abort.
 use mathlib.Core.Path.{_≡_, refl, ap}
-use mathlib.Core.Bool.{Bool, true, false, not}
+use mathlib.Core.Bool.{Bool, true, not}
 use mathlib.Core.List.{List, _∷_}
 use mathlib.Core.Option.{none, some}
 use Prim.Native.Nat.{ℕ}
 use Rattle.rules.specs.Event.{Access, Event, lock, write, read, abort}
 use Rattle.rules.specs.State.{live}
 use Rattle.rules.specs.Form.{Form}
-use Rattle.rules.specs.Step.{refused, firstOf, hasChild, StateOf, OutcomeOf, refusals, refusal, act, judged, step}
+use Rattle.rules.specs.Step.{refused, firstOf, hasChild, StateOf, refusals, refusal, act, judged, step}
 
 module _ (f : Form) (s : StateOf f) where
   -- the event is refused with a number, and nothing changes

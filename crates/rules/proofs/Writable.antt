@@ -5,7 +5,6 @@ use mathlib.Core.List.{List, [], _∷_, _++_}
 use Prim.Native.Nat.{ℕ, zero, suc, _+_, _<_}
 use native.Mathlib.Omega.{arith}
 use lib.ListN.{length, take}
-use Rattle.laws.proofs.Tests.{is}
 use Rattle.rules.specs.Geometry.{Geometry, records, pageCount}
 use Rattle.rules.specs.Store.{Page, Pages, intention, home, Prepared, preparedPage}
 use Rattle.rules.specs.State.{mem}

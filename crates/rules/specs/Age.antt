@@ -1,15 +1,15 @@
 -- How old a record is.
 use Prim.Native.Nat.{ℕ}
-use mathlib.Core.Bool.{Bool, true, false, not, cond}
+use mathlib.Core.Bool.{Bool, not, cond}
 use mathlib.Core.List.{List, [], _∷_}
 use mathlib.Core.Option.{Option, none, some}
 use lib.ListN.{length, take}
-use lib.IntN.{ℤ, pos, negsuc, subℕ}
+use lib.IntN.{ℤ, pos, subℕ}
 use lib.Signed.{ltZ, leZ}
 use Rattle.laws.specs.Tests.{same, under}
 use Rattle.laws.specs.Bytes.{number}
-use Rattle.rules.specs.Geometry.{Geometry, records}
-use Rattle.rules.specs.Form.{Form, Medium}
+use Rattle.rules.specs.Geometry.{records}
+use Rattle.rules.specs.Form.{Form}
 use Rattle.rules.specs.Step.{firstOf}
 
 -- ahead, live or stale, each with its age; or refused, with a number

@@ -1,11 +1,11 @@
 -- Page writes and cuts: the page writes of a top transaction's commit, its prepare and the decision on it, and of a recovery, and a crash among
 -- them.
-use Prim.Native.Nat.{ℕ, zero, suc}
+use Prim.Native.Nat.{ℕ, suc}
 use mathlib.Core.Bool.{Bool, true, false, cond}
 use mathlib.Core.List.{List, [], _∷_, _++_, map}
-use mathlib.Core.Option.{Option, none, some}
+use mathlib.Core.Option.{Option}
 use lib.ListN.{length, take}
-use Rattle.laws.specs.Tests.{same, under}
+use Rattle.laws.specs.Tests.{under}
 use Rattle.laws.specs.Counting.{those}
 use Rattle.laws.specs.Functions.{updated}
 use Rattle.rules.specs.Geometry.{Geometry, records}

@@ -9,7 +9,7 @@ use lib.ListN.{length, take, drop}
 use Rattle.laws.specs.Tests.{same}
 use Rattle.rules.specs.Geometry.{workSize, wordSize, longest}
 use Rattle.rules.specs.State.{down}
-use Rattle.rules.specs.Form.{Form, Medium}
+use Rattle.rules.specs.Form.{Form}
 use Rattle.rules.specs.Step.{StateOf, firstOf}
 use Rattle.rules.specs.Run.{words, answerBytes, play, eventsIn, runRefusals, run}
 use Rattle.rules.specs.Sound.{Sound}
@@ -52,12 +52,13 @@ module _ (f : Form) where
     pub store : List ℕ
     pub answers : List ℕ
 
-  -- What is lent as a state is the content of a state, or of none. What is found of it is right: that it is the content of a sound one.
+  -- The caller lends bytes that may or may not encode a state. `sound` is the verdict on them, and it is right both ways: true only if they encode a sound
+  -- state, and true whenever they do.
   pub record Finds (content : StateOf f → Type 0) (sound : Bool) : Type 0 where
     pub only-sound : sound ≡ true → (s : StateOf f) × content s × Sound f s
     pub every-sound : (s : StateOf f) → content s → Sound f s → sound ≡ true
 
-  -- A run's refusals, and then 25. `sound` says what is found of what is lent as a state.
+  -- A run's refusals, and then 25. `sound` is the verdict on the lent state.
   unfoldable pub portionRefusals : Bool → List ℕ → List ℕ → List ℕ → List ℕ → List (ℕ × Bool)
   portionRefusals sound store events work answers = runRefusals f store events work answers ++ ((25, not sound) ∷ [])
 

@@ -1,6 +1,6 @@
 -- A whole run on bytes: refused before the first event, or played to the last. Laying down a fresh store.
 use Prim.Native.Nat.{ℕ, zero, suc, _*_, _/_, _%_}
-use mathlib.Core.Bool.{Bool, true, false, not, cond, _&&_, _||_}
+use mathlib.Core.Bool.{Bool, not, cond, _||_}
 use mathlib.Core.List.{List, [], _∷_, _++_}
 use mathlib.Core.Option.{Option, none, some}
 use lib.ListN.{length, take, drop}
@@ -8,9 +8,9 @@ use Rattle.laws.specs.Tests.{same, under}
 use Rattle.laws.specs.Bytes.{number}
 use Rattle.rules.specs.Geometry.{Geometry, workSize, wordSize, longest}
 use Rattle.rules.specs.Event.{decode}
-use Rattle.rules.specs.State.{State, down}
-use Rattle.rules.specs.Form.{Form, Medium}
-use Rattle.rules.specs.Step.{Answer, numberOf, valueOf, Outcome, StateOf, firstOf, step}
+use Rattle.rules.specs.State.{down}
+use Rattle.rules.specs.Form.{Form}
+use Rattle.rules.specs.Step.{Answer, numberOf, valueOf, StateOf, firstOf, step}
 
 -- the first n event words of a list of bytes
 unfoldable pub words : Geometry → ℕ → List ℕ → List ℕ

@@ -1,14 +1,13 @@
 -- Soundness of a state between two events.
 use mathlib.Core.Path.{_≡_}
 use mathlib.Core.Bool.{Bool, true, false, _||_}
-use mathlib.Core.List.{List}
 use mathlib.Core.Logic.{_⊎_}
-use mathlib.Core.Option.{Option, some}
+use mathlib.Core.Option.{some}
 use Prim.Native.Nat.{ℕ, suc, _<_, _≤_}
 use lib.ListN.{length}
-use Rattle.rules.specs.Geometry.{Geometry, records, transactions, nobody, pageSize}
+use Rattle.rules.specs.Geometry.{records, transactions, nobody, pageSize}
 use Rattle.rules.specs.Store.{Page}
-use Rattle.rules.specs.State.{Bearer, Bearers, active, depthIn, lineOf, mem, State, live, holds, retains, holdsWriting, retainsWriting}
+use Rattle.rules.specs.State.{Bearers, active, depthIn, lineOf, mem, live, holds, retains, holdsWriting, retainsWriting}
 use Rattle.rules.specs.Versions.{isSome}
 use Rattle.rules.specs.Form.{Form, Medium}
 use Rattle.rules.specs.Step.{StateOf, isBusy}

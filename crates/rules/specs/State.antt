@@ -1,8 +1,8 @@
 -- The state between two events: who bears which transaction number, what each has of each lock, the versions, the store.
 use Prim.Native.Nat.{ℕ, zero, suc}
-use mathlib.Core.Bool.{Bool, true, false, _&&_, _||_}
+use mathlib.Core.Bool.{Bool, true, false, _||_}
 use mathlib.Core.List.{List, [], _∷_}
-use mathlib.Core.Option.{Option, none, some}
+use mathlib.Core.Option.{Option, none}
 use Rattle.laws.specs.Tests.{same}
 use Rattle.rules.specs.Store.{Page}
 
@@ -93,6 +93,19 @@ module _ {S : Type 0} where
 
   unfoldable pub retainsWriting : State S → ℕ → ℕ → Bool
   retainsWriting s r t = isWriting (s .retained r t)
+
+  -- s with other bearers, held locks, retained locks, versions: what isn't named stays
+  abbrev pub withBearers : State S → Bearers → State S
+  withBearers s bearer = record { up = s .up; bearer = bearer; held = s .held; retained = s .retained; version = s .version; store = s .store }
+
+  abbrev pub withHeldLocks : State S → Modes → State S
+  withHeldLocks s held = record { up = s .up; bearer = s .bearer; held = held; retained = s .retained; version = s .version; store = s .store }
+
+  abbrev pub withRetainedLocks : State S → Modes → State S
+  withRetainedLocks s retained = record { up = s .up; bearer = s .bearer; held = s .held; retained = retained; version = s .version; store = s .store }
+
+  abbrev pub withVersions : State S → Versions → State S
+  withVersions s version = record { up = s .up; bearer = s .bearer; held = s .held; retained = s .retained; version = version; store = s .store }
 
   -- down, with no transaction, lock or version
   unfoldable pub down : S → State S

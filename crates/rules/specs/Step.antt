@@ -7,14 +7,14 @@ use lib.ListN.{getD, set}
 use Rattle.laws.specs.Tests.{same}
 use Rattle.laws.specs.Counting.{all, any, lowest}
 use Rattle.laws.specs.Functions.{updated}
-use Rattle.rules.specs.Geometry.{Geometry, records, transactions, nobody}
+use Rattle.rules.specs.Geometry.{records, transactions, nobody}
 use Rattle.rules.specs.Store.{Page}
 use Rattle.rules.specs.Event.{Event, Access, begin, lock, write, read, commit, abort, crash, recover, prepare, decide, query}
-use Rattle.rules.specs.State.{Modes, Bearer, Bearers, free, active, isActive, parentIn, depthIn, lineOf, mem, State, live, holds, holdsWriting, down}
+use Rattle.rules.specs.State.{Modes, free, active, parentIn, depthIn, lineOf, mem, State, live, holds, holdsWriting, withBearers, withHeldLocks, withRetainedLocks, withVersions, down}
 use Rattle.rules.specs.Locks.{grantable, granted, inherited, reported, discarded}
 use Rattle.rules.specs.Versions.{isSome, nearest, withVersion, handedUp, dropped}
 use Rattle.rules.specs.Commit.{Cut}
-use Rattle.rules.specs.Form.{Form, Medium}
+use Rattle.rules.specs.Form.{Form}
 
 -- done, with a value; refused, with a number; cut by a crash after some page writes
 pub data Answer : Type 0 where
@@ -68,36 +68,15 @@ module _ {S : Type 0} where
 
   -- the number t is given to a transaction under p
   unfoldable pub begun : State S → ℕ → ℕ → State S
-  begun s t p = record {
-    up = s .up;
-    bearer = updated t (active p (suc (depthIn (s .bearer p)))) (s .bearer);
-    held = s .held;
-    retained = s .retained;
-    version = s .version;
-    store = s .store;
-  }
+  begun s t p = withBearers s (updated t (active p (suc (depthIn (s .bearer p)))) (s .bearer))
 
   -- t holds the lock of r as it asked
   unfoldable pub locked : State S → ℕ → ℕ → Access → State S
-  locked s t r a = record {
-    up = s .up;
-    bearer = s .bearer;
-    held = granted a t r (s .held);
-    retained = s .retained;
-    version = s .version;
-    store = s .store;
-  }
+  locked s t r a = withHeldLocks s (granted a t r (s .held))
 
   -- t's version of r is this page
   unfoldable pub wrote : State S → ℕ → ℕ → Page → State S
-  wrote s t r page = record {
-    up = s .up;
-    bearer = s .bearer;
-    held = s .held;
-    retained = s .retained;
-    version = withVersion t r page (s .version);
-    store = s .store;
-  }
+  wrote s t r page = withVersions s (withVersion t r page (s .version))
 
   -- those that `dead` picks end over this store: their numbers are free, their locks discarded, their versions gone
   unfoldable pub ended : State S → (ℕ → Bool) → S → State S
@@ -112,18 +91,11 @@ module _ {S : Type 0} where
 
   -- y has what its child x leaves it
   unfoldable pub passed : State S → ℕ → ℕ → State S
-  passed s x y = record {
-    up = s .up;
-    bearer = s .bearer;
-    held = s .held;
-    retained = inherited x y (s .held) (s .retained);
-    version = handedUp x y (s .version);
-    store = s .store;
-  }
+  passed s x y = withVersions (withRetainedLocks s (inherited x y (s .held) (s .retained))) (handedUp x y (s .version))
 
-  -- this is retained
+  -- the state s with other retained locks
   unfoldable pub retaining : State S → Modes → State S
-  retaining s retained = record { up = s .up; bearer = s .bearer; held = s .held; retained = retained; version = s .version; store = s .store }
+  retaining s retained = withRetainedLocks s retained
 
   -- x, with this line, aborts, with a report or without: it ends with all beneath it
   unfoldable pub aborted : State S → ℕ → Bool → List ℕ → State S

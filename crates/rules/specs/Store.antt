@@ -1,13 +1,13 @@
 -- The stable store: numbered pages, the commit page, the settled value of a record, a fresh store.
 use Prim.Native.Nat.{ℕ, zero, suc, _+_, _-_, _*_, _/_, _%_, _^_}
 use mathlib.Core.Bool.{Bool, true, false, not, cond, _&&_}
-use mathlib.Core.List.{List, [], _∷_, _++_}
+use mathlib.Core.List.{List, [], _++_}
 use mathlib.Core.Option.{Option, none, some}
 use lib.ListN.{take, drop, replicate}
 use Rattle.laws.specs.Tests.{same, under}
 use Rattle.laws.specs.Counting.{count}
 use Rattle.laws.specs.Bytes.{number, bytes, sameList}
-use Rattle.rules.specs.Geometry.{Geometry, pageSize, records, pageCount}
+use Rattle.rules.specs.Geometry.{Geometry, pageSize, records}
 
 abbrev pub Page : Type 0
 Page = List ℕ

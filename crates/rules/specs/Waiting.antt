@@ -7,7 +7,7 @@ use Prim.Native.Nat.{ℕ, _-_, _≤_}
 use lib.ListN.{length, replicate}
 use Rattle.laws.specs.Tests.{same, under}
 use Rattle.laws.specs.Counting.{any}
-use Rattle.rules.specs.Geometry.{Geometry, records, transactions}
+use Rattle.rules.specs.Geometry.{records, transactions}
 use Rattle.rules.specs.Event.{Access, accessOf}
 use Rattle.rules.specs.State.{State, live, lineOf, mem, parentIn}
 use Rattle.rules.specs.Locks.{bars}

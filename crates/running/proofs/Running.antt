@@ -6,7 +6,7 @@ use mathlib.Core.Option.{Option, none, some}
 use Prim.Native.Nat.{ℕ, _*_}
 use lib.ListN.{length, drop}
 use Rattle.rules.specs.Geometry.{Geometry, records, wordSize}
-use Rattle.rules.specs.Form.{Form, Medium, atomic}
+use Rattle.rules.specs.Form.{Form, atomic}
 use Rattle.rules.specs.Step.{firstOf, StateOf}
 use Rattle.rules.specs.State.{down}
 use Rattle.rules.specs.Run.{runRefusals, runAll, runBy, run, eventsIn, words, play, answerBytes}

@@ -5,7 +5,7 @@ use mathlib.Core.Logic.{_≢_}
 use Prim.Native.Nat.{ℕ}
 use lib.ListN.{length}
 use Rattle.rules.specs.Form.{Form}
-use Rattle.rules.specs.Run.{Result, run}
+use Rattle.rules.specs.Run.{run}
 
 -- a run with these buffers gave this answer and left these
 pub record Ran (f : Form) (store events work answers : List ℕ) (answer : ℕ) (store′ work′ answers′ : List ℕ) : Type 0 where

@@ -1,10 +1,10 @@
 -- One event more: what it adds to the accepted locks and writes.
 use mathlib.Core.Path.{_≡_, refl, sym, ap, _∙_}
-use mathlib.Core.Bool.{Bool, true, false, not, cond, _&&_, _||_, true≢false, false≢true}
-use mathlib.Core.List.{List, [], _∷_}
+use mathlib.Core.Bool.{Bool, true, false, not, cond, _&&_, _||_}
+use mathlib.Core.List.{List, _∷_}
 use mathlib.Core.Logic.{_≢_}
 use mathlib.Core.Option.{Option, none, some}
-use Prim.Native.Nat.{ℕ, zero, suc, _+_, _<_, _≤_}
+use Prim.Native.Nat.{ℕ, zero, suc, _+_, _<_}
 use native.Mathlib.Omega.{arith}
 use native.Mathlib.Numerals.{add-one}
 use lib.ListN.{getD, set}
@@ -12,7 +12,7 @@ use lib.Dec.{eqb·suc-zero}
 use Rattle.laws.specs.Tests.{same, open-tests}
 use Rattle.laws.proofs.Tests.{same?, Same, is, isnt, same-refl, ne-false, Is, is?, yes′, no′}
 use Rattle.rules.specs.Store.{Page}
-use Rattle.rules.specs.Event.{Access, Event, begin, lock, write, read, commit, abort, crash, recover, prepare, decide, query, accessOf}
+use Rattle.rules.specs.Event.{Event, begin, lock, write, read, commit, abort, crash, recover, prepare, decide, query, accessOf}
 use Rattle.rules.specs.State.{Mode, isLock, isWriting}
 use Rattle.rules.specs.Locks.{modeFor}
 use Rattle.event.specs.declared.Event.{Event as Fields}

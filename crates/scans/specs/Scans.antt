@@ -1,13 +1,13 @@
 -- The accepted locks and writes among the first events of a list, by the transactions that own them.
 use Prim.Native.Nat.{ℕ, zero, suc, _*_}
-use mathlib.Core.Bool.{Bool, true, false, not, cond, _&&_, _||_}
+use mathlib.Core.Bool.{Bool, true, false, cond, _&&_, _||_}
 use mathlib.Core.List.{List, [], _∷_}
 use mathlib.Core.Option.{Option, none, some}
 use lib.ListN.{getD, set, take, drop}
 use Rattle.laws.specs.Tests.{same}
 use Rattle.laws.specs.Bytes.{number}
 use Rattle.rules.specs.Store.{Page}
-use Rattle.rules.specs.Event.{Event, Access, begin, lock, write, read, commit, abort, crash, recover, prepare, decide, query, decode}
+use Rattle.rules.specs.Event.{Event, begin, lock, write, read, commit, abort, crash, recover, prepare, decide, query, decode}
 use Rattle.rules.specs.State.{Mode, isLock, isWriting}
 use Rattle.rules.specs.Locks.{modeFor}
 use Rattle.rules.specs.Editions.{geometry1}

@@ -1,6 +1,7 @@
-// Whether a transaction number is free and bare, or borne by a transaction whose parent, depth and line fit the others.
+// Checks one entry of the transaction table: either the number is free and its entry is all zeros, or its parent is live (or there is none), its depth is
+// the parent's plus one, and its line is the parent's line plus itself.
 ghost use mathlib.Core.Path.{_≡_};
-ghost use Prim.Native.Nat.{ℕ, _<_};
+ghost use Prim.Native.Nat.{_<_};
 ghost use lib.ListN.{length, getD};
 ghost use Rattle.clauses.specs.Decides.{Decides};
 ghost use Rattle.clauses.specs.Clauses.{Vacant, Seated, Entry};

@@ -34,7 +34,7 @@ pub fn is_lock(
     numbered & holders_live & retainers_live & held_nested & retained_nested & by_lock
 }
 
-// What t has of one lock goes with what others have, by the transactions at or above t and at or beneath it.
+// What t holds and retains of one lock fits what other transactions have of it. `above` are the transactions at or above t, `beneath` those at or beneath it.
 pub fn is_share(
     above: u32,
     beneath: u32,

@@ -1,9 +1,9 @@
 -- Versions that are lifted to the slots one up, record by record.
 use mathlib.Core.Path.{_≡_, refl, sym, ap, ap₂, _∙_}
 use mathlib.Core.Bool.{Bool, true, false, cond, _&&_, and-false}
-use mathlib.Core.Logic.{_≢_, dite}
+use mathlib.Core.Logic.{dite}
 use native.Mathlib.Decide.{decLt, ℕ-discrete}
-use Prim.Native.Nat.{ℕ, zero, suc, _+_, _-_, _*_, _/_, _%_, _≤_, _<_}
+use Prim.Native.Nat.{ℕ, _+_, _-_, _*_, _/_, _%_, _≤_, _<_}
 use native.Mathlib.Omega.{arith}
 use Rattle.laws.specs.Tests.{same}
 use Rattle.laws.specs.Functions.{updated}

@@ -1,19 +1,19 @@
 -- The walk up from a transaction to the nearest that has a version: what it reads stays the same at every step.
 use mathlib.Core.Path.{_≡_, refl, sym, ap, ap₂, _∙_}
-use mathlib.Core.Bool.{Bool, true, false, true≢false}
+use mathlib.Core.Bool.{true, false, true≢false}
 use mathlib.Core.List.{List, [], _∷_}
 use mathlib.Core.Logic.{_⊎_, inl, inr}
 use mathlib.Core.Option.{Option, none, some}
-use Prim.Native.Nat.{ℕ, zero, suc, _+_, _-_, _≤_, _<_}
+use Prim.Native.Nat.{ℕ, suc, _+_, _-_, _≤_, _<_}
 use native.Mathlib.Omega.{arith}
-use lib.ListN.{length, getD, List·getD-eq-default}
+use lib.ListN.{getD, List·getD-eq-default}
 use Rattle.laws.specs.Bits.{bits}
 use Rattle.laws.proofs.Bits.{bits-zero}
 use Rattle.rules.specs.Store.{Page}
 use Rattle.rules.specs.State.{parentIn, depthIn, chain, lineOf, Versions}
 use Rattle.rules.specs.Versions.{isSome, else, nearest}
 use Rattle.rules.specs.Editions.{depths}
-use Rattle.rules.proofs.Bearers.{Rooted, up-one}
+use Rattle.rules.proofs.Bearers.{up-one}
 use Rattle.arrays.specs.View.{bearersOf}
 use Rattle.arrays.proofs.View.{depth-is, parent-is, deep-below}
 use Rattle.slots.specs.Parts.{Sources, Climbing, ended, found, passed, Climbed}

@@ -1,11 +1,10 @@
 // Versions of records in the working buffer: slot r * DEPTHS + d - 1 holds the version of record r of the writer at depth d. A record's home page is given
 // by `at`, the byte of the store where it begins.
 ghost use mathlib.Core.Path.{_≡_};
-ghost use mathlib.Core.Bool.{Bool, true, false, cond};
-ghost use Prim.Native.Nat.{ℕ, _+_, _*_, _-_, _<_, _≤_};
+ghost use mathlib.Core.Bool.{cond};
+ghost use Prim.Native.Nat.{_+_, _*_, _-_, _<_, _≤_};
 ghost use lib.ListN.{length, getD, set, take, drop};
 ghost use Rattle.laws.specs.Functions.{updated};
-ghost use Rattle.laws.specs.Bits.{bits};
 ghost use Rattle.rules.specs.Store.{pagesOf};
 ghost use Rattle.rules.specs.Editions.{depths};
 ghost use Rattle.sets.specs.Sets.{sets};

@@ -3,8 +3,7 @@
 use mathlib.Core.Path.{_≡_, refl, sym, subst}
 use mathlib.Core.Bool.{Bool, true, false, not, _||_}
 use mathlib.Core.List.{List}
-use Prim.Native.Nat.{ℕ, _<_}
-use Rattle.laws.specs.Tests.{same}
+use Prim.Native.Nat.{ℕ}
 use Rattle.laws.specs.Counting.{all}
 use Rattle.laws.proofs.Tests.{Is, is?, yes′, no′, same-refl}
 use Rattle.laws.proofs.Booleans.{clash, or-left, or-right}

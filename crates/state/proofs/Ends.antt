@@ -12,7 +12,7 @@ use Rattle.rules.specs.Store.{pagesOf}
 use Rattle.rules.specs.State.{Bearers, free, lineOf, mem, Modes}
 use Rattle.rules.specs.Locks.{discarded}
 use Rattle.rules.specs.Versions.{dropped}
-use Rattle.rules.specs.Form.{Form, Medium}
+use Rattle.rules.specs.Form.{Form}
 use Rattle.rules.specs.Geometry.{records}
 use Rattle.rules.specs.Step.{ended, retaining}
 use Rattle.rules.proofs.Bearers.{Rooted, endedIn, ended-line}

@@ -10,8 +10,7 @@ use lib.ListN.{getD}
 use Rattle.laws.specs.Counting.{any}
 use Rattle.rules.specs.Geometry.{nobody}
 use Rattle.rules.specs.State.{Bearers, parentIn, depthIn, chain, lineOf, live}
-use Rattle.rules.specs.Form.{Form, Medium}
-use Rattle.rules.specs.Geometry.{records}
+use Rattle.rules.specs.Form.{Form}
 use Rattle.rules.specs.Step.{hasChild}
 use Rattle.rules.proofs.Bearers.{up-one}
 use Rattle.rules.proofs.Locks.{rooted-of}

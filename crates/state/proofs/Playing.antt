@@ -2,17 +2,17 @@
 use mathlib.Core.Path.{_≡_, refl, sym, ap, ap₂, _∙_, subst}
 use mathlib.Core.List.{List, [], _∷_, _++_, append-assoc, append-nil}
 use mathlib.Core.Option.{Option}
-use Prim.Native.Nat.{ℕ, zero, suc, _+_, _-_, _*_, _/_, _≤_, _<_}
+use Prim.Native.Nat.{ℕ, suc, _+_, _-_, _*_, _/_, _≤_, _<_}
 use native.Mathlib.Nat.{mul-zero}
 use native.Mathlib.Omega.{arith}
-use lib.ListN.{length, getD, set, take, drop, length-set, take-append-drop}
+use lib.ListN.{length, set, take, drop, length-set, take-append-drop}
 use lib.Seq.{take-suc-set, drop-set-lt, drop-drop}
 use Rattle.laws.specs.Bytes.{number}
 use Rattle.rules.specs.Geometry.{wordSize}
 use Rattle.rules.specs.Event.{Event, decode}
-use Rattle.rules.specs.Form.{Form, Medium}
-use Rattle.rules.specs.Step.{numberOf, valueOf, StateOf, step}
-use Rattle.rules.specs.Run.{Played, words, answerBytes, play, eventsIn}
+use Rattle.rules.specs.Form.{Form}
+use Rattle.rules.specs.Step.{StateOf}
+use Rattle.rules.specs.Run.{words, answerBytes, play, eventsIn}
 use Rattle.event.proofs.Words.{words-next}
 use Rattle.event.specs.declared.Answer.{Answer}
 use Rattle.state.specs.Whole.{Arrays, view, Intact, saying, Stepped}

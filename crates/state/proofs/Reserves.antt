@@ -7,7 +7,7 @@ use mathlib.Core.Option.{Option, none, some}
 use Prim.Native.Nat.{ℕ, zero, suc, _<_}
 use native.Mathlib.Omega.{arith}
 use lib.ListN.{getD}
-use Rattle.laws.specs.Tests.{same, under}
+use Rattle.laws.specs.Tests.{same}
 use Rattle.laws.specs.Counting.{any}
 use Rattle.laws.proofs.Tests.{same?, Same, is, isnt, same-refl, ne-false, lt-under, Is, is?, yes′, no′}
 use Rattle.laws.proofs.Counting.{any-false, any-of}

@@ -1,10 +1,9 @@
 -- The rules' outcome of each kind of event, from the tests that decide it.
-use mathlib.Core.Path.{_≡_, refl, sym, ap, _∙_}
+use mathlib.Core.Path.{_≡_, refl}
 use mathlib.Core.Bool.{Bool, true, false, not, cond, _&&_, _||_}
-use mathlib.Core.List.{List, [], _∷_}
 use mathlib.Core.Logic.{_≢_}
-use mathlib.Core.Option.{Option, none, some}
-use Prim.Native.Nat.{ℕ, suc, _<_, _≤_}
+use mathlib.Core.Option.{none, some}
+use Prim.Native.Nat.{ℕ, _<_}
 use native.Mathlib.Omega.{arith}
 use lib.ListN.{getD, set}
 use Rattle.laws.specs.Tests.{same}
@@ -12,11 +11,11 @@ use Rattle.laws.specs.Counting.{all, lowest}
 use Rattle.laws.proofs.Booleans.{not-false, not-true, refute, clash}
 use Rattle.laws.proofs.Counting.{Lowest, found, missing, lowest-is, all-true, all-of}
 use Rattle.rules.specs.Geometry.{transactions, nobody}
-use Rattle.rules.specs.Event.{Event, Access, begin, lock, write, read, commit, abort, crash, recover, prepare, decide, query}
-use Rattle.rules.specs.State.{State, lineOf, mem, depthIn, live, holds, holdsWriting, down}
+use Rattle.rules.specs.Event.{Access, begin, lock, write, read, commit, abort, crash, recover, prepare, decide, query}
+use Rattle.rules.specs.State.{lineOf, depthIn, live, holds, holdsWriting, down}
 use Rattle.rules.specs.Locks.{grantable}
-use Rattle.rules.specs.Form.{Form, Medium}
-use Rattle.rules.specs.Step.{Answer, done, refused, cut, Outcome, StateOf, OutcomeOf, hasChild, firstFree, begun, locked, wrote, ended, passed, aborted, raised, finished, visible, isFor, isTop, changes, busy, reserved, commitsTop, commits, recovers, decides, firstOf, refusals, refusal, act, judged, step, open-step}
+use Rattle.rules.specs.Form.{Form}
+use Rattle.rules.specs.Step.{refused, StateOf, OutcomeOf, hasChild, firstFree, begun, locked, wrote, aborted, finished, visible, isFor, isTop, changes, busy, reserved, commitsTop, commits, recovers, decides, firstOf, refusals, refusal, act, judged, step, open-step}
 
 -- nothing is free where the lowest free number is the bound; else something is
 pub full : (n : ℕ) (p : ℕ → Bool) → lowest n (λ u. not (p u)) ≡ n → all n p ≡ true

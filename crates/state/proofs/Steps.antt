@@ -1,21 +1,19 @@
 -- One event over the arrays, from what the rules do with the state that they stand for; and what the arrays tell of that state.
 use mathlib.Core.Path.{_≡_, refl, sym, ap, subst, subst⁻¹, _∙_}
-use mathlib.Core.Bool.{Bool, true, false}
+use mathlib.Core.Bool.{true, false}
 use mathlib.Core.Logic.{_≢_}
-use mathlib.Core.Option.{Option, none, some}
+use mathlib.Core.Option.{Option, some}
 use Prim.Native.Nat.{ℕ, _≤_, _<_}
 use native.Mathlib.Omega.{arith}
 use lib.ListN.{getD, List·getD-eq-default}
-use Rattle.laws.specs.Tests.{same}
 use Rattle.laws.proofs.Tests.{same?, Same, is, isnt, same-refl, ne-false}
 use Rattle.laws.proofs.Booleans.{or-cases}
 use Rattle.rules.specs.Event.{Event}
-use Rattle.rules.specs.State.{depthIn, lineOf, mem, State, live, holds, holdsWriting, retainsWriting}
+use Rattle.rules.specs.State.{depthIn, lineOf, mem, live, holds, holdsWriting, retainsWriting}
 use Rattle.rules.specs.Versions.{isSome}
-use Rattle.rules.specs.Form.{Form, Medium}
+use Rattle.rules.specs.Form.{Form}
 use Rattle.rules.specs.Step as rules
 use Rattle.rules.specs.Step.{done, refused, StateOf, OutcomeOf, numberOf, valueOf, finished, step}
-use Rattle.rules.specs.Sound.{Sound}
 use Rattle.rules.specs.Editions.{depths}
 use Rattle.rules.proofs.Locks.{rooted-of, version-live, line-apart}
 use Rattle.sets.specs.Sets.{sets}
@@ -24,7 +22,7 @@ use Rattle.arrays.proofs.View.{depth-is, active-is, idle-is, deep-is, some-is}
 use Rattle.arrays.proofs.Modes.{writing-is, lock-is}
 use Rattle.slots.specs.Parts.{Sources}
 use Rattle.event.specs.declared.Answer.{Answer}
-use Rattle.state.specs.Whole.{Arrays, arrays, view, Formed, Intact, saying, Stepped}
+use Rattle.state.specs.Whole.{Arrays, view, Formed, Intact, saying, Stepped}
 
 abbrev pub answer : ℕ → ℕ → Answer
 answer n v = record { number = n; value = v }

@@ -3,7 +3,7 @@ use mathlib.Core.Path.{_≡_}
 use mathlib.Core.List.{List, _++_}
 use Prim.Native.Nat.{ℕ, _*_}
 use lib.ListN.{drop}
-use Rattle.rules.specs.Form.{Form, Medium}
+use Rattle.rules.specs.Form.{Form}
 use Rattle.rules.specs.Run.{Played, words, answerBytes, play, eventsIn}
 use Rattle.state.specs.Whole.{Arrays, view, Intact}
 

@@ -8,13 +8,13 @@ use lib.ListN.{getD, length}
 use Rattle.laws.specs.Tests.{same}
 use Rattle.rules.specs.Store.{pagesOf, readPrepared}
 use Rattle.rules.specs.Event.{Event}
-use Rattle.rules.specs.State.{Bearers, State, lineOf, mem}
+use Rattle.rules.specs.State.{Bearers, lineOf, mem}
 use Rattle.rules.specs.Step as rules
-use Rattle.rules.specs.Step.{Outcome, StateOf, hasChild, numberOf, valueOf, step}
+use Rattle.rules.specs.Step.{StateOf, hasChild, numberOf, valueOf, step}
 use Rattle.rules.specs.Sound.{Sound}
 use Rattle.rules.specs.Editions.{depths}
 use Rattle.rules.specs.Geometry.{Geometry, records}
-use Rattle.rules.specs.Form.{Form, Medium}
+use Rattle.rules.specs.Form.{Form}
 use Rattle.sets.specs.Sets.{sets}
 use Rattle.arrays.specs.View.{bearersOf, modesOf, Nested, versionsOf}
 use Rattle.commitpage.specs.Heard.{overheard}

@@ -2,8 +2,8 @@
 // two things that follow from them, so that nothing is searched at an event: the set of the live transactions, and for each parent that of its live
 // children, 31 being the parent of those at the top.
 ghost use mathlib.Core.Path.{_≡_};
-ghost use mathlib.Core.Bool.{Bool, true, false, not, cond, _&&_, _||_};
-ghost use Prim.Native.Nat.{ℕ, _+_, _<_, _≤_};
+ghost use mathlib.Core.Bool.{not, cond, _&&_, _||_};
+ghost use Prim.Native.Nat.{ℕ, _<_, _≤_};
 ghost use lib.ListN.{length, getD, set};
 ghost use Rattle.laws.specs.Tests.{same};
 ghost use Rattle.laws.specs.Counting.{any, lowest};
@@ -110,7 +110,7 @@ pub fn descendants(line: &[u32; 24], t: u8) -> u32
     m
 }
 
-// The number f is t's: under p at depth d, with the line above it.
+// Gives the free number f to a new transaction under p at depth d. Its line is `above`, the line of p, plus f.
 pub fn place(
     parent: &mut [u8; 24],
     depth: &mut [u8; 24],

@@ -1,6 +1,6 @@
 -- The test of specs/SoundTrials decides soundness: of every state that has nothing beyond the numbers it looks at, hence of every sketch.
 use mathlib.Core.Path.{_≡_, refl, sym, ap, _∙_}
-use mathlib.Core.Bool.{Bool, true, false, not, cond, _&&_, _||_, false≢true}
+use mathlib.Core.Bool.{Bool, true, false, not, _&&_, _||_, false≢true}
 use mathlib.Core.Logic.{_⊎_, inl, inr}
 use mathlib.Core.Option.{Option, none, some}
 use native.Mathlib.Omega.{arith}
@@ -12,9 +12,9 @@ use Rattle.laws.specs.Counting.{all}
 use Rattle.laws.proofs.Booleans.{and-left, and-right, or-cases, or-left, or-right, not-true, clash}
 use Rattle.laws.proofs.Tests.{Is, is?, yes′, no′, same-eq, same-refl, under-lt, lt-under}
 use Rattle.laws.proofs.All.{all-same, all-at, all-true}
-use Rattle.rules.specs.Geometry.{nobody, records, open-geometry}
+use Rattle.rules.specs.Geometry.{nobody, open-geometry}
 use Rattle.rules.specs.Store.{Page}
-use Rattle.rules.specs.State.{Bearer, free, active, depthIn, lineOf, mem, Mode, nothing, live, holds, retains, holdsWriting, retainsWriting, open-state}
+use Rattle.rules.specs.State.{Bearer, free, active, depthIn, lineOf, mem, nothing, live, holds, retains, holdsWriting, retainsWriting, open-state}
 use Rattle.rules.specs.Versions.{isSome, open-versions}
 use Rattle.rules.specs.Sound.{inLine, isCalm, Sound}
 use Rattle.rules.specs.Editions.{edition1}

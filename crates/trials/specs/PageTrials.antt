@@ -1,13 +1,11 @@
 -- Rows for the store: the commit page bit by bit, page writes at every cut, ages by the settled value, a fresh store, and the lengths of buffers.
-use Prim.Native.Nat.{ℕ, zero, suc, _+_, _-_, _*_, _/_, _%_, _^_}
-use mathlib.Core.Bool.{cond}
+use Prim.Native.Nat.{ℕ, zero, suc, _+_, _*_}
 use mathlib.Core.List.{List, [], _∷_, _++_}
-use lib.Dec.{eqb}
-use lib.ListN.{getD, take, drop, length, set, replicate}
+use lib.ListN.{take, set, replicate}
 use lib.IntN.{pos, negsuc}
 use Rattle.rules.specs.Event.{write, read, commit, crash, recover, query}
 use Rattle.rules.specs.Age.{ahead, live, stale, refused}
-use Rattle.trials_rows.specs.Rows.{Line, Due, page, value, Trial, plays, refuses, takes, lays, ages, damages, freshBytes, blank, emptyPage, withA5, on, top, locks, onFresh, put, flipped, damagedAt, writesAll}
+use Rattle.trials_rows.specs.Rows.{Due, page, value, Trial, plays, refuses, takes, lays, ages, freshBytes, blank, emptyPage, withA5, on, top, locks, onFresh, put, flipped, damagedAt, writesAll}
 
 -- page 0 as committed for records 0 and 3, for records 3 and 9, and for all
 abbrev pub committed03 : List ℕ

@@ -1,11 +1,10 @@
 -- Trials of portions: document 01's worked list with one event a portion, and rows at the edges of a portion.
-use Prim.Native.Nat.{ℕ, _*_, _-_}
+use Prim.Native.Nat.{ℕ, _*_}
 use mathlib.Core.Bool.{Bool, true, false, _&&_}
 use mathlib.Core.List.{List, [], _∷_, _++_}
 use lib.Dec.{eqb}
 use lib.ListN.{length, take, replicate}
 use Rattle.rules.specs.State.{down}
-use Rattle.rules.specs.Form.{Medium}
 use Rattle.rules.specs.Portion.{Lent, Portion, portion, Chain, chainFrom}
 use Rattle.rules.specs.Editions.{edition1}
 use Rattle.trials_rows.specs.Rows.{Line, Due, Trial, plays, playsFresh, refuses, takes, lays, ages, damages, alike, freshBytes, numbers1, eventsOf, answersOf, allDue}

@@ -7,7 +7,7 @@ use lib.ListN.{drop, length, set, replicate}
 use lib.IntN.{negsuc}
 use Rattle.rules.specs.Event.{Event, begin, write, read, commit, crash, recover, prepare, decide, query}
 use Rattle.rules.specs.Age.{ahead, refused}
-use Rattle.trials_rows.specs.Rows.{Line, word, Due, page, value, Trial, plays, ages, freshBytes, blank, emptyPage, withA5, on, top, locks, shares, aborts, onFresh, writesA5, childWrites11, writesTwo, bothA5, neither}
+use Rattle.trials_rows.specs.Rows.{Line, word, page, value, Trial, plays, ages, freshBytes, blank, emptyPage, withA5, on, top, locks, shares, aborts, onFresh, writesA5, childWrites11, writesTwo, bothA5, neither}
 
 -- a decision to commit, to abort
 abbrev pub decideCommit : ℕ → ℕ → Event

@@ -5,11 +5,11 @@ use mathlib.Core.Bool.{Bool, true, false, not, cond, _&&_, _||_}
 use mathlib.Core.List.{List, [], _∷_, _++_}
 use mathlib.Core.Option.{Option, none, some}
 use lib.Dec.{eqb}
-use lib.ListN.{getD, length, set, replicate}
+use lib.ListN.{getD, length, replicate}
 use Rattle.laws.specs.Tests.{same, under}
 use Rattle.laws.specs.Counting.{all}
 use Rattle.rules.specs.Store.{Page, pagesOf}
-use Rattle.rules.specs.State.{Bearer, free, active, depthIn, lineOf, mem, Mode, nothing, reading, writing, State, live, holds, retains, holdsWriting, retainsWriting}
+use Rattle.rules.specs.State.{Bearer, free, active, depthIn, lineOf, mem, Mode, nothing, reading, writing, live, holds, retains, holdsWriting, retainsWriting}
 use Rattle.rules.specs.Versions.{isSome}
 use Rattle.rules.specs.Step.{StateOf}
 use Rattle.rules.specs.Sound.{inLine, isCalm}

@@ -5,10 +5,10 @@ use mathlib.Core.Bool.{Bool, true, false, not, _&&_}
 use mathlib.Core.List.{List, [], _∷_, _++_}
 use mathlib.Core.Option.{Option, none, some}
 use lib.Dec.{eqb}
-use lib.ListN.{take, length, set, replicate}
+use lib.ListN.{length, set, replicate}
 use Rattle.rules.specs.Store.{Page, pagesOf}
-use Rattle.rules.specs.Event.{begin, write, read, commit, crash, recover, prepare, query}
-use Rattle.rules.specs.State.{Bearer, free, active, Mode, nothing, reading, writing, State, down}
+use Rattle.rules.specs.Event.{begin, write, read, commit, crash, recover, prepare}
+use Rattle.rules.specs.State.{Bearer, free, active, Mode, nothing, reading, writing, down}
 use Rattle.rules.specs.Step.{StateOf}
 use Rattle.rules.specs.Portion.{Portion, portion}
 use Rattle.rules.specs.Editions.{edition1}

@@ -1,13 +1,13 @@
 -- The table of trials of edition 1: the trials at the edges that document 01 marks, with rows that shut out its five shortcuts, and rows for the locks of
 -- document 02. What holds in every edition stands in CommonTrials and EdgeTrials; here, and in WordTrials, PageTrials and PreparedTrials, are the rows with
 -- edition 1's words, pages and lengths.
-use Prim.Native.Nat.{ℕ, _+_, _*_}
+use Prim.Native.Nat.{_+_, _*_}
 use mathlib.Core.List.{List, [], _∷_, _++_}
 use lib.ListN.{set}
 use lib.IntN.{negsuc}
 use Rattle.rules.specs.Event.{begin, recover}
 use Rattle.rules.specs.Age.{ahead}
-use Rattle.trials_rows.specs.Rows.{Line, word, Trial, plays, refuses, ages, page, value, freshBytes, emptyPage, withA5, on, top, locks, onFresh, bits}
+use Rattle.trials_rows.specs.Rows.{Line, word, Trial, plays, refuses, ages, page, value, freshBytes, emptyPage, withA5, on, top, locks, onFresh}
 use Rattle.trials_rows.specs.CommonTrials.{commonTrials}
 use Rattle.trials_rows.specs.EdgeTrials.{edgeTrials}
 use Rattle.trials.specs.WordTrials.{wordTrials}

@@ -8,8 +8,7 @@ use Rattle.laws.specs.Tests.{same}
 use Rattle.laws.specs.Counting.{those}
 use Rattle.laws.specs.Bytes.{sameList}
 use Rattle.rules.specs.Event.{begin, commit, crash, recover}
-use Rattle.rules.specs.State.{State, down}
-use Rattle.rules.specs.Form.{Medium}
+use Rattle.rules.specs.State.{down}
 use Rattle.rules.specs.Step.{firstOf}
 use Rattle.rules.specs.Run.{answerBytes, Played, play}
 use Rattle.rules.specs.Waiting.{WaitingRow, Pointings, pointsTo, isCycle, reportRefusals}

@@ -1,6 +1,6 @@
 -- Rows for the event word: every bit of every kind. While down a bad word is 1 and any other but a crash and a recover is 2, so each bit tells
 -- whether its field is used.
-use Prim.Native.Nat.{ℕ, zero, suc, _+_, _*_, _^_}
+use Prim.Native.Nat.{_+_}
 use mathlib.Core.List.{List, [], _∷_, _++_}
 use Rattle.rules.specs.Event.{write, read, commit}
 use Rattle.trials_rows.specs.Rows.{Line, word, Trial, plays, page, freshBytes, emptyPage, on, top, locks, onFresh, bits, tops}

@@ -1,11 +1,11 @@
 -- The table of trials of edition 2 (document 02, L7): the rows that hold in every edition, and rows with its words, pages and lengths.
-use Prim.Native.Nat.{ℕ, zero, suc, _+_, _*_}
+use Prim.Native.Nat.{ℕ, _+_, _*_}
 use mathlib.Core.List.{List, [], _∷_, _++_}
-use lib.ListN.{take, set, replicate}
+use lib.ListN.{replicate}
 use lib.IntN.{pos, negsuc}
-use Rattle.rules.specs.Event.{begin, write, read, commit, crash, recover}
+use Rattle.rules.specs.Event.{write, commit, crash, recover}
 use Rattle.rules.specs.Age.{ahead, live, refused}
-use Rattle.trials_rows.specs.Rows.{Numbers, Line, word, fields, page, home, emptied, value, Trial, plays, playsFresh, refuses, takes, lays, ages, damages, blank, withA5, on, top, locks, onFresh, writesA5, bits, tops, put, damagedAt, writesAll}
+use Rattle.trials_rows.specs.Rows.{Numbers, Line, word, fields, page, home, emptied, value, Trial, plays, playsFresh, refuses, takes, lays, ages, damages, blank, withA5, on, top, locks, onFresh, bits, tops, put, damagedAt, writesAll}
 use Rattle.trials_rows.specs.CommonTrials.{commonTrials}
 use Rattle.trials_rows.specs.EdgeTrials.{edgeTrials}
 

@@ -4,7 +4,7 @@ use Prim.Native.Nat.{ℕ}
 use mathlib.Core.List.{List, [], _∷_, _++_}
 use lib.ListN.{set}
 use Rattle.rules.specs.Event.{begin, write, read, commit, crash, recover}
-use Rattle.trials_rows.specs.Rows.{Line, fields, Due, emptied, home, value, Trial, playsFresh, blank, withA5, on, top, locks, shares, aborts, reports, onFresh, nested, writesA5, childWrites11, writesTwo, bothA5, neither, bits}
+use Rattle.trials_rows.specs.Rows.{Line, fields, Due, emptied, home, value, Trial, playsFresh, blank, withA5, on, top, locks, shares, aborts, reports, onFresh, nested, writesA5, childWrites11, writesTwo, bothA5, neither}
 
 -- document 01's worked list, to its eleventh event and from there
 abbrev pub workedToCut : List Line

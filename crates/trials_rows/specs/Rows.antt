@@ -7,10 +7,10 @@ use lib.Dec.{T, eqb}
 use lib.ListN.{getD, take, drop, length, set, replicate}
 use lib.IntN.{ℤ, pos, negsuc}
 use Rattle.rules.specs.Store.{Page}
-use Rattle.rules.specs.Event.{Access, toWrite, toRead, Event, begin, lock, write, read, commit, abort, crash, recover, prepare, decide, query}
+use Rattle.rules.specs.Event.{toWrite, toRead, Event, begin, lock, write, read, commit, abort, crash, recover, prepare, decide, query}
 use Rattle.rules.specs.Form.{Form}
 use Rattle.rules.specs.State.{down}
-use Rattle.rules.specs.Run.{answerBytes, Played, play, Result, run, Laid, layFresh}
+use Rattle.rules.specs.Run.{answerBytes, Played, play, run, layFresh}
 use Rattle.rules.specs.Age.{Age, ahead, live, stale, refused, ageOf}
 
 -- The papers' numbers for an edition.

@@ -1,24 +1,19 @@
 // The auditor's verdict: from event to event what is due against what was answered, then page by page.
 ghost use mathlib.Core.Path.{_≡_};
-ghost use mathlib.Core.Bool.{Bool, true, false, cond, not, _&&_, _||_};
-ghost use mathlib.Core.List.{List};
-ghost use mathlib.Core.Option.{Option, none, some};
-ghost use Prim.Native.Nat.{ℕ, suc, _+_, _-_, _*_, _<_, _≤_};
-ghost use lib.ListN.{length, getD, set};
+ghost use mathlib.Core.Bool.{true, false, cond, not, _&&_};
+ghost use Prim.Native.Nat.{_+_, _-_, _*_, _<_, _≤_};
+ghost use lib.ListN.{length, getD};
 ghost use Rattle.laws.specs.Tests.{same, under};
 ghost use Rattle.laws.specs.Counting.{lowest};
 ghost use Rattle.laws.specs.Bytes.{sameList};
-ghost use Rattle.rules.specs.Store.{Page, Pages, pagesOf};
+ghost use Rattle.rules.specs.Store.{pagesOf};
 ghost use Rattle.rules.specs.Step.{firstOf, isBusy};
 ghost use Rattle.rules.specs.Run.{words};
 ghost use Rattle.rules.specs.Editions.{geometry1, edition1};
 ghost use Rattle.history.specs.Demand3.{settledIn};
-ghost use Rattle.event.specs.Flags.{flags};
-ghost use Rattle.event.specs.Meaning.{meaning, InRange};
-ghost use Rattle.audit.specs.Plain.{Ledger, blankLedger};
+ghost use Rattle.audit.specs.Plain.{blankLedger};
 ghost use Rattle.audit.specs.Audit.{isTwoPhase, someTwoPhase, auditRefusals, samePage, audit1};
-ghost use Rattle.audit.specs.Walk.{Walked, wrong, right, walk};
-ghost use Rattle.scans.specs.Scans.{eventAt};
+ghost use Rattle.audit.specs.Walk.{wrong, right, walk};
 ghost use Rattle.verdict.specs.Codes.{numberIn, placeIn, refusalOf, Fit};
 use event::Event;
 

@@ -3,11 +3,11 @@ ghost use mathlib.Core.Path.{_≡_};
 ghost use mathlib.Core.Bool.{not, _&&_, _||_};
 ghost use Prim.Native.Nat.{ℕ, _/_, _%_, _<_, _≤_};
 ghost use lib.ListN.{length, getD};
-ghost use Rattle.laws.specs.Tests.{same, under};
+ghost use Rattle.laws.specs.Tests.{same};
 ghost use Rattle.laws.specs.Bits.{bits};
 ghost use Rattle.sets.specs.Sets.{sets};
 ghost use Rattle.arrays.specs.Changes.{accessWhen, Rows};
-ghost use Rattle.arrays.specs.Kin.{livesIn, childIn};
+ghost use Rattle.arrays.specs.Kin.{livesIn};
 ghost use Rattle.waitgraph.specs.Pointing.{childPoints, rowOf, numberIn, numbersIn, reached, waitedOn, rowIn, rowsIn, RowInRange};
 
 // Who blocks t: who holds the lock and isn't t, who retains it and isn't above t.

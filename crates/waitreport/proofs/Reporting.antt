@@ -1,31 +1,24 @@
 -- What the arrays say is what the state says; what was copied are the rows.
 use mathlib.Core.Path.{_≡_, refl, sym, _∙_, ap, ap₂, subst}
-use mathlib.Core.Bool.{Bool, true, false, not, cond, _&&_}
+use mathlib.Core.Bool.{Bool, true, false, not}
 use mathlib.Core.List.{List, [], _∷_, _++_, map}
-use mathlib.Core.Logic.{_≢_}
-use Prim.Native.Nat.{ℕ, zero, suc, _+_, _*_, _-_, _/_, _%_, _<_, _≤_}
+use Prim.Native.Nat.{ℕ, suc, _+_, _*_, _-_, _/_, _%_, _<_, _≤_}
 use native.Mathlib.Omega.{arith}
-use lib.ListN.{length, getD, take, replicate, length-take, length-map}
+use lib.ListN.{length, take, replicate, length-map}
 use lib.Seq.{take-append-le, take-all}
-use Rattle.laws.specs.Tests.{same, under}
-use Rattle.laws.proofs.Tests.{lt-under, Is, is?, yes′, no′, under-lt, not-under}
-use Rattle.laws.proofs.Booleans.{clash}
+use Rattle.laws.specs.Tests.{under}
+use Rattle.laws.proofs.Tests.{Is, is?, yes′, no′, under-lt, not-under}
 use Rattle.rules.specs.Geometry.{records}
-use Rattle.rules.specs.Form.{Form}
 use Rattle.rules.specs.Step.{firstOf}
 use Rattle.rules.specs.Editions.{edition1}
 use Rattle.lengths.specs.Lengths.{refusalNumber}
 use Rattle.sets.specs.Sets.{sets}
-use Rattle.arrays.specs.Kin.{livesIn, childIn}
-use Rattle.arrays.specs.Changes as changes
+use Rattle.arrays.specs.Kin.{livesIn}
 use Rattle.state.specs.Whole.{Arrays, view, lineIn, Intact}
-use Rattle.clauses.specs.Decides.{Decides}
-use Rattle.portions.specs.Portion.{whole}
 use Rattle.portions.specs.declared.Engine.{Engine}
 use Rattle.waitrows.specs.declared.Row.{Row}
-use Rattle.waitrows.specs.declared.Rows.{Rows}
-use Rattle.waitrows.specs.Copied.{blank, wordOf, least, copiedTo, copiedOf, Small, Smalls, open-copied}
-use Rattle.rules.specs.Waiting.{WaitingRow, mostRows, pointsTo, Found, rowsRefusals, reportRefusals}
+use Rattle.waitrows.specs.Copied.{wordOf, least, copiedOf, Small, Smalls, open-copied}
+use Rattle.rules.specs.Waiting.{WaitingRow, pointsTo, Found, rowsRefusals, reportRefusals}
 use Rattle.waitgraph.specs.Pointing.{childPoints, rowOf, rowsIn, numbersIn}
 use Rattle.waitgraph.proofs.Standing as standing
 use Rattle.waitreport.specs.Reported.{aside, waitingRow, waitingRows, Reported, copiedRows, Reported-sound, Reported-copied}

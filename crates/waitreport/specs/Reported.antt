@@ -5,7 +5,6 @@ use mathlib.Core.List.{List, map}
 use mathlib.Core.Logic.{_≢_}
 use Prim.Native.Nat.{ℕ, _<_, _≤_}
 use lib.ListN.{take, replicate}
-use Rattle.rules.specs.Form.{Medium}
 use Rattle.rules.specs.Step.{firstOf}
 use Rattle.rules.specs.Editions.{edition1, workBytes}
 use Rattle.rules.specs.Waiting.{WaitingRow, mostRows, pointsTo, Found, rowsRefusals, reportRefusals}

@@ -1,13 +1,13 @@
 -- One row more is copied: the words so far, with the next word in the place of the first zero.
 use mathlib.Core.Path.{_≡_, refl, sym, _∙_, ap, subst}
 use mathlib.Core.List.{List, [], _∷_, _++_, map}
-use Prim.Native.Nat.{ℕ, zero, suc, _+_, _*_, _-_, _<_, _≤_}
+use Prim.Native.Nat.{ℕ, zero, suc, _+_, _-_, _<_, _≤_}
 use native.Mathlib.Nat.{not-suc-le-zero, le-of-suc-le-suc}
 use native.Mathlib.Omega.{arith}
 use lib.ListN.{length, take, replicate, set, getD, length-map, List·getD-map}
 use Rattle.waitrows.specs.declared.Row.{Row}
 use Rattle.waitrows.specs.declared.Rows.{Rows}
-use Rattle.waitrows.specs.Copied.{blank, wordOf, wordsTo, copiedTo, least, copiedOf, open-copied}
+use Rattle.waitrows.specs.Copied.{blank, wordOf, copiedTo, least, copiedOf, open-copied}
 
 next : (ws : List ℕ) (i m : ℕ) → i < length ws → set (take i ws ++ replicate (suc m) 0) i (getD ws i 0) ≡ take (suc i) ws ++ replicate m 0
 next [] i m l = absurd (not-suc-le-zero l)

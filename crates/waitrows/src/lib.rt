@@ -1,6 +1,6 @@
 // Waiting rows: a lent slice of small structs, copied into a plain array.
 ghost use mathlib.Core.Path.{_≡_};
-ghost use Prim.Native.Nat.{ℕ, _+_, _<_, _≤_};
+ghost use Prim.Native.Nat.{_+_, _<_};
 ghost use lib.ListN.{length, replicate, set};
 ghost use Rattle.waitrows.specs.Copied.{wordOf, least, copiedOf, Small, Smalls};
 

@@ -1,15 +1,13 @@
 -- Both readings fit 64 bits with a sign, and so does their difference.
 use borrow.Author.Needs.{needs}
 use mathlib.Core.Path.{ap, subst⁻¹, _∙_}
-use lib.IntN.{ℤ, subℕ}
+use lib.IntN.{ℤ}
 use mir.Syntax.{w64}
 use mir.Val.{SFits, toZ, ofZ}
 use mir.Facts.{toZ-ofZ}
 use Rattle.age.proofs.Laws.{difference-is, difference-fits}
 use Rattle.age.proofs.difference.Statement.{statement}
 use Rattle.age.proofs.difference.Tie as tie
-use Rattle.age.proofs.difference.Reads as reads
-use Rattle.age.proofs.difference.Lts as lts
 
 -- src/lib.rt:23:1
 returns : tie.Need-returns

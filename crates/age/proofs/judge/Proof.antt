@@ -1,16 +1,10 @@
 -- The two tests are those of the rules.
 use borrow.Author.Needs.{needs}
-use mathlib.Core.Path.{ap, sym, _∙_}
-use lib.IntN.{ℤ}
-use mir.Syntax.{w64}
-use mir.Val.{toZ, ofZ}
 use mir.Facts.{toZ-ofZ}
 use Rattle.age.specs.Meaning.{meaning}
 use Rattle.age.proofs.Laws.{is-ahead, is-live, is-stale, widened}
 use Rattle.age.proofs.judge.Statement.{statement}
 use Rattle.age.proofs.judge.Tie as tie
-use Rattle.age.proofs.judge.Reads as reads
-use Rattle.age.proofs.judge.Lts as lts
 
 -- src/lib.rt:34:9
 returns : tie.Need-returns

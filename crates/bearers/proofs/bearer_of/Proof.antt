@@ -1,20 +1,12 @@
 -- An entry of the array; past its end nobody bears a number.
-use mathlib.Core.Path.{_≡_, refl, sym, ap, ap₂, _∙_}
-use mathlib.Core.Bool.{Bool, true, false, not, cond, _&&_, _||_, true≢false, false≢true, and-false, and-true}
-use Prim.Native.Nat.{ℕ, suc, _+_, _-_, _*_, _<_, _≤_}
+use mathlib.Core.Path.{refl, sym}
+use Prim.Native.Nat.{_-_}
 use native.Mathlib.Omega.{arith}
-use lib.ListN.{length, getD, set, List·getD-eq-default}
-use Rattle.laws.specs.Tests.{same, under, open-tests}
-use Rattle.laws.specs.Counting.{any, lowest, lowestFrom}
-use Rattle.laws.proofs.Tests.{same?, Same, is, isnt, same-eq, same-refl, ne-false, Is, is?, yes′, no′}
-use Rattle.links.specs.Links.{entryAt, Earlier}
-use Rattle.bearers.specs.Tables.{Matched}
-use Rattle.bearers.proofs.Free.{lower-more, any-more}
+use lib.ListN.{List·getD-eq-default}
+use Rattle.links.specs.Links.{entryAt}
 use borrow.Author.Needs.{needs}
 use Rattle.bearers.proofs.bearer_of.Statement.{statement}
 use Rattle.bearers.proofs.bearer_of.Tie as tie
-use Rattle.bearers.proofs.bearer_of.Reads as reads
-use Rattle.bearers.proofs.bearer_of.Lts as lts
 
 -- src/lib.rt:22:16
 mul-result : tie.Need-mul-result

@@ -1,20 +1,9 @@
 -- Two entries are set, and the others stay.
-use mathlib.Core.Path.{_≡_, refl, sym, ap, ap₂, _∙_}
-use mathlib.Core.Bool.{Bool, true, false, not, cond, _&&_, _||_, true≢false, false≢true, and-false, and-true}
-use Prim.Native.Nat.{ℕ, suc, _+_, _-_, _*_, _<_, _≤_}
+use Prim.Native.Nat.{_-_}
 use native.Mathlib.Omega.{arith}
-use lib.ListN.{length, getD, set, List·getD-eq-default}
-use Rattle.laws.specs.Tests.{same, under, open-tests}
-use Rattle.laws.specs.Counting.{any, lowest, lowestFrom}
-use Rattle.laws.proofs.Tests.{same?, Same, is, isnt, same-eq, same-refl, ne-false, Is, is?, yes′, no′}
-use Rattle.links.specs.Links.{entryAt, Earlier}
-use Rattle.bearers.specs.Tables.{Matched}
-use Rattle.bearers.proofs.Free.{lower-more, any-more}
 use borrow.Author.Needs.{needs}
 use Rattle.bearers.proofs.end.Statement.{statement}
 use Rattle.bearers.proofs.end.Tie as tie
-use Rattle.bearers.proofs.end.Reads as reads
-use Rattle.bearers.proofs.end.Lts as lts
 
 -- src/lib.rt:78:13
 mul-i : tie.Need-mul-i

@@ -1,26 +1,15 @@
 -- By who bears the number: nobody, one that is taken, or one that is not.
-use Rattle.history.specs.History.{climbs}
-use Rattle.bearers.proofs.Change.{cond-length, cond-small}
-use mathlib.Core.Path.{_≡_, refl, sym, ap, ap₂, _∙_}
-use mathlib.Core.Bool.{Bool, true, false, not, cond, _&&_, _||_, true≢false, false≢true, and-false, and-true}
-use Prim.Native.Nat.{ℕ, suc, _+_, _-_, _*_, _<_, _≤_}
+use mathlib.Core.Path.{_≡_, sym, ap, _∙_}
+use mathlib.Core.Bool.{Bool, true, false, _||_}
+use Prim.Native.Nat.{_-_}
 use native.Mathlib.Omega.{arith}
-use lib.ListN.{length, getD, set, List·getD-eq-default}
-use Rattle.laws.specs.Tests.{same, under, open-tests}
-use Rattle.laws.specs.Counting.{any, lowest, lowestFrom}
-use Rattle.laws.proofs.Tests.{same?, Same, is, isnt, same-eq, same-refl, ne-false, Is, is?, yes′, no′}
-use Rattle.links.specs.Links.{entryAt, Earlier}
-use Rattle.bearers.specs.Tables.{Matched, takes, Ending}
-use Rattle.bearers.proofs.Free.{lower-more, any-more}
-use Rattle.bearers.proofs.Endings.{ending-none, ending-more}
-use Rattle.links.specs.Links.{fateOf, passedOf}
+use lib.ListN.{getD}
+use Rattle.laws.specs.Tests.{same}
+use Rattle.laws.proofs.Tests.{same-refl, ne-false}
+use Rattle.bearers.specs.Tables.{takes}
 use borrow.Author.Needs.{needs}
 use Rattle.bearers.proofs.end_if.Statement.{statement}
 use Rattle.bearers.proofs.end_if.Tie as tie
-use Rattle.bearers.proofs.end_if.Reads as reads
-use Rattle.bearers.proofs.end_if.Lts as lts
-use Rattle.bearers.proofs.end.Reads as end-reads
-use Rattle.links.proofs.within.Reads as within-reads
 
 -- src/lib.rt:88:13
 mul-i : tie.Need-mul-i

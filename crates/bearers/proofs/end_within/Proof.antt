@@ -1,25 +1,16 @@
 -- Of the numbers below t those that are taken have ended; the others, and all from t on, are as they were.
-use Rattle.history.specs.History.{climbs}
 use Rattle.bearers.proofs.Change.{cond-length, cond-small}
-use mathlib.Core.Path.{_≡_, refl, sym, ap, ap₂, _∙_}
-use mathlib.Core.Bool.{Bool, true, false, not, cond, _&&_, _||_, true≢false, false≢true, and-false, and-true}
-use Prim.Native.Nat.{ℕ, suc, _+_, _-_, _*_, _<_, _≤_}
+use mathlib.Core.Path.{_≡_, _∙_}
+use mathlib.Core.Bool.{Bool, not, _&&_}
+use Prim.Native.Nat.{ℕ, _-_, _<_, _≤_}
 use native.Mathlib.Omega.{arith}
-use lib.ListN.{length, getD, set, List·getD-eq-default}
+use lib.ListN.{length, getD}
 use borrow.Author.Needs.{needs}
-use Rattle.laws.specs.Tests.{same, under, open-tests}
-use Rattle.laws.specs.Counting.{any, lowest, lowestFrom}
-use Rattle.laws.proofs.Tests.{same?, Same, is, isnt, same-eq, same-refl, ne-false, Is, is?, yes′, no′}
-use Rattle.links.specs.Links.{entryAt, Earlier}
+use Rattle.laws.specs.Tests.{same}
 use Rattle.bearers.specs.Tables.{Matched, takes, Ending}
-use Rattle.bearers.proofs.Free.{lower-more, any-more}
 use Rattle.bearers.proofs.Endings.{ending-none, ending-more}
-use Rattle.links.specs.Links.{fateOf, passedOf}
 use Rattle.bearers.proofs.end_within.Statement.{statement}
 use Rattle.bearers.proofs.end_within.Tie as tie
-use Rattle.bearers.proofs.end_within.Reads as reads
-use Rattle.bearers.proofs.end_within.Lts as lts
-use Rattle.bearers.proofs.end_if.Reads as end-if-reads
 
 abbrev Inv-loop : tie.InvT-loop
 Inv-loop bearer₀ parent fate₀ a t₀ bearer fate t =

@@ -1,21 +1,14 @@
 -- By who bears the number: nobody, or one whose parent is compared.
-use mathlib.Core.Path.{_≡_, refl, sym, ap, ap₂, _∙_}
-use mathlib.Core.Bool.{Bool, true, false, not, cond, _&&_, _||_, true≢false, false≢true, and-false, and-true}
-use Prim.Native.Nat.{ℕ, suc, _+_, _-_, _*_, _<_, _≤_}
+use mathlib.Core.Path.{ap}
+use Prim.Native.Nat.{ℕ, _-_}
 use native.Mathlib.Omega.{arith}
-use lib.ListN.{length, getD, set, List·getD-eq-default}
-use Rattle.laws.specs.Tests.{same, under, open-tests}
-use Rattle.laws.specs.Counting.{any, lowest, lowestFrom}
-use Rattle.laws.proofs.Tests.{same?, Same, is, isnt, same-eq, same-refl, ne-false, Is, is?, yes′, no′}
-use Rattle.links.specs.Links.{entryAt, Earlier}
-use Rattle.bearers.specs.Tables.{Matched}
-use Rattle.bearers.proofs.Free.{lower-more, any-more}
+use lib.ListN.{getD}
+use Rattle.laws.specs.Tests.{same}
+use Rattle.laws.proofs.Tests.{same-refl, ne-false}
+use Rattle.links.specs.Links.{entryAt}
 use borrow.Author.Needs.{needs}
 use Rattle.bearers.proofs.is_child.Statement.{statement}
 use Rattle.bearers.proofs.is_child.Tie as tie
-use Rattle.bearers.proofs.is_child.Reads as reads
-use Rattle.bearers.proofs.is_child.Lts as lts
-use Rattle.links.proofs.above.Reads as above-reads
 
 -- src/lib.rt:54:13
 mul-u : tie.Need-mul-u

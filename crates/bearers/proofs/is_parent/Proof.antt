@@ -1,21 +1,15 @@
 -- So far, whether one that bears a number below t is a child.
-use mathlib.Core.Path.{_≡_, refl, sym, ap, ap₂, _∙_}
-use mathlib.Core.Bool.{Bool, true, false, not, cond, _&&_, _||_, true≢false, false≢true, and-false, and-true}
-use Prim.Native.Nat.{ℕ, suc, _+_, _-_, _*_, _<_, _≤_}
+use mathlib.Core.Path.{_≡_, refl, ap, _∙_}
+use mathlib.Core.Bool.{not, _&&_}
+use Prim.Native.Nat.{ℕ, _-_, _≤_}
 use native.Mathlib.Omega.{arith}
-use lib.ListN.{length, getD, set, List·getD-eq-default}
 use borrow.Author.Needs.{needs}
-use Rattle.laws.specs.Tests.{same, under, open-tests}
-use Rattle.laws.specs.Counting.{any, lowest, lowestFrom}
-use Rattle.laws.proofs.Tests.{same?, Same, is, isnt, same-eq, same-refl, ne-false, Is, is?, yes′, no′}
-use Rattle.links.specs.Links.{entryAt, Earlier}
-use Rattle.bearers.specs.Tables.{Matched}
-use Rattle.bearers.proofs.Free.{lower-more, any-more}
+use Rattle.laws.specs.Tests.{same}
+use Rattle.laws.specs.Counting.{any}
+use Rattle.links.specs.Links.{entryAt}
+use Rattle.bearers.proofs.Free.{any-more}
 use Rattle.bearers.proofs.is_parent.Statement.{statement}
 use Rattle.bearers.proofs.is_parent.Tie as tie
-use Rattle.bearers.proofs.is_parent.Reads as reads
-use Rattle.bearers.proofs.is_parent.Lts as lts
-use Rattle.bearers.proofs.is_child.Reads as is-child-reads
 
 abbrev Inv-loop : tie.InvT-loop
 Inv-loop bearer parent i met₀ t₀ met t =

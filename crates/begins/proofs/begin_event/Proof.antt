@@ -11,13 +11,10 @@ use Rattle.laws.proofs.Bits.{bits-zero}
 use Rattle.sets.proofs.Sets.{sets-past}
 use Rattle.rules.specs.Event.{begin}
 use Rattle.state.proofs.Steps.{retold}
-use Rattle.rules.specs.Editions.{Edition, formOf}
+use Rattle.rules.specs.Editions.{formOf}
 use borrow.Author.Needs.{needs}
 use Rattle.begins.proofs.begin_event.Statement.{statement}
 use Rattle.begins.proofs.begin_event.Tie as tie
-use Rattle.begins.proofs.begin_event.Reads as reads
-use Rattle.begins.proofs.begin_event.Lts as lts
-use Rattle.begins.proofs.begin_under.Reads as begin-under-reads
 
 begin-under-requires : tie.Need-begin-under-requires
 begin-under-requires c κs = (search needs, sym (List·getD-eq-default (c .before .before .before .before .before .before .args .depth .now) 0 {n = 31} (let k = c .before .before .before .before .before .before .pre .1 in omega arith)), fun-ext (λ k. bits-zero k ∙ sym (sets-past (c .before .before .before .before .before .before .args .line .now) 31 k (let m = c .before .before .before .before .before .before .pre .2 in omega arith))), λ z. refl, omega arith, c .before .before .before .before .before .before .pre .4, c .before .before .before .before .before .before .pre .1, c .before .before .before .before .before .before .pre .5)

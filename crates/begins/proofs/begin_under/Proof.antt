@@ -3,15 +3,10 @@ use Prim.Native.Nat.{_-_}
 use native.Mathlib.Omega.{arith}
 use Rattle.arrays.proofs.Kin.{kin-lowest}
 use Rattle.begins.proofs.Begins.{full-steps, named-of, free-place, begin-kin, begin-placed}
-use Rattle.rules.specs.Editions.{Edition, first, formOf}
+use Rattle.rules.specs.Editions.{first, formOf}
 use borrow.Author.Needs.{needs}
 use Rattle.begins.proofs.begin_under.Statement.{statement}
 use Rattle.begins.proofs.begin_under.Tie as tie
-use Rattle.begins.proofs.begin_under.Reads as reads
-use Rattle.begins.proofs.begin_under.Lts as lts
-use Rattle.transactions.proofs.enrol.Reads as enrol-reads
-use Rattle.transactions.proofs.first_free.Reads as first-free-reads
-use Rattle.transactions.proofs.place.Reads as place-reads
 
 first-free-requires : tie.Need-first-free-requires
 first-free-requires c κs = search needs

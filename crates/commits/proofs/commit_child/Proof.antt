@@ -1,10 +1,8 @@
 -- Versions go up, then the locks, then the number is freed.
-use mathlib.Core.Path.{_≡_, refl, sym, ap, ap₂, subst, subst⁻¹, _∙_, fun-ext}
-use mathlib.Core.Bool.{Bool, true, false, not, cond, _&&_, _||_}
-use mathlib.Core.List.{List}
-use Prim.Native.Nat.{ℕ, suc, _+_, _*_, _-_, _/_, _%_, _<_, _≤_}
+use mathlib.Core.Path.{_≡_, refl, ap, _∙_}
+use Prim.Native.Nat.{ℕ, suc, _-_}
 use native.Mathlib.Omega.{arith}
-use lib.ListN.{length, getD, set}
+use lib.ListN.{getD}
 use Rattle.commits.proofs.Commits.{child-steps}
 use Rattle.sets.specs.Sets.{sets}
 use Rattle.rules.specs.Store.{pagesOf}
@@ -15,12 +13,6 @@ use Rattle.rules.specs.Editions.{geometryOf}
 use borrow.Author.Needs.{needs}
 use Rattle.commits.proofs.commit_child.Statement.{statement}
 use Rattle.commits.proofs.commit_child.Tie as tie
-use Rattle.commits.proofs.commit_child.Reads as reads
-use Rattle.commits.proofs.commit_child.Lts as lts
-use Rattle.locks.proofs.pass.Reads as pass-reads
-use Rattle.slots.proofs.lift.Reads as lift-reads
-use Rattle.transactions.proofs.retire.Reads as retire-reads
-use Rattle.transactions.proofs.strike.Reads as strike-reads
 
 element-copy-out-p : tie.Need-element-copy-out-p
 element-copy-out-p c = search needs

@@ -1,23 +1,12 @@
 -- The end of the transaction, or the crash.
-use mathlib.Core.Path.{_≡_, refl, sym, subst⁻¹, _∙_}
-use mathlib.Core.Bool.{Bool, true, false, not, _&&_}
-use mathlib.Core.List.{List}
-use Prim.Native.Nat.{ℕ, _-_, _<_, _≤_}
-use native.Mathlib.Omega.{arith}
-use lib.ListN.{length, getD}
+use mathlib.Core.Path.{refl}
+use Prim.Native.Nat.{_-_}
 use Rattle.arrays.proofs.Kin.{kin-retired}
 use Rattle.commits.proofs.Commits.{top-steps, top-cut}
 use Rattle.rules.specs.Editions.{geometryOf}
 use borrow.Author.Needs.{needs}
 use Rattle.commits.proofs.end_top.Statement.{statement}
 use Rattle.commits.proofs.end_top.Tie as tie
-use Rattle.commits.proofs.end_top.Reads as reads
-use Rattle.commits.proofs.end_top.Lts as lts
-use Rattle.crashes.proofs.fall.Reads as fall-reads
-use Rattle.locks.proofs.discard.Reads as discard-reads
-use Rattle.sets.proofs.single.Reads as single-reads
-use Rattle.transactions.proofs.retire.Reads as retire-reads
-use Rattle.transactions.proofs.strike.Reads as strike-reads
 
 fall-requires : tie.Need-fall-requires
 fall-requires c κs = (c .before .before .before .before .before .before .before .before .before .before .before .before .before .pre .1, c .before .before .before .before .before .before .before .before .before .before .before .before .before .pre .5, c .before .before .before .before .before .before .before .before .before .before .before .before .before .pre .6, c .before .before .before .before .before .before .before .before .before .before .before .before .before .pre .7)

@@ -1,18 +1,11 @@
 -- Nothing for a commit; else what the store says.
-use mathlib.Core.Path.{_≡_, refl, sym, ap, subst⁻¹, _∙_}
-use mathlib.Core.Bool.{Bool, true, false, not, _&&_}
-use mathlib.Core.List.{List}
-use Prim.Native.Nat.{ℕ, _-_, _<_, _≤_}
-use native.Mathlib.Omega.{arith}
-use lib.ListN.{length, getD}
+use mathlib.Core.Path.{refl, sym}
+use Prim.Native.Nat.{_-_}
 use Rattle.laws.proofs.Booleans.{clash, not-true, not-false}
 use Rattle.crashes.proofs.Editions.{layout-of}
 use borrow.Author.Needs.{needs}
 use Rattle.commits.proofs.reread.Statement.{statement}
 use Rattle.commits.proofs.reread.Tie as tie
-use Rattle.commits.proofs.reread.Reads as reads
-use Rattle.commits.proofs.reread.Lts as lts
-use Rattle.commit.proofs.read_held.Reads as read-held-reads
 
 returns : tie.Need-returns
 returns c = (λ edition N e. clash e (not-true _ (c .if1 .taken)), λ e. (refl, refl))

@@ -1,12 +1,10 @@
 -- Refusal 10; then a child's commit, or a top transaction.
-use mathlib.Core.Path.{_≡_, refl, sym, ap, subst⁻¹, _∙_}
-use mathlib.Core.Bool.{Bool, true, false, not, _&&_}
-use mathlib.Core.List.{List}
-use Prim.Native.Nat.{ℕ, _-_, _<_, _≤_}
+use mathlib.Core.Path.{refl, sym, subst⁻¹, _∙_}
+use Prim.Native.Nat.{ℕ, _-_, _<_}
 use native.Mathlib.Omega.{arith}
-use lib.ListN.{length, getD}
+use lib.ListN.{getD}
 use Rattle.laws.specs.Tests.{same}
-use Rattle.commits.proofs.Commits.{settling-refuses, child-settling, commits-only, else-top, settling-reserves}
+use Rattle.commits.proofs.Commits.{settling-refuses, child-settling, commits-only, else-top}
 use Rattle.commits.specs.Settling.{settling}
 use Rattle.state.specs.Whole.{Ready}
 use Rattle.state.proofs.Parents.{child-test}
@@ -16,12 +14,6 @@ use Rattle.crashes.proofs.Editions.{few}
 use borrow.Author.Needs.{needs}
 use Rattle.commits.proofs.settle_event.Statement.{statement}
 use Rattle.commits.proofs.settle_event.Tie as tie
-use Rattle.commits.proofs.settle_event.Reads as reads
-use Rattle.commits.proofs.settle_event.Lts as lts
-use Rattle.commits.proofs.commit_child.Reads as commit-child-reads
-use Rattle.commits.proofs.settle_top.Reads as settle-top-reads
-use Rattle.numbers.proofs.TransactionNumber.number.Reads as number-reads
-use Rattle.transactions.proofs.has_child.Reads as has-child-reads
 
 number-requires : tie.Need-number-requires
 number-requires c κs = search needs

@@ -1,24 +1,14 @@
 -- Refusals 13 and 27; then the page writes, what is prepared then, and the end of the transaction.
-use mathlib.Core.Path.{_≡_, refl, sym, ap, subst⁻¹, _∙_}
-use mathlib.Core.Bool.{Bool, true, false, not, _&&_}
-use mathlib.Core.List.{List}
-use Prim.Native.Nat.{ℕ, _-_, _<_, _≤_}
+use mathlib.Core.Path.{sym, _∙_}
+use Prim.Native.Nat.{_-_}
 use native.Mathlib.Omega.{arith}
-use lib.ListN.{length, getD}
 use Rattle.laws.specs.Tests.{same}
 use Rattle.commits.proofs.Commits.{settling-13, settling-27, settling-ends, settling-reserves}
 use Rattle.rules.specs.Editions.{geometryOf}
-use Rattle.commitpage.specs.Layout.{Layout}
 use Rattle.crashes.proofs.Editions.{layout-of, few}
 use borrow.Author.Needs.{needs}
 use Rattle.commits.proofs.settle_top.Statement.{statement}
 use Rattle.commits.proofs.settle_top.Tie as tie
-use Rattle.commits.proofs.settle_top.Reads as reads
-use Rattle.commits.proofs.settle_top.Lts as lts
-use Rattle.commits.proofs.end_top.Reads as end-top-reads
-use Rattle.commits.proofs.reread.Reads as reread-reads
-use Rattle.commits.proofs.write_pages.Reads as write-pages-reads
-use Rattle.commitpage.proofs.map_of.Reads as map-of-reads
 
 map-of-requires : tie.Need-map-of-requires
 map-of-requires c κs = let h = c .before .before .before .before .before .before .pre .0 in (omega arith, few _ (c .before .before .before .before .before .before .pre .1), c .before .before .before .before .before .before .pre .9)

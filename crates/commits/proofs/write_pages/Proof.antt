@@ -1,19 +1,11 @@
 -- By whether it prepares.
-use mathlib.Core.Path.{_≡_, refl, sym, ap, subst⁻¹, _∙_}
-use mathlib.Core.Bool.{Bool, true, false, not, _&&_}
-use mathlib.Core.List.{List}
-use Prim.Native.Nat.{ℕ, _-_, _<_, _≤_}
-use native.Mathlib.Omega.{arith}
-use lib.ListN.{length, getD}
+use mathlib.Core.Bool.{true, false}
+use Prim.Native.Nat.{_-_}
 use Rattle.commits.proofs.Commits.{settled-pages}
 use Rattle.commits.specs.Settling.{settlingAt}
 use borrow.Author.Needs.{needs}
 use Rattle.commits.proofs.write_pages.Statement.{statement}
 use Rattle.commits.proofs.write_pages.Tie as tie
-use Rattle.commits.proofs.write_pages.Reads as reads
-use Rattle.commits.proofs.write_pages.Lts as lts
-use Rattle.commit.proofs.commit_pages.Reads as commit-pages-reads
-use Rattle.commit.proofs.prepare_pages.Reads as prepare-pages-reads
 
 prepare-pages-requires : tie.Need-prepare-pages-requires
 prepare-pages-requires c κs = (c .before .before .before .before .pre .1 (c .before .if1 .taken), c .before .before .before .before .pre .2, c .before .before .before .before .pre .3, c .before .before .before .before .pre .4)

@@ -4,9 +4,6 @@ use Rattle.arrays.proofs.Kin.{kin-none}
 use borrow.Author.Needs.{needs}
 use Rattle.crashes.proofs.fall.Statement.{statement}
 use Rattle.crashes.proofs.fall.Tie as tie
-use Rattle.crashes.proofs.fall.Reads as reads
-use Rattle.crashes.proofs.fall.Lts as lts
-use Rattle.locks.proofs.clear.Reads as clear-reads
 
 mul-places : tie.Need-mul-places
 mul-places c = search needs

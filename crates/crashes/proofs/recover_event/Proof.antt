@@ -1,10 +1,5 @@
 -- Refusals 3 and 4; then the page writes of a recovery.
-use mathlib.Core.Path.{_≡_, refl, sym, ap, ap₂, subst, subst⁻¹, _∙_, fun-ext}
-use mathlib.Core.Bool.{Bool, true, false, not, cond, _&&_, _||_}
-use mathlib.Core.List.{List}
-use Prim.Native.Nat.{ℕ, suc, _+_, _*_, _-_, _/_, _%_, _<_, _≤_}
-use native.Mathlib.Omega.{arith}
-use lib.ListN.{length, getD, set}
+use Prim.Native.Nat.{_-_}
 use Rattle.rules.specs.Editions.{geometryOf}
 use Rattle.crashes.proofs.Editions.{layout-of}
 use Rattle.crashes.proofs.Falls.{map-is, recover-refuses-3, recover-refuses-4, recover-cut, recover-steps}
@@ -12,10 +7,6 @@ use Rattle.laws.proofs.Booleans.{not-true, not-false}
 use borrow.Author.Needs.{needs}
 use Rattle.crashes.proofs.recover_event.Statement.{statement}
 use Rattle.crashes.proofs.recover_event.Tie as tie
-use Rattle.crashes.proofs.recover_event.Reads as reads
-use Rattle.crashes.proofs.recover_event.Lts as lts
-use Rattle.commit.proofs.read_map.Reads as read-map-reads
-use Rattle.commit.proofs.recover_pages.Reads as recover-pages-reads
 
 returns : tie.Need-returns
 returns c = λ edition parent depth line held retained writers work N I. recover-refuses-3 (geometryOf edition) _ I (c .before .before .before .args .k) (c .if1 .taken)

@@ -4,8 +4,6 @@ use borrow.Author.Tests.{lt-ltb, le-ltb}
 use borrow.Author.Needs.{needs}
 use Rattle.cycles.proofs.at_or_zero.Statement.{statement}
 use Rattle.cycles.proofs.at_or_zero.Tie as tie
-use Rattle.cycles.proofs.at_or_zero.Reads as reads
-use Rattle.cycles.proofs.at_or_zero.Lts as lts
 
 element-copy-out-result : tie.Need-element-copy-out-result
 element-copy-out-result c = search needs

@@ -7,8 +7,6 @@ use Rattle.laws.proofs.Filled.{Filled, filled-none, filled-more, filled-all}
 use borrow.Author.Needs.{needs}
 use Rattle.cycles.proofs.clear.Statement.{statement}
 use Rattle.cycles.proofs.clear.Tie as tie
-use Rattle.cycles.proofs.clear.Reads as reads
-use Rattle.cycles.proofs.clear.Lts as lts
 
 abbrev Inv-loop : tie.InvT-loop
 Inv-loop ring₀ i₀ ring i = (i ≤ 24) × (length ring ≡ 24) × Filled 0 ring i (λ (k : ℕ). 0)

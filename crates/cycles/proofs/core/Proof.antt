@@ -12,10 +12,6 @@ use Rattle.cycles.specs.Search.{goesOn, Holds}
 use Rattle.cycles.proofs.Cycling.{holds-first, holds-on, sets-small, fewer, closed-at}
 use Rattle.cycles.proofs.core.Statement.{statement}
 use Rattle.cycles.proofs.core.Tie as tie
-use Rattle.cycles.proofs.core.Reads as reads
-use Rattle.cycles.proofs.core.Lts as lts
-use Rattle.cycles.proofs.kept.Reads as kept-reads
-use Rattle.sets.proofs.within.Reads as within-reads
 
 abbrev Inv-loop : tie.InvT-loop
 Inv-loop points m₀ next₀ m next = Holds (sets points) (bits m) × (bits next ≡ goesOn (sets points) (bits m))

@@ -8,13 +8,6 @@ use Rattle.cycles.proofs.Walking.{none-left, nothing-left, some-left, f
 use borrow.Author.Needs.{needs}
 use Rattle.cycles.proofs.find.Statement.{statement}
 use Rattle.cycles.proofs.find.Tie as tie
-use Rattle.cycles.proofs.find.Reads as reads
-use Rattle.cycles.proofs.find.Lts as lts
-use Rattle.cycles.proofs.clear.Reads as clear-reads
-use Rattle.cycles.proofs.core.Reads as core-reads
-use Rattle.cycles.proofs.place_of.Reads as place-of-reads
-use Rattle.cycles.proofs.show.Reads as show-reads
-use Rattle.cycles.proofs.walk.Reads as walk-reads
 
 core-requires : tie.Need-core-requires
 core-requires c κs = search needs

@@ -10,8 +10,6 @@ use Rattle.laws.proofs.Lowest.{trailing-is}
 use Rattle.cycles.proofs.Walking.{lowest-low}
 use Rattle.cycles.proofs.first_of.Statement.{statement}
 use Rattle.cycles.proofs.first_of.Tie as tie
-use Rattle.cycles.proofs.first_of.Reads as reads
-use Rattle.cycles.proofs.first_of.Lts as lts
 
 cast-result : tie.Need-cast-result
 cast-result c = omega (arith, trailing-le 32 (c .args .m))

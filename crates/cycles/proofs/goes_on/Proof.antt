@@ -12,9 +12,6 @@ use Rattle.cycles.specs.Search.{goesOn}
 use borrow.Author.Needs.{needs}
 use Rattle.cycles.proofs.goes_on.Statement.{statement}
 use Rattle.cycles.proofs.goes_on.Tie as tie
-use Rattle.cycles.proofs.goes_on.Reads as reads
-use Rattle.cycles.proofs.goes_on.Lts as lts
-use Rattle.sets.proofs.contains.Reads as contains-reads
 
 mul-into : tie.Need-mul-into
 mul-into c = search needs

@@ -12,10 +12,6 @@ use Rattle.cycles.proofs.Cycling.{goes-past}
 use borrow.Author.Needs.{needs}
 use Rattle.cycles.proofs.kept.Statement.{statement}
 use Rattle.cycles.proofs.kept.Tie as tie
-use Rattle.cycles.proofs.kept.Reads as reads
-use Rattle.cycles.proofs.kept.Lts as lts
-use Rattle.cycles.proofs.goes_on.Reads as goes-on-reads
-use Rattle.transactions.proofs.with_if.Reads as with-if-reads
 
 abbrev Inv-loop : tie.InvT-loop
 Inv-loop points m k₀ t₀ k t = (t ≤ 24) × Swept (bits k) (λ u. false) (goesOn (sets points) (bits m)) t

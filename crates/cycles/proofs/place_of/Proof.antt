@@ -7,8 +7,6 @@ use borrow.Author.Count.{below-more}
 use Rattle.cycles.proofs.Walking.{not-yet}
 use Rattle.cycles.proofs.place_of.Statement.{statement}
 use Rattle.cycles.proofs.place_of.Tie as tie
-use Rattle.cycles.proofs.place_of.Reads as reads
-use Rattle.cycles.proofs.place_of.Lts as lts
 
 abbrev Inv-loop : tie.InvT-loop
 Inv-loop path n t k₀ k = (k ≤ n) × ((j : ℕ) → j < k → getD path j 0 ≡ t → ⊥)

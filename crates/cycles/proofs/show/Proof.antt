@@ -8,9 +8,6 @@ use Rattle.cycles.proofs.Walking.{shown, shown-at, shown-long}
 use borrow.Author.Needs.{needs}
 use Rattle.cycles.proofs.show.Statement.{statement}
 use Rattle.cycles.proofs.show.Tie as tie
-use Rattle.cycles.proofs.show.Reads as reads
-use Rattle.cycles.proofs.show.Lts as lts
-use Rattle.cycles.proofs.at_or_zero.Reads as at-or-zero-reads
 
 abbrev Inv-loop : tie.InvT-loop
 Inv-loop path k n ring₀ i₀ ring i = (i ≤ 24) × (length ring ≡ 24) × Filled 0 ring i (shown path k n)

@@ -9,11 +9,6 @@ use Rattle.cycles.proofs.Walking.{Going, going-first, going-low, going-
 use borrow.Author.Needs.{needs}
 use Rattle.cycles.proofs.walk.Statement.{statement}
 use Rattle.cycles.proofs.walk.Tie as tie
-use Rattle.cycles.proofs.walk.Reads as reads
-use Rattle.cycles.proofs.walk.Lts as lts
-use Rattle.cycles.proofs.first_of.Reads as first-of-reads
-use Rattle.sets.proofs.contains.Reads as contains-reads
-use Rattle.sets.proofs.with.Reads as with-reads
 
 abbrev Inv-loop : tie.InvT-loop
 Inv-loop points core path₀ seen₀ n₀ t₀ path seen n t = Going (sets points) (bits core) path seen n t

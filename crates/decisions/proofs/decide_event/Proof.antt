@@ -1,11 +1,6 @@
 -- For another nothing; else the page writes of the decision, what is prepared then, and the crash if one came.
-use mathlib.Core.Path.{_≡_, refl, sym, ap, subst⁻¹, _∙_}
-use mathlib.Core.Bool.{Bool, true, false, not, _&&_}
-use mathlib.Core.List.{List}
-use Prim.Native.Nat.{ℕ, _-_, _<_, _≤_}
-use native.Mathlib.Omega.{arith}
-use lib.ListN.{length, getD}
-use Rattle.laws.specs.Tests.{same}
+use mathlib.Core.Path.{sym}
+use Prim.Native.Nat.{_-_}
 use Rattle.laws.proofs.Booleans.{not-true, not-false}
 use Rattle.rules.specs.Editions.{geometryOf}
 use Rattle.crashes.proofs.Editions.{layout-of, few}
@@ -13,12 +8,6 @@ use Rattle.decisions.proofs.Decisions.{for-prepared, decide-other, deci
 use borrow.Author.Needs.{needs}
 use Rattle.decisions.proofs.decide_event.Statement.{statement}
 use Rattle.decisions.proofs.decide_event.Tie as tie
-use Rattle.decisions.proofs.decide_event.Reads as reads
-use Rattle.decisions.proofs.decide_event.Lts as lts
-use Rattle.decisions.proofs.decide_pages.Reads as decide-pages-reads
-use Rattle.decisions.proofs.is_for.Reads as is-for-reads
-use Rattle.commit.proofs.read_held.Reads as read-held-reads
-use Rattle.crashes.proofs.fall.Reads as fall-reads
 
 is-for-requires : tie.Need-is-for-requires
 is-for-requires c κs = search needs

@@ -1,18 +1,9 @@
 -- By the decision.
-use mathlib.Core.Path.{_≡_, refl, sym, ap, subst⁻¹, _∙_}
-use mathlib.Core.Bool.{Bool, true, false, not, _&&_}
-use mathlib.Core.List.{List}
-use Prim.Native.Nat.{ℕ, _-_, _<_, _≤_}
-use native.Mathlib.Omega.{arith}
-use lib.ListN.{length, getD}
+use Prim.Native.Nat.{_-_}
 use Rattle.decisions.proofs.Decisions.{by-decision}
 use borrow.Author.Needs.{needs}
 use Rattle.decisions.proofs.decide_pages.Statement.{statement}
 use Rattle.decisions.proofs.decide_pages.Tie as tie
-use Rattle.decisions.proofs.decide_pages.Reads as reads
-use Rattle.decisions.proofs.decide_pages.Lts as lts
-use Rattle.commit.proofs.abort_decided.Reads as abort-decided-reads
-use Rattle.commit.proofs.commit_decided.Reads as commit-decided-reads
 
 commit-decided-requires : tie.Need-commit-decided-requires
 commit-decided-requires c κs = search needs

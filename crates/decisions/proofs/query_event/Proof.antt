@@ -1,20 +1,13 @@
 -- 1 where the test holds, else 0.
-use mathlib.Core.Path.{_≡_, refl, sym, ap, subst⁻¹, _∙_}
-use mathlib.Core.Bool.{Bool, true, false, not, _&&_}
-use mathlib.Core.List.{List}
-use Prim.Native.Nat.{ℕ, _-_, _<_, _≤_}
-use native.Mathlib.Omega.{arith}
-use lib.ListN.{length, getD}
+use mathlib.Core.Path.{ap}
+use mathlib.Core.Bool.{Bool}
+use Prim.Native.Nat.{_-_}
 use mathlib.Core.Bool.{cond}
-use Rattle.laws.specs.Tests.{same}
 use Rattle.rules.specs.Editions.{geometryOf}
 use Rattle.decisions.proofs.Decisions.{query-steps}
 use borrow.Author.Needs.{needs}
 use Rattle.decisions.proofs.query_event.Statement.{statement}
 use Rattle.decisions.proofs.query_event.Tie as tie
-use Rattle.decisions.proofs.query_event.Reads as reads
-use Rattle.decisions.proofs.query_event.Lts as lts
-use Rattle.decisions.proofs.is_for.Reads as is-for-reads
 
 is-for-requires : tie.Need-is-for-requires
 is-for-requires c κs = search needs

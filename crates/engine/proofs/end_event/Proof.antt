@@ -1,9 +1,8 @@
 -- By its kind the event is an abort, or a commit or prepare.
-use mathlib.Core.Path.{refl, sym, ap, ap₂, subst⁻¹, _∙_}
+use mathlib.Core.Path.{sym, ap, ap₂, _∙_}
 use mathlib.Core.Bool.{Bool}
-use Prim.Native.Nat.{ℕ, _-_, _<_}
+use Prim.Native.Nat.{ℕ, _-_}
 use native.Mathlib.Omega.{arith}
-use lib.ListN.{getD}
 use mathlib.Core.Option.{some}
 use Rattle.laws.specs.Tests.{same}
 use Rattle.rules.specs.Event.{abort}
@@ -18,10 +17,6 @@ use Rattle.engine.proofs.Lengths.{held-length, retained-length, writers
 use borrow.Author.Needs.{needs}
 use Rattle.engine.proofs.end_event.Statement.{statement}
 use Rattle.engine.proofs.end_event.Tie as tie
-use Rattle.engine.proofs.end_event.Reads as reads
-use Rattle.engine.proofs.end_event.Lts as lts
-use Rattle.events.proofs.abort_event.Reads as abort-event-reads
-use Rattle.commits.proofs.settle_event.Reads as settle-event-reads
 
 abort-event-requires : tie.Need-abort-event-requires
 abort-event-requires c κs = let k = editionOf (c .before .before .before .before .before .before .before .before .before .before .before .before .before .before .before .args .records) (c .before .before .before .before .before .before .before .before .before .before .before .before .before .before .before .args .joint) in let F = c .before .before .before .before .before .before .before .before .before .before .before .before .before .before .before .pre .7 .form in (F .parents, F .depths, F .long, few _ (known-of k _ _ (c .before .before .before .before .before .before .before .before .before .before .before .before .before .before .before .pre .11)), held-length k _ _ (c .before .before .before .before .before .before .before .before .before .before .before .before .before .before .before .pre .11) _ F, retained-length k _ _ (c .before .before .before .before .before .before .before .before .before .before .before .before .before .before .before .pre .11) _ F, writers-length k _ _ (c .before .before .before .before .before .before .before .before .before .before .before .before .before .before .before .pre .11) _ F, sources (formOf k) _ (c .before .before .before .before .before .before .before .before .before .before .before .before .before .before .before .pre .7), c .before .before .before .before .before .before .before .before .before .before .before .before .before .before .before .pre .9)

@@ -1,14 +1,8 @@
 -- The commit page, an intention page for each record, and the home pages of the records before.
-use mathlib.Core.Path.{_≡_}
-use Prim.Native.Nat.{ℕ, _+_, _*_, _≤_}
 use native.Mathlib.Omega.{arith}
-use Rattle.numbers.specs.Named.{recordOf}
 use borrow.Author.Needs.{needs}
 use Rattle.engine.proofs.home_at.Statement.{statement}
 use Rattle.engine.proofs.home_at.Tie as tie
-use Rattle.engine.proofs.home_at.Reads as reads
-use Rattle.engine.proofs.home_at.Lts as lts
-use Rattle.numbers.proofs.RecordNumber.index.Reads as index-reads
 
 add-result : tie.Need-add-result
 add-result c = search needs

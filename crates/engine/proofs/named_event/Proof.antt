@@ -1,6 +1,5 @@
 -- By its kind the event ends the live transaction, or is at a record.
-use mathlib.Core.Path.{_≡_, refl, sym, ap, ap₂, subst, subst⁻¹, _∙_}
-use mathlib.Core.Bool.{Bool}
+use mathlib.Core.Path.{refl, sym, subst, subst⁻¹, _∙_}
 use Prim.Native.Nat.{ℕ, _-_, _<_}
 use native.Mathlib.Omega.{arith}
 use lib.ListN.{getD}
@@ -14,12 +13,6 @@ use Rattle.engine.proofs.Lengths.{held-length, retained-length, writers
 use borrow.Author.Needs.{needs}
 use Rattle.engine.proofs.named_event.Statement.{statement}
 use Rattle.engine.proofs.named_event.Tie as tie
-use Rattle.engine.proofs.named_event.Reads as reads
-use Rattle.engine.proofs.named_event.Lts as lts
-use Rattle.engine.proofs.end_event.Reads as end-event-reads
-use Rattle.engine.proofs.record_event.Reads as record-event-reads
-use Rattle.numbers.proofs.RecordNumber.checked.Reads as checked-reads
-use Rattle.transactions.proofs.has_child.Reads as has-child-reads
 
 cast-if1 : tie.Need-cast-if1
 cast-if1 c = search needs

@@ -14,12 +14,6 @@ use Rattle.engine.proofs.Lengths.{home-is}
 use borrow.Author.Needs.{needs}
 use Rattle.engine.proofs.record_event.Statement.{statement}
 use Rattle.engine.proofs.record_event.Tie as tie
-use Rattle.engine.proofs.record_event.Reads as reads
-use Rattle.engine.proofs.record_event.Lts as lts
-use Rattle.engine.proofs.home_at.Reads as home-at-reads
-use Rattle.events.proofs.lock_event.Reads as lock-event-reads
-use Rattle.events.proofs.read_event.Reads as read-event-reads
-use Rattle.events.proofs.write_event.Reads as write-event-reads
 
 cast-o : tie.Need-cast-o
 cast-o c = search needs

@@ -1,18 +1,15 @@
 -- The tests that every kind shares, in the order of the refusals; then the event by its kind.
-use mathlib.Core.Path.{_≡_, refl, sym, ap, ap₂, subst, subst⁻¹, _∙_, fun-ext}
-use mathlib.Core.Bool.{Bool, true, false, not, cond, _&&_, _||_}
-use mathlib.Core.List.{List}
-use Prim.Native.Nat.{ℕ, suc, _+_, _*_, _-_, _/_, _%_, _^_, _<_, _≤_}
+use mathlib.Core.Path.{sym, ap, subst, _∙_}
+use mathlib.Core.Bool.{Bool}
+use Prim.Native.Nat.{ℕ, _-_, _^_, _<_}
 use native.Mathlib.Omega.{arith}
-use lib.ListN.{length, getD, set}
 use mathlib.Core.Option.{some}
-use Rattle.rules.specs.Event.{begin, lock, write, read, commit, abort, crash, recover, decide, query}
-use Rattle.event.proofs.Meaning.{means-bad, means-begin, means-lock, means-write, means-read, means-commit, means-abort, means-crash, means-recover, means-decide, means-query}
+use Rattle.rules.specs.Event.{decide}
+use Rattle.event.proofs.Meaning.{means-bad, means-begin, means-crash, means-recover, means-decide, means-query}
 use Rattle.engine.proofs.ByKind.{to-abort, to-commit, down-steps, unknown-steps, keeps, keeps-reserved}
-use Rattle.engine.proofs.Numbers.{transaction-is, no-transaction, record-is, no-record, transaction-small}
+use Rattle.engine.proofs.Numbers.{transaction-is, no-transaction}
 use Rattle.state.proofs.Steps.{retold, unmoved, sources, not-live-past}
 use Rattle.state.proofs.Rules.{bad-refused}
-use Rattle.laws.specs.Tests.{same}
 use Rattle.rules.specs.Step.{step}
 use Rattle.rules.specs.Editions.{editionOf, geometryOf, formOf}
 use Rattle.crashes.proofs.Editions.{known-of, joint-of, few}
@@ -21,15 +18,6 @@ use Rattle.engine.proofs.Lengths.{held-length, retained-length, writers
 use borrow.Author.Needs.{needs}
 use Rattle.engine.proofs.step.Statement.{statement}
 use Rattle.engine.proofs.step.Tie as tie
-use Rattle.engine.proofs.step.Reads as reads
-use Rattle.engine.proofs.step.Lts as lts
-use Rattle.engine.proofs.named_event.Reads as named-event-reads
-use Rattle.begins.proofs.begin_event.Reads as begin-event-reads
-use Rattle.decisions.proofs.decide_event.Reads as decide-event-reads
-use Rattle.decisions.proofs.query_event.Reads as query-event-reads
-use Rattle.crashes.proofs.crash_event.Reads as crash-event-reads
-use Rattle.crashes.proofs.recover_event.Reads as recover-event-reads
-use Rattle.numbers.proofs.TransactionNumber.checked.Reads as checked-reads
 
 returns : tie.Need-returns
 returns c = let k = editionOf (c .before .before .before .before .before .before .args .records) (c .before .before .before .before .before .before .args .joint) in let R = c .before .before .before .before .before .before .pre .0 .kind in

@@ -1,6 +1,5 @@
 -- The report, if there is one to give, then the end of the transaction and its descendants, who leave the sets of kin too.
 use mathlib.Core.Path.{refl, sym, _∙_}
-use Prim.Native.Nat.{ℕ}
 use lib.ListN.{getD}
 use Rattle.laws.specs.Tests.{under}
 use Rattle.laws.proofs.Tests.{under-lt}
@@ -12,20 +11,10 @@ use Rattle.slots.proofs.Walk.{parent-below}
 use Rattle.state.specs.Whole.{Ready}
 use Rattle.state.proofs.Steps.{numbered}
 use Rattle.events.proofs.Aborts.{abort-steps-of}
-use Rattle.rules.specs.Editions.{Edition, formOf}
-use Rattle.rules.specs.Form.{Form, Medium}
+use Rattle.rules.specs.Editions.{formOf}
 use borrow.Author.Needs.{needs}
 use Rattle.events.proofs.abort_event.Statement.{statement}
 use Rattle.events.proofs.abort_event.Tie as tie
-use Rattle.events.proofs.abort_event.Reads as reads
-use Rattle.events.proofs.abort_event.Lts as lts
-use Rattle.locks.proofs.discard.Reads as discard-reads
-use Rattle.locks.proofs.leave.Reads as leave-reads
-use Rattle.locks.proofs.report.Reads as report-reads
-use Rattle.numbers.proofs.TransactionNumber.number.Reads as number-reads
-use Rattle.sets.proofs.minus.Reads as minus-reads
-use Rattle.transactions.proofs.descendants.Reads as descendants-reads
-use Rattle.transactions.proofs.end.Reads as end-reads
 
 number-requires : tie.Need-number-requires
 number-requires c κs = search needs

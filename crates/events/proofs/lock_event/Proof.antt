@@ -1,9 +1,7 @@
 -- A reserved record is refused with 8. Else the grant is the grant of the rules, and a lock that is not granted is refused with 8.
 use mathlib.Core.Path.{subst⁻¹, _∙_}
-use mathlib.Core.Bool.{not}
 use Prim.Native.Nat.{ℕ, _-_, _<_}
-use Rattle.rules.specs.Editions.{Edition, geometryOf, formOf, InNumbers}
-use Rattle.rules.specs.Form.{Form, Medium}
+use Rattle.rules.specs.Editions.{geometryOf, formOf}
 use Rattle.arrays.specs.Changes.{accessWhen}
 use Rattle.numbers.specs.Named.{transactionOf, recordOf}
 use Rattle.state.proofs.Reserves.{reserved-refuses}
@@ -11,11 +9,6 @@ use Rattle.events.proofs.Steps.{is-reserved, lock-steps, lock-refuses}
 use borrow.Author.Needs.{needs}
 use Rattle.events.proofs.lock_event.Statement.{statement}
 use Rattle.events.proofs.lock_event.Tie as tie
-use Rattle.events.proofs.lock_event.Reads as reads
-use Rattle.events.proofs.lock_event.Lts as lts
-use Rattle.locks.proofs.lock.Reads as lock-reads
-use Rattle.commitpage.proofs.names.Reads as names-reads
-use Rattle.numbers.proofs.RecordNumber.number.Reads as number-reads
 
 cast-names : tie.Need-cast-names
 cast-names c = search needs

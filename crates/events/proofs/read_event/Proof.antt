@@ -1,17 +1,12 @@
 -- Who holds the lock in any mode reads what the rules show; else 9.
 use mathlib.Core.Path.{sym, _∙_}
-use Prim.Native.Nat.{ℕ, _-_}
-use Rattle.rules.specs.Editions.{Edition, formOf}
-use Rattle.rules.specs.Form.{Form, Medium}
+use Prim.Native.Nat.{_-_}
+use Rattle.rules.specs.Editions.{formOf}
 use Rattle.numbers.specs.Named.{transactionOf, recordOf}
 use Rattle.events.proofs.Steps.{read-steps, read-refuses}
 use borrow.Author.Needs.{needs}
 use Rattle.events.proofs.read_event.Statement.{statement}
 use Rattle.events.proofs.read_event.Tie as tie
-use Rattle.events.proofs.read_event.Reads as reads
-use Rattle.events.proofs.read_event.Lts as lts
-use Rattle.locks.proofs.holds.Reads as holds-reads
-use Rattle.slots.proofs.read.Reads as read-reads
 
 holds-requires : tie.Need-holds-requires
 holds-requires c κs = search needs

@@ -1,17 +1,12 @@
 -- Who holds the lock in write mode writes its version; else 9.
 use mathlib.Core.Path.{sym, _∙_}
-use Prim.Native.Nat.{ℕ, _-_}
-use Rattle.rules.specs.Editions.{Edition, formOf}
-use Rattle.rules.specs.Form.{Form, Medium}
+use Prim.Native.Nat.{_-_}
+use Rattle.rules.specs.Editions.{formOf}
 use Rattle.numbers.specs.Named.{transactionOf, recordOf}
 use Rattle.events.proofs.Steps.{write-steps, write-refuses}
 use borrow.Author.Needs.{needs}
 use Rattle.events.proofs.write_event.Statement.{statement}
 use Rattle.events.proofs.write_event.Tie as tie
-use Rattle.events.proofs.write_event.Reads as reads
-use Rattle.events.proofs.write_event.Lts as lts
-use Rattle.locks.proofs.holds_writing.Reads as holds-writing-reads
-use Rattle.slots.proofs.write.Reads as write-reads
 
 holds-writing-requires : tie.Need-holds-writing-requires
 holds-writing-requires c κs = search needs

@@ -3,8 +3,6 @@ use Rattle.lengths.proofs.Lengths.{asks-store, asks-work, asks-event, a
 use borrow.Author.Needs.{needs}
 use Rattle.lengths.proofs.question.Statement.{statement}
 use Rattle.lengths.proofs.question.Tie as tie
-use Rattle.lengths.proofs.question.Reads as reads
-use Rattle.lengths.proofs.question.Lts as lts
 
 add-if1 : tie.Need-add-if1
 add-if1 c = search needs

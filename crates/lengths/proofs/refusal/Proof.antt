@@ -1,12 +1,9 @@
 -- The tests in the order of the refusals.
 use native.Mathlib.Nat.{div-le-self}
-use native.Mathlib.Omega.{arith}
 use Rattle.lengths.proofs.Lengths.{refused-store, refused-work, refused-part, refused-long, refused-answers, refused-not}
 use borrow.Author.Needs.{needs}
 use Rattle.lengths.proofs.refusal.Statement.{statement}
 use Rattle.lengths.proofs.refusal.Tie as tie
-use Rattle.lengths.proofs.refusal.Reads as reads
-use Rattle.lengths.proofs.refusal.Lts as lts
 
 add-if1 : tie.Need-add-if1
 add-if1 c = search needs

@@ -4,8 +4,6 @@ use Rattle.laws.specs.Tests.{same}
 use Rattle.lent.proofs.Portions.{bare-decided}
 use Rattle.lent.proofs.is_bare.Statement.{statement}
 use Rattle.lent.proofs.is_bare.Tie as tie
-use Rattle.lent.proofs.is_bare.Reads as reads
-use Rattle.lent.proofs.is_bare.Lts as lts
 
 -- src/lib.rt:205:13
 array-read-a : tie.Need-array-read-a

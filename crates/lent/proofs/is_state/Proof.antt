@@ -3,10 +3,6 @@ use borrow.Author.Needs.{needs}
 use Rattle.clauses.proofs.Decides.{decides-and}
 use Rattle.lent.proofs.is_state.Statement.{statement}
 use Rattle.lent.proofs.is_state.Tie as tie
-use Rattle.lent.proofs.is_state.Reads as reads
-use Rattle.lent.proofs.is_state.Lts as lts
-use Rattle.lent.proofs.is_bare.Reads as is-bare-reads
-use Rattle.soundness.proofs.is_sound.Reads as is-sound-reads
 
 -- src/lib.rt:223:9
 is-sound-requires : tie.Need-is-sound-requires

@@ -13,10 +13,6 @@ use Rattle.records.proofs.Laying.{laid-all}
 use borrow.Author.Needs.{needs}
 use Rattle.lent.proofs.is_state_aside.Statement.{statement}
 use Rattle.lent.proofs.is_state_aside.Tie as tie
-use Rattle.lent.proofs.is_state_aside.Reads as reads
-use Rattle.lent.proofs.is_state_aside.Lts as lts
-use Rattle.lent.proofs.is_state.Reads as is-state-reads
-use Rattle.records.proofs.lay.Reads as lay-reads
 
 slice-aggregate-lay : tie.Need-slice-aggregate-lay
 slice-aggregate-lay c = search needs

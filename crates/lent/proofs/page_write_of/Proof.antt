@@ -1,6 +1,6 @@
 -- The lengths decide, then the gate; where both pass, the page write is the one that the rules plan.
 use borrow.Author.Needs.{needs}
-use mathlib.Core.Path.{_≡_, refl, sym, ap, _∙_}
+use mathlib.Core.Path.{refl, sym, ap, _∙_}
 use mathlib.Core.Logic.{inl}
 use native.Mathlib.Omega.{arith}
 use Rattle.laws.proofs.Booleans.{not-true, not-false}
@@ -14,14 +14,6 @@ use Rattle.lent.specs.Portions.{kept}
 use Rattle.lent.proofs.PageWrites.{writers-long, question-refused, state-refused, question-answered}
 use Rattle.lent.proofs.page_write_of.Statement.{statement}
 use Rattle.lent.proofs.page_write_of.Tie as tie
-use Rattle.lent.proofs.page_write_of.Reads as reads
-use Rattle.lent.proofs.page_write_of.Lts as lts
-use Rattle.event.proofs.Event.of_word.Reads as of-word-reads
-use Rattle.event.proofs.Event.table.Reads as table-reads
-use Rattle.event.proofs.Event.word_at.Reads as word-at-reads
-use Rattle.lengths.proofs.question.Reads as question-reads
-use Rattle.lent.proofs.is_state.Reads as is-state-reads
-use Rattle.pagewrites.proofs.page_write.Reads as page-write-reads
 
 question-requires : tie.Need-question-requires
 question-requires c κs = omega arith

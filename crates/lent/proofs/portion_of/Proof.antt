@@ -1,18 +1,12 @@
 -- The lengths decide, then the gate; where both pass, the engine's portion is the rules'.
 use borrow.Author.Needs.{needs}
 use native.Mathlib.Omega.{arith}
-use mathlib.Core.Path.{_≡_, sym, _∙_}
+use mathlib.Core.Path.{sym, _∙_}
 use Rattle.lent.specs.Portions.{kept}
 use Rattle.lengths.proofs.Lengths.{lengths-of}
 use Rattle.lent.proofs.Portions.{refused-as, length-refused, state-refused, state-played}
 use Rattle.lent.proofs.portion_of.Statement.{statement}
 use Rattle.lent.proofs.portion_of.Tie as tie
-use Rattle.lent.proofs.portion_of.Reads as reads
-use Rattle.lent.proofs.portion_of.Lts as lts
-use Rattle.portions.proofs.portion.Reads as portion-reads
-use Rattle.lent.proofs.is_state.Reads as is-state-reads
-use Rattle.lengths.proofs.refusal.Reads as refusal-reads
-use Rattle.lent.proofs.refused.Reads as refused-reads
 
 -- src/lib.rt:254:9
 refusal-requires : tie.Need-refusal-requires

@@ -2,8 +2,6 @@
 use mathlib.Core.Path.{refl}
 use Rattle.lent.proofs.refused.Statement.{statement}
 use Rattle.lent.proofs.refused.Tie as tie
-use Rattle.lent.proofs.refused.Reads as reads
-use Rattle.lent.proofs.refused.Lts as lts
 
 returns : tie.Need-returns
 returns c = (refl, refl)

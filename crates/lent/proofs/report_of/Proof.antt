@@ -4,11 +4,6 @@ use mathlib.Core.Bool.{true≢false, false≢true}
 use borrow.Author.Needs.{needs}
 use Rattle.lent.proofs.report_of.Statement.{statement}
 use Rattle.lent.proofs.report_of.Tie as tie
-use Rattle.lent.proofs.report_of.Reads as reads
-use Rattle.lent.proofs.report_of.Lts as lts
-use Rattle.lent.proofs.is_state_aside.Reads as is-state-aside-reads
-use Rattle.waitreport.proofs.report_sound.Reads as report-sound-reads
-use Rattle.waitreport.proofs.refused.Reads as refused-reads
 
 is-state-aside-requires : tie.Need-is-state-aside-requires
 is-state-aside-requires c κs = search needs

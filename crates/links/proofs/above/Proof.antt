@@ -1,18 +1,11 @@
 -- The entry of i, which is earlier than i.
-use mathlib.Core.Path.{_≡_, refl, sym, ap, ap₂, _∙_}
-use mathlib.Core.Bool.{Bool, true, false, not, cond, _&&_, _||_}
-use Prim.Native.Nat.{ℕ, suc, _+_, _-_, _*_, _<_, _≤_}
+use mathlib.Core.Path.{refl}
+use Prim.Native.Nat.{_-_}
 use native.Mathlib.Omega.{arith}
-use Rattle.links.specs.Links.{fateOf, passedOf, entryAt, fateIn, passedIn, upIn, Earlier, Linked, open-links}
-use Rattle.links.proofs.Ways.{way-more, way-end, height-step, height-end, rise-up, rise-stop, committed-is, way-is, shows-is}
-use Rattle.audit.specs.Plain.{Ledger, rises, height, blocks}
-use Rattle.history.specs.History.{climbs, isCommitted, isWithin}
-use Rattle.laws.specs.Tests.{same, under, open-tests}
+use Rattle.links.specs.Links.{entryAt}
 use borrow.Author.Needs.{needs}
 use Rattle.links.proofs.above.Statement.{statement}
 use Rattle.links.proofs.above.Tie as tie
-use Rattle.links.proofs.above.Reads as reads
-use Rattle.links.proofs.above.Lts as lts
 
 -- src/lib.rt:34:5
 mul-result : tie.Need-mul-result

@@ -2,22 +2,15 @@
 use lib.ListN.{getD}
 use Rattle.laws.proofs.Tests.{lt-under, under-lt, same-refl, ne-false}
 use Rattle.laws.proofs.Booleans.{refute}
-use mathlib.Core.Path.{_≡_, refl, sym, ap, ap₂, _∙_}
-use mathlib.Core.Bool.{Bool, true, false, not, cond, _&&_, _||_}
-use Prim.Native.Nat.{ℕ, suc, _+_, _-_, _*_, _<_, _≤_}
+use mathlib.Core.Path.{_≡_, sym, ap, _∙_}
+use mathlib.Core.Bool.{not}
+use Prim.Native.Nat.{_-_}
 use native.Mathlib.Omega.{arith}
-use Rattle.links.specs.Links.{fateOf, passedOf, entryAt, fateIn, passedIn, upIn, Earlier, Linked, open-links}
-use Rattle.links.proofs.Ways.{way-more, way-end, height-step, height-end, rise-up, rise-stop, committed-is, way-is, shows-is}
-use Rattle.audit.specs.Plain.{Ledger, rises, height, blocks}
-use Rattle.history.specs.History.{climbs, isCommitted, isWithin}
-use Rattle.laws.specs.Tests.{same, under, open-tests}
+use Rattle.links.proofs.Ways.{way-is}
+use Rattle.laws.specs.Tests.{same, under}
 use borrow.Author.Needs.{needs}
 use Rattle.links.proofs.blocks.Statement.{statement}
 use Rattle.links.proofs.blocks.Tie as tie
-use Rattle.links.proofs.blocks.Reads as reads
-use Rattle.links.proofs.blocks.Lts as lts
-use Rattle.links.proofs.stands.Reads as stands-reads
-use Rattle.links.proofs.within.Reads as within-reads
 
 -- src/lib.rt:98:9
 stands-requires : tie.Need-stands-requires

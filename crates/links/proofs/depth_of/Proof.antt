@@ -1,19 +1,13 @@
 -- What is counted so far and the height from here come to the height of i.
-use mathlib.Core.Path.{_≡_, refl, sym, ap, ap₂, _∙_}
-use mathlib.Core.Bool.{Bool, true, false, not, cond, _&&_, _||_}
-use Prim.Native.Nat.{ℕ, suc, _+_, _-_, _*_, _<_, _≤_}
+use mathlib.Core.Path.{_≡_}
+use Prim.Native.Nat.{_+_, _-_, _≤_}
 use native.Mathlib.Omega.{arith}
 use borrow.Author.Needs.{needs}
-use Rattle.links.specs.Links.{fateOf, passedOf, entryAt, fateIn, passedIn, upIn, Earlier, Linked, open-links}
-use Rattle.links.proofs.Ways.{way-more, way-end, height-step, height-end, rise-up, rise-stop, committed-is, way-is, shows-is}
-use Rattle.audit.specs.Plain.{Ledger, rises, height, blocks}
-use Rattle.history.specs.History.{climbs, isCommitted, isWithin}
-use Rattle.laws.specs.Tests.{same, under, open-tests}
+use Rattle.links.specs.Links.{entryAt}
+use Rattle.links.proofs.Ways.{height-step, height-end}
+use Rattle.audit.specs.Plain.{height}
 use Rattle.links.proofs.depth_of.Statement.{statement}
 use Rattle.links.proofs.depth_of.Tie as tie
-use Rattle.links.proofs.depth_of.Reads as reads
-use Rattle.links.proofs.depth_of.Lts as lts
-use Rattle.links.proofs.above.Reads as above-reads
 
 abbrev Inv-loop : tie.InvT-loop
 Inv-loop parent i at₀ d₀ at d =

@@ -1,20 +1,13 @@
 -- A way that goes up is one step shorter; one that does not has ended.
-use mathlib.Core.Path.{_≡_, refl, sym, ap, ap₂, _∙_}
-use mathlib.Core.Bool.{Bool, true, false, not, cond, _&&_, _||_}
-use Prim.Native.Nat.{ℕ, suc, _+_, _-_, _*_, _<_, _≤_}
+use mathlib.Core.Path.{sym, _∙_}
+use Prim.Native.Nat.{_-_}
 use native.Mathlib.Omega.{arith}
-use Rattle.links.specs.Links.{fateOf, passedOf, entryAt, fateIn, passedIn, upIn, Earlier, Linked, open-links}
-use Rattle.links.proofs.Ways.{way-more, way-end, height-step, height-end, rise-up, rise-stop, committed-is, way-is, shows-is}
-use Rattle.audit.specs.Plain.{Ledger, rises, height, blocks}
-use Rattle.history.specs.History.{climbs, isCommitted, isWithin}
-use Rattle.laws.specs.Tests.{same, under, open-tests}
+use Rattle.links.specs.Links.{entryAt, fateIn, passedIn, upIn}
+use Rattle.links.proofs.Ways.{rise-up, rise-stop}
+use Rattle.audit.specs.Plain.{rises}
 use borrow.Author.Needs.{needs}
 use Rattle.links.proofs.one_up.Statement.{statement}
 use Rattle.links.proofs.one_up.Tie as tie
-use Rattle.links.proofs.one_up.Reads as reads
-use Rattle.links.proofs.one_up.Lts as lts
-use Rattle.links.proofs.above.Reads as above-reads
-use Rattle.links.proofs.goes_up.Reads as goes-up-reads
 
 -- src/lib.rt:44:16
 element-copy-out-goes-up : tie.Need-element-copy-out-goes-up

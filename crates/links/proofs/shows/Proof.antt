@@ -1,23 +1,12 @@
 -- By where the write of i stands: with one that survives, or else on the reader's line or off it.
 use lib.ListN.{getD}
-use Rattle.laws.proofs.Tests.{lt-under, under-lt, same-refl, ne-false}
-use Rattle.laws.proofs.Booleans.{refute}
-use mathlib.Core.Path.{_≡_, refl, sym, ap, ap₂, _∙_}
-use mathlib.Core.Bool.{Bool, true, false, not, cond, _&&_, _||_}
-use Prim.Native.Nat.{ℕ, suc, _+_, _-_, _*_, _<_, _≤_}
-use native.Mathlib.Omega.{arith}
-use Rattle.links.specs.Links.{fateOf, passedOf, entryAt, fateIn, passedIn, upIn, Earlier, Linked, open-links}
-use Rattle.links.proofs.Ways.{way-more, way-end, height-step, height-end, rise-up, rise-stop, committed-is, way-is, shows-is}
-use Rattle.audit.specs.Plain.{Ledger, rises, height, blocks}
-use Rattle.history.specs.History.{climbs, isCommitted, isWithin}
-use Rattle.laws.specs.Tests.{same, under, open-tests}
+use Rattle.laws.proofs.Tests.{same-refl, ne-false}
+use mathlib.Core.Path.{sym, _∙_}
+use Prim.Native.Nat.{_-_}
+use Rattle.links.proofs.Ways.{shows-is}
 use borrow.Author.Needs.{needs}
 use Rattle.links.proofs.shows.Statement.{statement}
 use Rattle.links.proofs.shows.Tie as tie
-use Rattle.links.proofs.shows.Reads as reads
-use Rattle.links.proofs.shows.Lts as lts
-use Rattle.links.proofs.stands.Reads as stands-reads
-use Rattle.links.proofs.within.Reads as within-reads
 
 -- src/lib.rt:113:9
 stands-requires : tie.Need-stands-requires

@@ -1,19 +1,12 @@
 -- The way from here ends where the way from i does; it is at its end where no step is left.
-use mathlib.Core.Path.{_≡_, refl, sym, ap, ap₂, _∙_}
-use mathlib.Core.Bool.{Bool, true, false, not, cond, _&&_, _||_}
-use Prim.Native.Nat.{ℕ, suc, _+_, _-_, _*_, _<_, _≤_}
+use mathlib.Core.Path.{_≡_}
+use Prim.Native.Nat.{_-_, _≤_}
 use native.Mathlib.Omega.{arith}
 use borrow.Author.Needs.{needs}
-use Rattle.links.specs.Links.{fateOf, passedOf, entryAt, fateIn, passedIn, upIn, Earlier, Linked, open-links}
-use Rattle.links.proofs.Ways.{way-more, way-end, height-step, height-end, rise-up, rise-stop, committed-is, way-is, shows-is}
-use Rattle.audit.specs.Plain.{Ledger, rises, height, blocks}
-use Rattle.history.specs.History.{climbs, isCommitted, isWithin}
-use Rattle.laws.specs.Tests.{same, under, open-tests}
+use Rattle.links.specs.Links.{entryAt, upIn}
+use Rattle.audit.specs.Plain.{rises}
 use Rattle.links.proofs.stands.Statement.{statement}
 use Rattle.links.proofs.stands.Tie as tie
-use Rattle.links.proofs.stands.Reads as reads
-use Rattle.links.proofs.stands.Lts as lts
-use Rattle.links.proofs.one_up.Reads as one-up-reads
 
 abbrev Inv-loop : tie.InvT-loop
 Inv-loop parent fate locks i c₀ c =

@@ -7,8 +7,6 @@ use borrow.Author.Needs.{needs}
 use Rattle.arrays.specs.Changes.{accessWhen, barring}
 use Rattle.locks.proofs.barring_place.Statement.{statement}
 use Rattle.locks.proofs.barring_place.Tie as tie
-use Rattle.locks.proofs.barring_place.Reads as reads
-use Rattle.locks.proofs.barring_place.Lts as lts
 
 mul-result : tie.Need-mul-result
 mul-result c = search needs

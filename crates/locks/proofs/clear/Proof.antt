@@ -8,8 +8,6 @@ use borrow.Author.Needs.{needs}
 use borrow.Author.Fill.{fill-none, fill-more}
 use Rattle.locks.proofs.clear.Statement.{statement}
 use Rattle.locks.proofs.clear.Tie as tie
-use Rattle.locks.proofs.clear.Reads as reads
-use Rattle.locks.proofs.clear.Lts as lts
 
 abbrev Inv-loop : tie.InvT-loop
 Inv-loop s₀ n i₀ s i =

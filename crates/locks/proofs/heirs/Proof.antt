@@ -8,10 +8,6 @@ use Rattle.laws.specs.Bits.{bits}
 use Rattle.laws.specs.Tests.{same}
 use Rattle.locks.proofs.heirs.Statement.{statement}
 use Rattle.locks.proofs.heirs.Tie as tie
-use Rattle.locks.proofs.heirs.Reads as reads
-use Rattle.locks.proofs.heirs.Lts as lts
-use Rattle.sets.proofs.with.Reads as with-reads
-use Rattle.sets.proofs.without.Reads as without-reads
 
 without-requires : tie.Need-without-requires
 without-requires c κs = search needs

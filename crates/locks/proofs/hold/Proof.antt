@@ -12,11 +12,6 @@ use Rattle.laws.proofs.Booleans.{not-true, not-false}
 use Rattle.locks.proofs.Granting.{joined-as}
 use Rattle.locks.proofs.hold.Statement.{statement}
 use Rattle.locks.proofs.hold.Tie as tie
-use Rattle.locks.proofs.hold.Reads as reads
-use Rattle.locks.proofs.hold.Lts as lts
-use Rattle.sets.proofs.with.Reads as with-reads
-use Rattle.numbers.proofs.RecordNumber.index.Reads as index-reads
-use Rattle.numbers.proofs.TransactionNumber.number.Reads as number-reads
 
 number-requires : tie.Need-number-requires
 number-requires c κs = search needs

@@ -1,17 +1,11 @@
 -- The set in any mode is looked at.
 use mathlib.Core.Path.{ap₂, _∙_}
 use Prim.Native.Nat.{ℕ, _*_, _-_}
-use lib.ListN.{set}
 use borrow.Author.Needs.{needs}
 use Rattle.sets.specs.Sets.{sets}
 use Rattle.arrays.specs.View.{anyMode}
 use Rattle.locks.proofs.holds.Statement.{statement}
 use Rattle.locks.proofs.holds.Tie as tie
-use Rattle.locks.proofs.holds.Reads as reads
-use Rattle.locks.proofs.holds.Lts as lts
-use Rattle.sets.proofs.contains.Reads as contains-reads
-use Rattle.numbers.proofs.RecordNumber.index.Reads as index-reads
-use Rattle.numbers.proofs.TransactionNumber.number.Reads as number-reads
 
 index-requires : tie.Need-index-requires
 index-requires c κs = search needs

@@ -10,10 +10,6 @@ use Rattle.arrays.specs.Changes.{heirsOf, inheriting}
 use Rattle.arrays.proofs.Sweep.{Upto, upto-none, upto-more, upto-all, inheriting-past}
 use Rattle.locks.proofs.inherit.Statement.{statement}
 use Rattle.locks.proofs.inherit.Tie as tie
-use Rattle.locks.proofs.inherit.Reads as reads
-use Rattle.locks.proofs.inherit.Lts as lts
-use Rattle.locks.proofs.heirs.Reads as heirs-reads
-use Rattle.sets.proofs.contains.Reads as contains-reads
 
 abbrev Inv-loop : tie.InvT-loop
 Inv-loop held retained₀ n t p k₀ retained k =

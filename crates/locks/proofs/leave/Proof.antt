@@ -10,9 +10,6 @@ use Rattle.arrays.specs.Changes.{less, leaving}
 use Rattle.arrays.proofs.Sweep.{Upto, upto-none, upto-more, upto-all, leaving-past}
 use Rattle.locks.proofs.leave.Statement.{statement}
 use Rattle.locks.proofs.leave.Tie as tie
-use Rattle.locks.proofs.leave.Reads as reads
-use Rattle.locks.proofs.leave.Lts as lts
-use Rattle.sets.proofs.minus.Reads as minus-reads
 
 abbrev Inv-loop : tie.InvT-loop
 Inv-loop s₀ n gone k₀ s k =

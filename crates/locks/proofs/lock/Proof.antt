@@ -4,20 +4,11 @@ use mathlib.Core.Bool.{Bool, cond}
 use Prim.Native.Nat.{_-_}
 use borrow.Author.Needs.{needs}
 use Rattle.sets.specs.Sets.{sets}
-use Rattle.arrays.specs.Changes.{accessWhen, openTo, joinedFor}
+use Rattle.arrays.specs.Changes.{accessWhen, joinedFor}
 use Rattle.numbers.specs.Named.{transactionOf, recordOf}
 use Rattle.locks.proofs.Granting.{open-is, asked}
 use Rattle.locks.proofs.lock.Statement.{statement}
 use Rattle.locks.proofs.lock.Tie as tie
-use Rattle.locks.proofs.lock.Reads as reads
-use Rattle.locks.proofs.lock.Lts as lts
-use Rattle.locks.proofs.barring_place.Reads as barring-place-reads
-use Rattle.locks.proofs.hold.Reads as hold-reads
-use Rattle.sets.proofs.single.Reads as single-reads
-use Rattle.sets.proofs.within.Reads as within-reads
-use Rattle.numbers.proofs.RecordNumber.index.Reads as index-reads
-use Rattle.numbers.proofs.TransactionNumber.number.Reads as number-reads
-use Rattle.numbers.proofs.TransactionNumber.index.Reads as index-reads-2
 
 index-requires : tie.Need-index-requires
 index-requires c κs = search needs

@@ -7,11 +7,6 @@ use Rattle.arrays.specs.Changes.{leaving}
 use borrow.Author.Needs.{needs}
 use Rattle.locks.proofs.pass.Statement.{statement}
 use Rattle.locks.proofs.pass.Tie as tie
-use Rattle.locks.proofs.pass.Reads as reads
-use Rattle.locks.proofs.pass.Lts as lts
-use Rattle.locks.proofs.inherit.Reads as inherit-reads
-use Rattle.locks.proofs.leave.Reads as leave-reads
-use Rattle.sets.proofs.single.Reads as single-reads
 
 inherit-requires : tie.Need-inherit-requires
 inherit-requires c κs = search needs

@@ -6,9 +6,6 @@ use Rattle.sets.specs.Sets.{sets}
 use Rattle.arrays.specs.Changes.{reporting}
 use Rattle.locks.proofs.report.Statement.{statement}
 use Rattle.locks.proofs.report.Tie as tie
-use Rattle.locks.proofs.report.Reads as reads
-use Rattle.locks.proofs.report.Lts as lts
-use Rattle.locks.proofs.inherit.Reads as inherit-reads
 
 inherit-requires : tie.Need-inherit-requires
 inherit-requires c κs = (c .before .before .before .before .pre .0, c .before .before .before .before .pre .1 (c .before .if1 .taken), c .before .before .before .before .pre .2, c .before .before .before .before .pre .3)

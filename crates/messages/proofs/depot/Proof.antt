@@ -1,15 +1,11 @@
 -- A state or a message that there isn't; an entry that is 0; an entry that isn't.
-use mathlib.Core.Path.{_≡_, sym, ap, _∙_}
-use Prim.Native.Nat.{ℕ, _<_, _≤_}
+use Prim.Native.Nat.{_<_}
 use native.Mathlib.Omega.{arith}
 use denote.Ref.{now}
 use borrow.Author.Needs.{needs}
 use Rattle.messages.proofs.Entries.{leaves, no-state, no-message, none-at, some-at}
 use Rattle.messages.proofs.depot.Statement.{statement}
 use Rattle.messages.proofs.depot.Tie as tie
-use Rattle.messages.proofs.depot.Reads as reads
-use Rattle.messages.proofs.depot.Lts as lts
-use Rattle.messages.proofs.place.Reads as place-reads
 
 returns : tie.Need-returns
 returns c = let a = c .before .before .args in leaves (no-state (now (a .state)) (a .message) (now (a .reply)) (c .if1 .taken))

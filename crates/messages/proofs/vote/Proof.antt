@@ -1,14 +1,10 @@
 -- By kind.
-use mathlib.Core.Path.{_≡_, refl, sym, ap, _∙_}
-use Prim.Native.Nat.{ℕ}
+use mathlib.Core.Path.{sym, _∙_}
 use borrow.Author.Needs.{needs}
 use Rattle.laws.specs.Tests.{same}
 use Rattle.messages.proofs.Votes.{on-prepare, on-query, on-other}
 use Rattle.messages.proofs.vote.Statement.{statement}
 use Rattle.messages.proofs.vote.Tie as tie
-use Rattle.messages.proofs.vote.Reads as reads
-use Rattle.messages.proofs.vote.Lts as lts
-use Rattle.messages.proofs.word.Reads as word-reads
 
 word-requires : tie.Need-word-requires
 word-requires c κs = search needs

@@ -1,12 +1,10 @@
 -- Yes is 1, no is 2.
-use mathlib.Core.Path.{_≡_, refl, sym, ap, _∙_}
+use mathlib.Core.Path.{refl}
 use Rattle.agreement.specs.Messages.{inputOf}
 use Rattle.messages.specs.Codes.{messageCode}
 use Rattle.messages.specs.Votes.{said}
 use Rattle.messages.proofs.word.Statement.{statement}
 use Rattle.messages.proofs.word.Tie as tie
-use Rattle.messages.proofs.word.Reads as reads
-use Rattle.messages.proofs.word.Lts as lts
 
 returns : tie.Need-returns
 unfolding said inputOf messageCode

@@ -1,14 +1,10 @@
 -- The age of one of sixteen records.
-use borrow.Author.Needs.{needs}
 use mathlib.Core.Path.{refl}
 use mathlib.Core.Logic.{inl}
 use Rattle.rules.specs.Editions.{geometry1}
 use Rattle.commitpage.proofs.Places.{layout1}
 use Rattle.nekahuiro.proofs.nekahuiro_age.Statement.{statement}
 use Rattle.nekahuiro.proofs.nekahuiro_age.Tie as tie
-use Rattle.nekahuiro.proofs.nekahuiro_age.Reads as reads
-use Rattle.nekahuiro.proofs.nekahuiro_age.Lts as lts
-use Rattle.records.proofs.tell.Reads as tell-reads
 
 tell-requires : tie.Need-tell-requires
 tell-requires c κs = (inl refl, λ e. refl)

@@ -2,9 +2,6 @@
 use borrow.Author.Needs.{needs}
 use Rattle.nekahuiro.proofs.nekahuiro_audit.Statement.{statement}
 use Rattle.nekahuiro.proofs.nekahuiro_audit.Tie as tie
-use Rattle.nekahuiro.proofs.nekahuiro_audit.Reads as reads
-use Rattle.nekahuiro.proofs.nekahuiro_audit.Lts as lts
-use Rattle.verdict.proofs.audit.Reads as audit-reads
 
 audit-requires : tie.Need-audit-requires
 audit-requires c κs = search needs

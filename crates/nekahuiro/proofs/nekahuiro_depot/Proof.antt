@@ -2,9 +2,6 @@
 use borrow.Author.Needs.{needs}
 use Rattle.nekahuiro.proofs.nekahuiro_depot.Statement.{statement}
 use Rattle.nekahuiro.proofs.nekahuiro_depot.Tie as tie
-use Rattle.nekahuiro.proofs.nekahuiro_depot.Reads as reads
-use Rattle.nekahuiro.proofs.nekahuiro_depot.Lts as lts
-use Rattle.messages.proofs.depot.Reads as depot-reads
 
 depot-requires : tie.Need-depot-requires
 depot-requires c κs = search needs

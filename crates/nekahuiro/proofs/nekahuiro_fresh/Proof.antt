@@ -6,9 +6,6 @@ use Rattle.rules.specs.Editions.{geometry1}
 use Rattle.commitpage.proofs.Places.{layout1}
 use Rattle.nekahuiro.proofs.nekahuiro_fresh.Statement.{statement}
 use Rattle.nekahuiro.proofs.nekahuiro_fresh.Tie as tie
-use Rattle.nekahuiro.proofs.nekahuiro_fresh.Reads as reads
-use Rattle.nekahuiro.proofs.nekahuiro_fresh.Lts as lts
-use Rattle.records.proofs.lay_fresh.Reads as lay-fresh-reads
 
 lay-fresh-requires : tie.Need-lay-fresh-requires
 lay-fresh-requires c κs = inl refl

@@ -1,6 +1,6 @@
 -- The lengths decide; where they are right a portion from the start is the run.
 use borrow.Author.Needs.{needs}
-use mathlib.Core.Path.{_≡_, refl, sym, _∙_}
+use mathlib.Core.Path.{refl, sym, _∙_}
 use native.Mathlib.Omega.{arith}
 use Rattle.lengths.proofs.Lengths.{lengths-of}
 use Rattle.rules.specs.Editions.{geometry1, edition1}
@@ -10,11 +10,6 @@ use Rattle.running.proofs.Running.{run-refused, run-played, from-start}
 use Rattle.nekahuiro.proofs.Running.{signed}
 use Rattle.nekahuiro.proofs.nekahuiro_run.Statement.{statement}
 use Rattle.nekahuiro.proofs.nekahuiro_run.Tie as tie
-use Rattle.nekahuiro.proofs.nekahuiro_run.Reads as reads
-use Rattle.nekahuiro.proofs.nekahuiro_run.Lts as lts
-use Rattle.portions.proofs.portion.Reads as portion-reads
-use Rattle.portions.proofs.start.Reads as start-reads
-use Rattle.lengths.proofs.refusal.Reads as refusal-reads
 
 -- src/lib.rt:185:9
 refusal-requires : tie.Need-refusal-requires

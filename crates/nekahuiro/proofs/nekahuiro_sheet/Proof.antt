@@ -2,9 +2,6 @@
 use borrow.Author.Needs.{needs}
 use Rattle.nekahuiro.proofs.nekahuiro_sheet.Statement.{statement}
 use Rattle.nekahuiro.proofs.nekahuiro_sheet.Tie as tie
-use Rattle.nekahuiro.proofs.nekahuiro_sheet.Reads as reads
-use Rattle.nekahuiro.proofs.nekahuiro_sheet.Lts as lts
-use Rattle.sheetlist.proofs.list_of.Reads as list-of-reads
 
 list-of-requires : tie.Need-list-of-requires
 list-of-requires c κs = search needs

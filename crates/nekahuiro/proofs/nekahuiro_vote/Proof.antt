@@ -2,9 +2,6 @@
 use borrow.Author.Needs.{needs}
 use Rattle.nekahuiro.proofs.nekahuiro_vote.Statement.{statement}
 use Rattle.nekahuiro.proofs.nekahuiro_vote.Tie as tie
-use Rattle.nekahuiro.proofs.nekahuiro_vote.Reads as reads
-use Rattle.nekahuiro.proofs.nekahuiro_vote.Lts as lts
-use Rattle.messages.proofs.vote.Reads as vote-reads
 
 vote-requires : tie.Need-vote-requires
 vote-requires c κs = search needs

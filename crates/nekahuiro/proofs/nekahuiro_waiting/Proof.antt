@@ -20,7 +20,7 @@ use types.Part.{whole, sub, look-in}
 use types.Run.{look, look-raw, init, store-raw, forget, stop, hop, fld, from, load, and-then, no-more, of-opd, land, assigns, returns, enter, alloc1, alloc0, params1, pass1, pass0, free1, free0}
 use types.SemTy.{Body}
 use sound.WpLaws.{FmC, fmOf, WpFn-mono}
-use denote.RattleType.{RattleType, owns}
+use denote.RattleType.{owns}
 use denote.Laws.{Is, shows}
 use denote.Memory.{mem}
 use denote.Plain.{uint-makes}
@@ -28,7 +28,7 @@ use denote.Builtin.{u8}
 use denote.Ref.{RefT, ShrRef, MutRef, ptr, name, now, ptr-vals, shr-tells, mut-tells}
 use denote.Slice.{ShrSlice, Room, slice-vals, sliceVal, shr-slice-tells}
 use denote.Signature.{Slot, plain, shrRefTo, shrSliceOf}
-use denote.Steps.{only, opens, closes, looks, shuts, owned, peeks, heard, nothing}
+use denote.Steps.{opens, closes, looks, shuts, owned, peeks, heard, nothing}
 use denote.Struct.Laws as LL
 use denote.Struct.Steps.{spelt}
 use denote.Triple.Statement.{Contract, Triple}
@@ -50,7 +50,6 @@ use Rattle.waitreport.proofs.Reporting.{reported}
 use Rattle.portions.proofs.Engine as D
 use Rattle.portions.proofs.Engine.Laws as D′
 use Rattle.waitrows.proofs.Row as R
-use Rattle.waitrows.proofs.Row.Laws as R′
 use Rattle.waitrows.proofs.Rows as S
 use Rattle.waitrows.proofs.Rows.Laws as S′
 use Rattle.waitreport.proofs.Ring as G

@@ -1,5 +1,4 @@
 -- The age of one of sixty-four records.
-use borrow.Author.Needs.{needs}
 use mathlib.Core.Path.{refl, sym}
 use mathlib.Core.Bool.{true≢false}
 use mathlib.Core.Logic.{inr}
@@ -7,9 +6,6 @@ use Rattle.rules.specs.Editions.{geometry2}
 use Rattle.commitpage.proofs.Places.{layout2}
 use Rattle.nekahuiro_edition2.proofs.nekahuiro_age_edition2.Statement.{statement}
 use Rattle.nekahuiro_edition2.proofs.nekahuiro_age_edition2.Tie as tie
-use Rattle.nekahuiro_edition2.proofs.nekahuiro_age_edition2.Reads as reads
-use Rattle.nekahuiro_edition2.proofs.nekahuiro_age_edition2.Lts as lts
-use Rattle.records.proofs.tell.Reads as tell-reads
 
 tell-requires : tie.Need-tell-requires
 tell-requires c κs = (inr refl, λ e. absurd (true≢false (sym e)))

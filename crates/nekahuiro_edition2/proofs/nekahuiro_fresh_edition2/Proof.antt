@@ -6,9 +6,6 @@ use Rattle.rules.specs.Editions.{geometry2}
 use Rattle.commitpage.proofs.Places.{layout2}
 use Rattle.nekahuiro_edition2.proofs.nekahuiro_fresh_edition2.Statement.{statement}
 use Rattle.nekahuiro_edition2.proofs.nekahuiro_fresh_edition2.Tie as tie
-use Rattle.nekahuiro_edition2.proofs.nekahuiro_fresh_edition2.Reads as reads
-use Rattle.nekahuiro_edition2.proofs.nekahuiro_fresh_edition2.Lts as lts
-use Rattle.records.proofs.lay_fresh.Reads as lay-fresh-reads
 
 lay-fresh-requires : tie.Need-lay-fresh-requires
 lay-fresh-requires c κs = inr refl

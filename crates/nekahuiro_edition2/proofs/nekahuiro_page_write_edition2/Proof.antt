@@ -16,15 +16,6 @@ use Rattle.pagewrites.proofs.Numbered.{word-is}
 use Rattle.nekahuiro_edition2.proofs.PageWrites.{list-refused, event-refused, list-asked}
 use Rattle.nekahuiro_edition2.proofs.nekahuiro_page_write_edition2.Statement.{statement}
 use Rattle.nekahuiro_edition2.proofs.nekahuiro_page_write_edition2.Tie as tie
-use Rattle.nekahuiro_edition2.proofs.nekahuiro_page_write_edition2.Reads as reads
-use Rattle.nekahuiro_edition2.proofs.nekahuiro_page_write_edition2.Lts as lts
-use Rattle.event.proofs.edition2.Edition2.of_word.Reads as of-word-reads
-use Rattle.event.proofs.edition2.Edition2.table.Reads as table-reads
-use Rattle.event.proofs.edition2.Edition2.word_at.Reads as word-at-reads
-use Rattle.lengths.proofs.question.Reads as question-reads
-use Rattle.lengths.proofs.refusal.Reads as refusal-reads
-use Rattle.pagewrites.proofs.page_write.Reads as page-write-reads
-use Rattle.portions_edition2.proofs.from_start.Reads as from-start-reads
 
 refusal-requires : tie.Need-refusal-requires
 refusal-requires c κs = (omega arith, omega arith, omega arith)

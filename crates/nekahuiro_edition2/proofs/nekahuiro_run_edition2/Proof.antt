@@ -16,10 +16,6 @@ use Rattle.running.specs.Running.{Ran}
 use Rattle.running.proofs.Running.{run-refused, run-played, from-start, ran-demand, ran-serial}
 use Rattle.nekahuiro_edition2.proofs.nekahuiro_run_edition2.Statement.{statement}
 use Rattle.nekahuiro_edition2.proofs.nekahuiro_run_edition2.Tie as tie
-use Rattle.nekahuiro_edition2.proofs.nekahuiro_run_edition2.Reads as reads
-use Rattle.nekahuiro_edition2.proofs.nekahuiro_run_edition2.Lts as lts
-use Rattle.portions_edition2.proofs.from_start.Reads as from-start-reads
-use Rattle.lengths.proofs.refusal.Reads as refusal-reads
 
 -- a run, with what holds of it where it is played
 signed : {store events work answers store′ work′ answers′ : List ℕ} {n : ℕ} → Ran edition2 store events work answers n store′ work′ answers′

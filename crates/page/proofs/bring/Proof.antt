@@ -7,10 +7,6 @@ use Rattle.laws.specs.Functions.{updated}
 use Rattle.rules.specs.Store.{pagesOf}
 use Rattle.page.proofs.bring.Statement.{statement}
 use Rattle.page.proofs.bring.Tie as tie
-use Rattle.page.proofs.bring.Reads as reads
-use Rattle.page.proofs.bring.Lts as lts
-use Rattle.page.proofs.put_page.Reads as put-page-reads
-use Rattle.page.proofs.read_page.Reads as read-page-reads
 
 read-page-requires : tie.Need-read-page-requires
 read-page-requires c κs = search needs

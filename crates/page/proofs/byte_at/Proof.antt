@@ -6,8 +6,6 @@ use lib.Seq.{getD-take, getD-drop}
 use native.Mathlib.Omega.{arith}
 use Rattle.page.proofs.byte_at.Statement.{statement}
 use Rattle.page.proofs.byte_at.Tie as tie
-use Rattle.page.proofs.byte_at.Reads as reads
-use Rattle.page.proofs.byte_at.Lts as lts
 
 add-result : tie.Need-add-result
 add-result c = search needs

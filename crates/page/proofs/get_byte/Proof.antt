@@ -5,8 +5,6 @@ use Rattle.page.proofs.Pages.{byte-of}
 use borrow.Author.Needs.{needs}
 use Rattle.page.proofs.get_byte.Statement.{statement}
 use Rattle.page.proofs.get_byte.Tie as tie
-use Rattle.page.proofs.get_byte.Reads as reads
-use Rattle.page.proofs.get_byte.Lts as lts
 
 -- src/lib.rt:71:11
 mul-at : tie.Need-mul-at

@@ -3,9 +3,6 @@ use Rattle.rules.specs.Store.{pagesOf}
 use borrow.Author.Needs.{needs}
 use Rattle.page.proofs.get_page.Statement.{statement}
 use Rattle.page.proofs.get_page.Tie as tie
-use Rattle.page.proofs.get_page.Reads as reads
-use Rattle.page.proofs.get_page.Lts as lts
-use Rattle.page.proofs.read_page.Reads as read-page-reads
 
 -- src/lib.rt:44:22
 mul-read-page : tie.Need-mul-read-page

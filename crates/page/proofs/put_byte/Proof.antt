@@ -4,8 +4,6 @@ use Rattle.page.proofs.Pages.{pages-set}
 use borrow.Author.Needs.{needs}
 use Rattle.page.proofs.put_byte.Statement.{statement}
 use Rattle.page.proofs.put_byte.Tie as tie
-use Rattle.page.proofs.put_byte.Reads as reads
-use Rattle.page.proofs.put_byte.Lts as lts
 
 -- src/lib.rt:79:11
 mul-bytes : tie.Need-mul-bytes

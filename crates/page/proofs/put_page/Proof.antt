@@ -11,9 +11,6 @@ use Rattle.page.proofs.Pages.{put-at}
 use borrow.Author.Needs.{needs}
 use Rattle.page.proofs.put_page.Statement.{statement}
 use Rattle.page.proofs.put_page.Tie as tie
-use Rattle.page.proofs.put_page.Reads as reads
-use Rattle.page.proofs.put_page.Lts as lts
-use Rattle.page.proofs.write_page.Reads as write-page-reads
 
 -- src/lib.rt:35:14
 mul-at : tie.Need-mul-at

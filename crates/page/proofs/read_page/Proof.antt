@@ -8,8 +8,6 @@ use lib.ListN.{length, getD, drop, length-take, length-drop}
 use lib.Seq.{getD-take, getD-drop}
 use Rattle.page.proofs.read_page.Statement.{statement}
 use Rattle.page.proofs.read_page.Tie as tie
-use Rattle.page.proofs.read_page.Reads as reads
-use Rattle.page.proofs.read_page.Lts as lts
 
 abbrev Inv-loop : tie.InvT-loop
 Inv-loop bytes at page₀ i₀ page i =

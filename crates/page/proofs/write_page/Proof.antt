@@ -7,8 +7,6 @@ use borrow.Author.Needs.{needs}
 use lib.ListN.{length, getD}
 use Rattle.page.proofs.write_page.Statement.{statement}
 use Rattle.page.proofs.write_page.Tie as tie
-use Rattle.page.proofs.write_page.Reads as reads
-use Rattle.page.proofs.write_page.Lts as lts
 
 abbrev Inv-loop : tie.InvT-loop
 Inv-loop part₀ page i₀ part i =

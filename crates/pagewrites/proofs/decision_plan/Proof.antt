@@ -5,11 +5,6 @@ use Rattle.pagewrites.proofs.Planned.{decision-down, decision-other, de
 use borrow.Author.Needs.{needs}
 use Rattle.pagewrites.proofs.decision_plan.Statement.{statement}
 use Rattle.pagewrites.proofs.decision_plan.Tie as tie
-use Rattle.pagewrites.proofs.decision_plan.Reads as reads
-use Rattle.pagewrites.proofs.decision_plan.Lts as lts
-use Rattle.decisions.proofs.is_for.Reads as is-for-reads
-use Rattle.pagewrites.proofs.none.Reads as none-reads
-use Rattle.pagewrites.proofs.of_decision.Reads as of-decision-reads
 
 none-requires : tie.Need-none-requires
 none-requires c κs = search needs

@@ -3,9 +3,6 @@ use Rattle.pagewrites.proofs.Planned.{zero-recovery, some-recovery}
 use borrow.Author.Needs.{needs}
 use Rattle.pagewrites.proofs.of_recovery.Statement.{statement}
 use Rattle.pagewrites.proofs.of_recovery.Tie as tie
-use Rattle.pagewrites.proofs.of_recovery.Reads as reads
-use Rattle.pagewrites.proofs.of_recovery.Lts as lts
-use Rattle.pagewrites.proofs.none.Reads as none-reads
 
 none-requires : tie.Need-none-requires
 none-requires c κs = search needs

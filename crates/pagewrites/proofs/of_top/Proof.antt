@@ -3,9 +3,6 @@ use Rattle.pagewrites.proofs.Planned.{zero-top, some-top}
 use borrow.Author.Needs.{needs}
 use Rattle.pagewrites.proofs.of_top.Statement.{statement}
 use Rattle.pagewrites.proofs.of_top.Tie as tie
-use Rattle.pagewrites.proofs.of_top.Reads as reads
-use Rattle.pagewrites.proofs.of_top.Lts as lts
-use Rattle.pagewrites.proofs.none.Reads as none-reads
 
 none-requires : tie.Need-none-requires
 none-requires c κs = search needs

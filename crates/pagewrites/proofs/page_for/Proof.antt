@@ -3,9 +3,6 @@ use Rattle.pagewrites.proofs.Numbered.{source-stored, source-version}
 use borrow.Author.Needs.{needs}
 use Rattle.pagewrites.proofs.page_for.Statement.{statement}
 use Rattle.pagewrites.proofs.page_for.Tie as tie
-use Rattle.pagewrites.proofs.page_for.Reads as reads
-use Rattle.pagewrites.proofs.page_for.Lts as lts
-use Rattle.page.proofs.get_page.Reads as get-page-reads
 
 add-get-page : tie.Need-add-get-page
 add-get-page c = search needs

@@ -5,10 +5,6 @@ use Rattle.pagewrites.proofs.Planned.{told-as}
 use borrow.Author.Needs.{needs}
 use Rattle.pagewrites.proofs.page_write.Statement.{statement}
 use Rattle.pagewrites.proofs.page_write.Tie as tie
-use Rattle.pagewrites.proofs.page_write.Reads as reads
-use Rattle.pagewrites.proofs.page_write.Lts as lts
-use Rattle.pagewrites.proofs.plan_of.Reads as plan-of-reads
-use Rattle.pagewrites.proofs.put_numbered.Reads as put-numbered-reads
 
 plan-of-requires : tie.Need-plan-of-requires
 plan-of-requires c κs = search needs

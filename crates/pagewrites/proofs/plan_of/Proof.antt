@@ -15,14 +15,6 @@ use Rattle.pagewrites.proofs.Planned.{plans-as, by-number, decision-of,
 use borrow.Author.Needs.{needs}
 use Rattle.pagewrites.proofs.plan_of.Statement.{statement}
 use Rattle.pagewrites.proofs.plan_of.Tie as tie
-use Rattle.pagewrites.proofs.plan_of.Reads as reads
-use Rattle.pagewrites.proofs.plan_of.Lts as lts
-use Rattle.commit.proofs.read_held.Reads as read-held-reads
-use Rattle.numbers.proofs.TransactionNumber.checked.Reads as checked-reads
-use Rattle.pagewrites.proofs.decision_plan.Reads as decision-plan-reads
-use Rattle.pagewrites.proofs.none.Reads as none-reads
-use Rattle.pagewrites.proofs.recovery_plan.Reads as recovery-plan-reads
-use Rattle.pagewrites.proofs.top_plan.Reads as top-plan-reads
 
 read-held-requires : tie.Need-read-held-requires
 read-held-requires c κs = (c .before .before .pre .0, c .before .before .pre .1, c .before .before .pre .6)

@@ -11,15 +11,6 @@ use Rattle.pagewrites.proofs.Numbered.{known-layout, ones-are, there-is
 use borrow.Author.Needs.{needs}
 use Rattle.pagewrites.proofs.put_numbered.Statement.{statement}
 use Rattle.pagewrites.proofs.put_numbered.Tie as tie
-use Rattle.pagewrites.proofs.put_numbered.Reads as reads
-use Rattle.pagewrites.proofs.put_numbered.Lts as lts
-use Rattle.commitpage.proofs.commit_page.Reads as commit-page-reads
-use Rattle.commitpage.proofs.ones.Reads as ones-reads
-use Rattle.commitpage.proofs.prepared_page.Reads as prepared-page-reads
-use Rattle.pagewrites.proofs.length_if.Reads as length-if-reads
-use Rattle.pagewrites.proofs.page_for.Reads as page-for-reads
-use Rattle.pagewrites.proofs.put_write.Reads as put-write-reads
-use Rattle.pagewrites.proofs.record_at.Reads as record-at-reads
 
 cast-n : tie.Need-cast-n
 cast-n c = let f = known-small (c .before .before .before .args .records) (c .before .before .before .pre .0) .0 in search needs

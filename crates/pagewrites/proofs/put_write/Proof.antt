@@ -7,9 +7,6 @@ use Rattle.pagewrites.proofs.Numbered.{spelled}
 use borrow.Author.Needs.{needs}
 use Rattle.pagewrites.proofs.put_write.Statement.{statement}
 use Rattle.pagewrites.proofs.put_write.Tie as tie
-use Rattle.pagewrites.proofs.put_write.Reads as reads
-use Rattle.pagewrites.proofs.put_write.Lts as lts
-use Rattle.page.proofs.write_page.Reads as write-page-reads
 
 slice-write-write : tie.Need-slice-write-write
 slice-write-write c = search needs

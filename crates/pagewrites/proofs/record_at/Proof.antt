@@ -12,11 +12,6 @@ use Rattle.commitpage.specs.Layout.{Layout}
 use Rattle.pagewrites.proofs.Numbered.{turn-record, turn-count, one-more-least}
 use Rattle.pagewrites.proofs.record_at.Statement.{statement}
 use Rattle.pagewrites.proofs.record_at.Tie as tie
-use Rattle.pagewrites.proofs.record_at.Reads as reads
-use Rattle.pagewrites.proofs.record_at.Lts as lts
-use Rattle.commitpage.proofs.names.Reads as names-reads
-use Rattle.pagewrites.proofs.one_more_if.Reads as one-more-if-reads
-use Rattle.pagewrites.proofs.record_if.Reads as record-if-reads
 
 abbrev Inv-loop : tie.InvT-loop
 Inv-loop map records n at₀ seen₀ r₀ at seen r =

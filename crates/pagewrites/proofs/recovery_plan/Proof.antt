@@ -6,11 +6,6 @@ use Rattle.pagewrites.proofs.Planned.{recovery-up, recovery-damaged, re
 use borrow.Author.Needs.{needs}
 use Rattle.pagewrites.proofs.recovery_plan.Statement.{statement}
 use Rattle.pagewrites.proofs.recovery_plan.Tie as tie
-use Rattle.pagewrites.proofs.recovery_plan.Reads as reads
-use Rattle.pagewrites.proofs.recovery_plan.Lts as lts
-use Rattle.commit.proofs.read_map.Reads as read-map-reads
-use Rattle.pagewrites.proofs.none.Reads as none-reads
-use Rattle.pagewrites.proofs.of_recovery.Reads as of-recovery-reads
 
 none-requires : tie.Need-none-requires
 none-requires c κs = search needs

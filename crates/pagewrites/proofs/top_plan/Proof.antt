@@ -7,14 +7,6 @@ use Rattle.pagewrites.proofs.Planned.{top-down, top-unknown, top-parent
 use borrow.Author.Needs.{needs}
 use Rattle.pagewrites.proofs.top_plan.Statement.{statement}
 use Rattle.pagewrites.proofs.top_plan.Tie as tie
-use Rattle.pagewrites.proofs.top_plan.Reads as reads
-use Rattle.pagewrites.proofs.top_plan.Lts as lts
-use Rattle.commitpage.proofs.map_of.Reads as map-of-reads
-use Rattle.numbers.proofs.TransactionNumber.number.Reads as number-reads
-use Rattle.pagewrites.proofs.none.Reads as none-reads
-use Rattle.pagewrites.proofs.of_top.Reads as of-top-reads
-use Rattle.transactions.proofs.children_of.Reads as children-of-reads
-use Rattle.transactions.proofs.has_child.Reads as has-child-reads
 
 number-requires : tie.Need-number-requires
 number-requires c κs = search needs

@@ -11,9 +11,6 @@ use Rattle.clauses.proofs.Decides.{decides-none, decides-more, decides-bound}
 use Rattle.clauses.proofs.Clauses.{none-unlocked, unlocked-decided}
 use Rattle.phase.proofs.are_unlocked.Statement.{statement}
 use Rattle.phase.proofs.are_unlocked.Tie as tie
-use Rattle.phase.proofs.are_unlocked.Reads as reads
-use Rattle.phase.proofs.are_unlocked.Lts as lts
-use Rattle.commitpage.proofs.names.Reads as names-reads
 
 abbrev Inv-loop : tie.InvT-loop
 Inv-loop map held retained ok₀ r₀ ok r =

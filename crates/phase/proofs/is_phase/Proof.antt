@@ -12,13 +12,6 @@ use Rattle.commitpage.proofs.Places.{layout1}
 use Rattle.clauses.proofs.Clauses.{empty-is, idle-decided, phase-decided}
 use Rattle.phase.proofs.is_phase.Statement.{statement}
 use Rattle.phase.proofs.is_phase.Tie as tie
-use Rattle.phase.proofs.is_phase.Reads as reads
-use Rattle.phase.proofs.is_phase.Lts as lts
-use Rattle.commitpage.proofs.read_commit.Reads as read-commit-reads
-use Rattle.page.proofs.get_page.Reads as get-page-reads
-use Rattle.phase.proofs.are_unlocked.Reads as are-unlocked-reads
-use Rattle.phase.proofs.prepared_map.Reads as prepared-map-reads
-use Rattle.sets.proofs.within.Reads as within-reads
 
 within-requires : tie.Need-within-requires
 within-requires c κs = search needs

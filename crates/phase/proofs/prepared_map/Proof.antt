@@ -7,9 +7,6 @@ use Rattle.commitpage.specs.declared.PreparedMap.{PreparedMap}
 use Rattle.clauses.proofs.Clauses.{empty-none}
 use Rattle.phase.proofs.prepared_map.Statement.{statement}
 use Rattle.phase.proofs.prepared_map.Tie as tie
-use Rattle.phase.proofs.prepared_map.Reads as reads
-use Rattle.phase.proofs.prepared_map.Lts as lts
-use Rattle.commitpage.proofs.read_prepared.Reads as read-prepared-reads
 
 returns : tie.Need-returns
 returns c = sym (empty-none geometry1 (c .before .args .page) (c .before .pre (c .if1 .taken)))

@@ -1,7 +1,7 @@
 -- The loop's invariant: the first k events have been played, their answers stand, and the sets of kin are those of the arrays.
 use mathlib.Core.Path.{_≡_, refl, sym}
 use mathlib.Core.Logic.{inl}
-use Prim.Native.Nat.{ℕ, _*_, _-_, _/_, _<_, _≤_}
+use Prim.Native.Nat.{_*_, _-_, _/_, _<_, _≤_}
 use native.Mathlib.Omega.{arith}
 use lib.ListN.{length}
 use borrow.Author.Needs.{needs}
@@ -18,16 +18,6 @@ use Rattle.state.proofs.Parents.{parent-named}
 use Rattle.state.proofs.Playing.{Playing, playing-none, playing-next, playing-all}
 use Rattle.portions.proofs.portion.Statement.{statement}
 use Rattle.portions.proofs.portion.Tie as tie
-use Rattle.portions.proofs.portion.Reads as reads
-use Rattle.portions.proofs.portion.Lts as lts
-use Rattle.engine.proofs.step.Reads as step-reads
-use Rattle.commit.proofs.read_held.Reads as read-held-reads
-use Rattle.event.proofs.Answer.put.Reads as put-reads
-use Rattle.event.proofs.Event.of_word.Reads as of-word-reads
-use Rattle.event.proofs.Event.table.Reads as table-reads
-use Rattle.event.proofs.Event.word_at.Reads as word-at-reads
-use Rattle.transactions.proofs.children_of.Reads as children-of-reads
-use Rattle.transactions.proofs.live_set.Reads as live-set-reads
 
 abbrev Inv-loop : tie.InvT-loop
 Inv-loop e store₀ events work₀ answers₀ up₀ parent₀ depth₀ line₀ held₀ retained₀ writers₀ live₀ children₀ reserved₀ identity₀ table n k₀ store work answers up parent depth line held retained writers live children reserved identity k =

@@ -6,8 +6,6 @@ use Rattle.crashes.proofs.Editions.{served-of}
 use Rattle.crashes.proofs.Falls.{zeros-intact, zeros-down}
 use Rattle.portions.proofs.start.Statement.{statement}
 use Rattle.portions.proofs.start.Tie as tie
-use Rattle.portions.proofs.start.Reads as reads
-use Rattle.portions.proofs.start.Lts as lts
 
 returns : tie.Need-returns
 unfolding records pageCount

@@ -21,16 +21,6 @@ use Rattle.state.proofs.Parents.{parent-named}
 use Rattle.state.proofs.Playing.{Playing, playing-none, playing-next, playing-all}
 use Rattle.portions_edition2.proofs.from_start.Statement.{statement}
 use Rattle.portions_edition2.proofs.from_start.Tie as tie
-use Rattle.portions_edition2.proofs.from_start.Reads as reads
-use Rattle.portions_edition2.proofs.from_start.Lts as lts
-use Rattle.engine.proofs.step.Reads as step-reads
-use Rattle.commit.proofs.read_held.Reads as read-held-reads
-use Rattle.event.proofs.Answer.put.Reads as put-reads
-use Rattle.event.proofs.edition2.Edition2.of_word.Reads as of-word-reads
-use Rattle.event.proofs.edition2.Edition2.table.Reads as table-reads
-use Rattle.event.proofs.edition2.Edition2.word_at.Reads as word-at-reads
-use Rattle.transactions.proofs.children_of.Reads as children-of-reads
-use Rattle.transactions.proofs.live_set.Reads as live-set-reads
 
 -- all zeros stand for the start
 begins : (work store : List ℕ) → length work ≡ 32768 → length store ≡ 4128 → Intact edition2 (zeros 64 work store)

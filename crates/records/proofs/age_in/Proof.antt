@@ -1,5 +1,5 @@
 -- The commit page is read; where it is damaged the age is refused, else it is that of the settled page's stamp.
-use mathlib.Core.Path.{refl, _∙_}
+use mathlib.Core.Path.{_∙_}
 use native.Mathlib.Omega.{arith}
 use Rattle.age.specs.Meaning.{meaning}
 use Rattle.numbers.specs.Named.{recordOf}
@@ -9,15 +9,6 @@ use Rattle.records.proofs.Ages.{told-good, told-bad}
 use borrow.Author.Needs.{needs}
 use Rattle.records.proofs.age_in.Statement.{statement}
 use Rattle.records.proofs.age_in.Tie as tie
-use Rattle.records.proofs.age_in.Reads as reads
-use Rattle.records.proofs.age_in.Lts as lts
-use Rattle.age.proofs.Minutes.judged_by.Reads as judged-by-reads
-use Rattle.age.proofs.Reading.new.Reads as new-reads
-use Rattle.age.proofs.Reading.since.Reads as since-reads
-use Rattle.commitpage.proofs.read_page.Reads as read-page-reads
-use Rattle.page.proofs.get_page.Reads as get-page-reads
-use Rattle.records.proofs.settled_page.Reads as settled-page-reads
-use Rattle.records.proofs.stamp_on.Reads as stamp-on-reads
 
 get-page-requires : tie.Need-get-page-requires
 get-page-requires c κs = search needs

@@ -1,17 +1,12 @@
 -- The refusals in their order, then the age of the record.
 use mathlib.Core.Path.{ap, sym, _∙_}
 use Prim.Native.Nat.{ℕ}
-use native.Mathlib.Omega.{arith}
 use Rattle.commitpage.proofs.Places.{known-small}
 use Rattle.records.specs.Ages.{toldAs, ageIn}
 use Rattle.records.proofs.Ages.{age-short, age-no-record, age-in, named-small, named-below, named-none, tag-none}
 use borrow.Author.Needs.{needs}
 use Rattle.records.proofs.age_of.Statement.{statement}
 use Rattle.records.proofs.age_of.Tie as tie
-use Rattle.records.proofs.age_of.Reads as reads
-use Rattle.records.proofs.age_of.Lts as lts
-use Rattle.numbers.proofs.RecordNumber.checked.Reads as checked-reads
-use Rattle.records.proofs.age_in.Reads as age-in-reads
 
 add-if1 : tie.Need-add-if1
 add-if1 c = let h = known-small _ (c .before .pre .0) .0 in search needs

@@ -1,15 +1,10 @@
 -- Page 0 of a fresh store is the empty commit page, every other is blank.
-use mathlib.Core.Path.{_≡_, refl, sym, _∙_}
 use lib.Pow.{pow-pos}
 use Rattle.laws.specs.Tests.{same}
 use Rattle.laws.proofs.Tests.{ne-false}
 use Rattle.rules.specs.Store.{fresh, blank}
-use borrow.Author.Needs.{needs}
 use Rattle.records.proofs.fresh_page.Statement.{statement}
 use Rattle.records.proofs.fresh_page.Tie as tie
-use Rattle.records.proofs.fresh_page.Reads as reads
-use Rattle.records.proofs.fresh_page.Lts as lts
-use Rattle.commitpage.proofs.commit_page.Reads as commit-page-reads
 
 commit-page-requires : tie.Need-commit-page-requires
 commit-page-requires c κs = (c .before .pre, pow-pos (c .before .args .n))

@@ -1,6 +1,6 @@
 -- A sweep over the pages: those below p are laid.
 use mathlib.Core.Path.{_≡_, sym, ap, subst, _∙_}
-use Prim.Native.Nat.{ℕ, _+_, _-_, _*_, _≤_}
+use Prim.Native.Nat.{ℕ, _+_, _-_, _≤_}
 use native.Mathlib.Omega.{arith}
 use lib.ListN.{length}
 use Rattle.laws.specs.Functions.{updated}
@@ -15,10 +15,6 @@ use Rattle.records.proofs.Laying.{laid-none, laid-more}
 use borrow.Author.Needs.{needs}
 use Rattle.records.proofs.lay.Statement.{statement}
 use Rattle.records.proofs.lay.Tie as tie
-use Rattle.records.proofs.lay.Reads as reads
-use Rattle.records.proofs.lay.Lts as lts
-use Rattle.page.proofs.put_page.Reads as put-page-reads
-use Rattle.records.proofs.fresh_page.Reads as fresh-page-reads
 
 abbrev Inv-loop : tie.InvT-loop
 Inv-loop store₀ n pages p₀ store p = (p ≤ 1 + (n + n)) × (n ≤ 64) × (length store ≡ storeBytes n) × ((g : Geometry) → Layout g n → LaidTo g p store)

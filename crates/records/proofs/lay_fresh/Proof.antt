@@ -4,9 +4,6 @@ use Rattle.commitpage.proofs.Places.{known-small}
 use Rattle.records.proofs.Laying.{fresh-refused, fresh-laid}
 use Rattle.records.proofs.lay_fresh.Statement.{statement}
 use Rattle.records.proofs.lay_fresh.Tie as tie
-use Rattle.records.proofs.lay_fresh.Reads as reads
-use Rattle.records.proofs.lay_fresh.Lts as lts
-use Rattle.records.proofs.lay.Reads as lay-reads
 
 add-if1 : tie.Need-add-if1
 add-if1 c = let h = known-small _ (c .before .pre) .0 in search needs

@@ -7,9 +7,6 @@ use Rattle.age.specs.Meaning.{meaning}
 use Rattle.records.specs.Ages.{ageNumber, ageLeft}
 use Rattle.records.proofs.leave.Statement.{statement}
 use Rattle.records.proofs.leave.Tie as tie
-use Rattle.records.proofs.leave.Reads as reads
-use Rattle.records.proofs.leave.Lts as lts
-use Rattle.age.proofs.Minutes.value.Reads as value-reads
 
 -- src/lib.rt:108:27
 enum-known-judged : tie.Need-enum-known-judged

@@ -7,11 +7,6 @@ use Rattle.numbers.specs.Named.{recordOf}
 use borrow.Author.Needs.{needs}
 use Rattle.records.proofs.settled_page.Statement.{statement}
 use Rattle.records.proofs.settled_page.Tie as tie
-use Rattle.records.proofs.settled_page.Reads as reads
-use Rattle.records.proofs.settled_page.Lts as lts
-use Rattle.commitpage.proofs.names.Reads as names-reads
-use Rattle.numbers.proofs.RecordNumber.index.Reads as index-reads
-use Rattle.numbers.proofs.RecordNumber.number.Reads as number-reads
 
 index-requires : tie.Need-index-requires
 index-requires c κs = search needs

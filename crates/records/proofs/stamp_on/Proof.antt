@@ -4,9 +4,6 @@ use mathlib.Core.Path.{_∙_}
 use Rattle.records.proofs.Ages.{stamp-is}
 use Rattle.records.proofs.stamp_on.Statement.{statement}
 use Rattle.records.proofs.stamp_on.Tie as tie
-use Rattle.records.proofs.stamp_on.Reads as reads
-use Rattle.records.proofs.stamp_on.Lts as lts
-use Rattle.event.proofs.Event.word_at.Reads as word-at-reads
 
 -- src/lib.rt:66:34
 mul-word-at : tie.Need-mul-word-at

@@ -6,12 +6,6 @@ use Rattle.rules.specs.Form.{atomic}
 use Rattle.records.proofs.Ages.{answered-judged, answered-refused}
 use Rattle.records.proofs.tell.Statement.{statement}
 use Rattle.records.proofs.tell.Tie as tie
-use Rattle.records.proofs.tell.Reads as reads
-use Rattle.records.proofs.tell.Lts as lts
-use Rattle.age.proofs.Limit.new.Reads as Limit-new-reads
-use Rattle.age.proofs.Reading.new.Reads as Reading-new-reads
-use Rattle.records.proofs.age_of.Reads as age-of-reads
-use Rattle.records.proofs.leave.Reads as leave-reads
 
 new-requires : tie.Need-new-requires
 new-requires c κs = search needs

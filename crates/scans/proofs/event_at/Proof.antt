@@ -1,28 +1,12 @@
 -- The word at k is the one that the history decodes.
 use Rattle.rules.specs.Event.{decode}
 use Rattle.rules.specs.Editions.{geometry1}
-use mathlib.Core.Path.{_≡_, refl, sym, ap, ap₂, _∙_}
-use mathlib.Core.Bool.{Bool, true, false, not, cond, _&&_, _||_, true≢false, false≢true, and-false, and-true}
-use Prim.Native.Nat.{ℕ, suc, _+_, _-_, _*_, _<_, _≤_}
-use native.Mathlib.Omega.{arith}
-use lib.ListN.{length, getD, set}
-use Rattle.laws.specs.Tests.{same, under, open-tests}
-use Rattle.laws.proofs.Tests.{same?, Same, is, isnt, same-eq, same-refl, ne-false, Is, is?, yes′, no′}
-use Rattle.laws.proofs.Booleans.{and-left, clash}
-use Rattle.event.specs.Meaning.{meaning, InRange}
-use Rattle.history.specs.History.{standsWith, writesTo, overlaid}
-use Rattle.audit.specs.Plain.{Ledger, blocks, locksOf}
-use Rattle.links.specs.Links.{entryAt, upIn, Earlier, Linked}
-use Rattle.links.proofs.Ways.{stands-are}
-use Rattle.scans.specs.Scans.{eventAt, modeTest, locksAt, writesAt, byteAt, grantsTo, writesUpTo, showsTo, open-scans}
-use Rattle.scans.proofs.More.{grant-more, write-more, lay-more, locks-is, writes-is, byte-is, or-none, own-some, locks-scan, writes-scan, lay-scan}
+use mathlib.Core.Path.{sym, ap, _∙_}
+use Prim.Native.Nat.{_-_}
+use Rattle.scans.specs.Scans.{eventAt}
 use borrow.Author.Needs.{needs}
 use Rattle.scans.proofs.event_at.Statement.{statement}
 use Rattle.scans.proofs.event_at.Tie as tie
-use Rattle.scans.proofs.event_at.Reads as reads
-use Rattle.scans.proofs.event_at.Lts as lts
-use Rattle.event.proofs.Event.of_word.Reads as of-word-reads
-use Rattle.event.proofs.Event.word_at.Reads as word-at-reads
 
 -- src/lib.rt:23:27
 word-at-requires : tie.Need-word-at-requires

@@ -1,25 +1,14 @@
 -- So far, whether a lock among the events before k is its own; one event more is one test more.
-use mathlib.Core.Path.{_≡_, refl, sym, ap, ap₂, _∙_}
-use mathlib.Core.Bool.{Bool, true, false, not, cond, _&&_, _||_, true≢false, false≢true, and-false, and-true}
-use Prim.Native.Nat.{ℕ, suc, _+_, _-_, _*_, _<_, _≤_}
+use mathlib.Core.Path.{_≡_, refl, ap, _∙_}
+use Prim.Native.Nat.{ℕ, _-_, _≤_}
 use native.Mathlib.Omega.{arith}
-use lib.ListN.{length, getD, set}
 use borrow.Author.Needs.{needs}
-use Rattle.laws.specs.Tests.{same, under, open-tests}
-use Rattle.laws.proofs.Tests.{same?, Same, is, isnt, same-eq, same-refl, ne-false, Is, is?, yes′, no′}
-use Rattle.laws.proofs.Booleans.{and-left, clash}
-use Rattle.event.specs.Meaning.{meaning, InRange}
-use Rattle.history.specs.History.{standsWith, writesTo, overlaid}
-use Rattle.audit.specs.Plain.{Ledger, blocks, locksOf}
-use Rattle.links.specs.Links.{entryAt, upIn, Earlier, Linked}
-use Rattle.links.proofs.Ways.{stands-are}
-use Rattle.scans.specs.Scans.{eventAt, modeTest, locksAt, writesAt, byteAt, grantsTo, writesUpTo, showsTo, open-scans}
-use Rattle.scans.proofs.More.{grant-more, write-more, lay-more, locks-is, writes-is, byte-is, or-none, own-some, locks-scan, writes-scan, lay-scan}
+use Rattle.laws.specs.Tests.{same}
+use Rattle.audit.specs.Plain.{locksOf}
+use Rattle.scans.specs.Scans.{modeTest, grantsTo}
+use Rattle.scans.proofs.More.{own-some, locks-scan}
 use Rattle.scans.proofs.holds.Statement.{statement}
 use Rattle.scans.proofs.holds.Tie as tie
-use Rattle.scans.proofs.holds.Reads as reads
-use Rattle.scans.proofs.holds.Lts as lts
-use Rattle.scans.proofs.own_lock.Reads as own-lock-reads
 
 abbrev Inv-loop : tie.InvT-loop
 Inv-loop table events owner n me r any met₀ k₀ met k =

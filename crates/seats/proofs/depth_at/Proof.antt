@@ -5,9 +5,6 @@ use lib.ListN.{getD, List·getD-eq-default}
 use borrow.Author.Needs.{needs}
 use Rattle.seats.proofs.depth_at.Statement.{statement}
 use Rattle.seats.proofs.depth_at.Tie as tie
-use Rattle.seats.proofs.depth_at.Reads as reads
-use Rattle.seats.proofs.depth_at.Lts as lts
-use Rattle.seats.proofs.wide.Reads as wide-reads
 
 element-copy-out-wide : tie.Need-element-copy-out-wide
 element-copy-out-wide c = search needs

@@ -4,10 +4,6 @@ use borrow.Author.Needs.{needs}
 use Rattle.clauses.proofs.Clauses.{entry-vacant, entry-seated}
 use Rattle.seats.proofs.is_entry.Statement.{statement}
 use Rattle.seats.proofs.is_entry.Tie as tie
-use Rattle.seats.proofs.is_entry.Reads as reads
-use Rattle.seats.proofs.is_entry.Lts as lts
-use Rattle.seats.proofs.is_seated.Reads as is-seated-reads
-use Rattle.seats.proofs.is_vacant.Reads as is-vacant-reads
 
 element-copy-out-if1 : tie.Need-element-copy-out-if1
 element-copy-out-if1 c = search needs

@@ -4,11 +4,6 @@ use Rattle.laws.specs.Tests.{same}
 use Rattle.clauses.proofs.Clauses.{seated-decided}
 use Rattle.seats.proofs.is_seated.Statement.{statement}
 use Rattle.seats.proofs.is_seated.Tie as tie
-use Rattle.seats.proofs.is_seated.Reads as reads
-use Rattle.seats.proofs.is_seated.Lts as lts
-use Rattle.sets.proofs.with.Reads as with-reads
-use Rattle.seats.proofs.depth_at.Reads as depth-at-reads
-use Rattle.seats.proofs.line_at.Reads as line-at-reads
 
 element-copy-out-p : tie.Need-element-copy-out-p
 element-copy-out-p c = search needs

@@ -4,8 +4,6 @@ use Rattle.laws.specs.Tests.{same}
 use Rattle.clauses.proofs.Clauses.{vacant-decided}
 use Rattle.seats.proofs.is_vacant.Statement.{statement}
 use Rattle.seats.proofs.is_vacant.Tie as tie
-use Rattle.seats.proofs.is_vacant.Reads as reads
-use Rattle.seats.proofs.is_vacant.Lts as lts
 
 element-copy-out-parentless : tie.Need-element-copy-out-parentless
 element-copy-out-parentless c = search needs

@@ -5,8 +5,6 @@ use lib.ListN.{getD, List·getD-eq-default}
 use borrow.Author.Needs.{needs}
 use Rattle.seats.proofs.line_at.Statement.{statement}
 use Rattle.seats.proofs.line_at.Tie as tie
-use Rattle.seats.proofs.line_at.Reads as reads
-use Rattle.seats.proofs.line_at.Lts as lts
 
 mul-result : tie.Need-mul-result
 mul-result c = search needs

@@ -5,8 +5,6 @@ use Rattle.laws.specs.Bits.{bits}
 use borrow.Author.Needs.{needs}
 use Rattle.sets.proofs.contains.Statement.{statement}
 use Rattle.sets.proofs.contains.Tie as tie
-use Rattle.sets.proofs.contains.Reads as reads
-use Rattle.sets.proofs.contains.Lts as lts
 
 -- src/lib.rt:15:6
 shr-result : tie.Need-shr-result

@@ -3,8 +3,6 @@ use mathlib.Core.Path.{fun-ext}
 use Rattle.laws.proofs.Bits.{bits-minus}
 use Rattle.sets.proofs.minus.Statement.{statement}
 use Rattle.sets.proofs.minus.Tie as tie
-use Rattle.sets.proofs.minus.Reads as reads
-use Rattle.sets.proofs.minus.Lts as lts
 
 -- src/lib.rt:35:1
 returns : tie.Need-returns

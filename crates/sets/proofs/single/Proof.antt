@@ -5,8 +5,6 @@ use Rattle.laws.proofs.Bits.{bits-single}
 use borrow.Author.Needs.{needs}
 use Rattle.sets.proofs.single.Statement.{statement}
 use Rattle.sets.proofs.single.Tie as tie
-use Rattle.sets.proofs.single.Reads as reads
-use Rattle.sets.proofs.single.Lts as lts
 
 -- src/lib.rt:23:5
 shl-result : tie.Need-shl-result

@@ -7,9 +7,6 @@ use Rattle.laws.proofs.Bits.{bits-or}
 use borrow.Author.Needs.{needs}
 use Rattle.sets.proofs.with.Statement.{statement}
 use Rattle.sets.proofs.with.Tie as tie
-use Rattle.sets.proofs.with.Reads as reads
-use Rattle.sets.proofs.with.Lts as lts
-use Rattle.sets.proofs.single.Reads as single-reads
 
 -- src/lib.rt:31:9
 single-requires : tie.Need-single-requires

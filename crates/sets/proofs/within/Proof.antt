@@ -3,8 +3,6 @@ use Rattle.laws.specs.Tests.{same}
 use Rattle.laws.proofs.Bits.{within-is}
 use Rattle.sets.proofs.within.Statement.{statement}
 use Rattle.sets.proofs.within.Tie as tie
-use Rattle.sets.proofs.within.Reads as reads
-use Rattle.sets.proofs.within.Lts as lts
 
 -- src/lib.rt:50:1
 returns : tie.Need-returns

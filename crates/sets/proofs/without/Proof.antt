@@ -6,10 +6,6 @@ use Rattle.laws.specs.Bits.{bits}
 use borrow.Author.Needs.{needs}
 use Rattle.sets.proofs.without.Statement.{statement}
 use Rattle.sets.proofs.without.Tie as tie
-use Rattle.sets.proofs.without.Reads as reads
-use Rattle.sets.proofs.without.Lts as lts
-use Rattle.sets.proofs.minus.Reads as minus-reads
-use Rattle.sets.proofs.single.Reads as single-reads
 
 -- src/lib.rt:46:14
 single-requires : tie.Need-single-requires

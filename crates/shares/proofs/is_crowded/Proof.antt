@@ -10,8 +10,6 @@ use Rattle.laws.proofs.Bits.{bits-zero}
 use Rattle.clauses.proofs.Words.{one-bit}
 use Rattle.shares.proofs.is_crowded.Statement.{statement}
 use Rattle.shares.proofs.is_crowded.Tie as tie
-use Rattle.shares.proofs.is_crowded.Reads as reads
-use Rattle.shares.proofs.is_crowded.Lts as lts
 
 returns : tie.Need-returns
 returns c = λ e t u a b. absurd (true≢false (sym a ∙ ap (λ (s : ℕ). bits s t) (c .if1 .taken) ∙ bits-zero t))

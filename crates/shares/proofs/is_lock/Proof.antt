@@ -3,10 +3,6 @@ use borrow.Author.Needs.{needs}
 use Rattle.clauses.proofs.Clauses.{lock-decided}
 use Rattle.shares.proofs.is_lock.Statement.{statement}
 use Rattle.shares.proofs.is_lock.Tie as tie
-use Rattle.shares.proofs.is_lock.Reads as reads
-use Rattle.shares.proofs.is_lock.Lts as lts
-use Rattle.sets.proofs.within.Reads as within-reads
-use Rattle.shares.proofs.is_set.Reads as is-set-reads
 
 is-set-requires : tie.Need-is-set-requires
 is-set-requires c κs = search needs

@@ -3,8 +3,6 @@ use Rattle.laws.specs.Tests.{same}
 use Rattle.clauses.proofs.Words.{decides-numbered}
 use Rattle.shares.proofs.is_set.Statement.{statement}
 use Rattle.shares.proofs.is_set.Tie as tie
-use Rattle.shares.proofs.is_set.Reads as reads
-use Rattle.shares.proofs.is_set.Lts as lts
 
 returns : tie.Need-returns
 unfolding same

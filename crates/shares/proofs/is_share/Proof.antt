@@ -3,11 +3,6 @@ use borrow.Author.Needs.{needs}
 use Rattle.clauses.proofs.Clauses.{share-decided}
 use Rattle.shares.proofs.is_share.Statement.{statement}
 use Rattle.shares.proofs.is_share.Tie as tie
-use Rattle.shares.proofs.is_share.Reads as reads
-use Rattle.shares.proofs.is_share.Lts as lts
-use Rattle.sets.proofs.contains.Reads as contains-reads
-use Rattle.sets.proofs.single.Reads as single-reads
-use Rattle.sets.proofs.within.Reads as within-reads
 
 contains-requires : tie.Need-contains-requires
 contains-requires c κs = search needs

@@ -15,9 +15,6 @@ use Rattle.slots.specs.Parts.{lifted}
 use Rattle.slots.proofs.Lifting.{lifts-row, lifts-past}
 use Rattle.slots.proofs.lift.Statement.{statement}
 use Rattle.slots.proofs.lift.Tie as tie
-use Rattle.slots.proofs.lift.Reads as reads
-use Rattle.slots.proofs.lift.Lts as lts
-use Rattle.slots.proofs.lift_row.Reads as lift-row-reads
 
 abbrev Inv-loop : tie.InvT-loop
 Inv-loop writers₀ work₀ n t p d r₀ writers work r =

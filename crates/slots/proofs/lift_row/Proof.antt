@@ -12,13 +12,6 @@ use Rattle.arrays.specs.View.{slot}
 use Rattle.arrays.proofs.Joined.{sets-handed, handed-none}
 use Rattle.slots.proofs.lift_row.Statement.{statement}
 use Rattle.slots.proofs.lift_row.Tie as tie
-use Rattle.slots.proofs.lift_row.Reads as reads
-use Rattle.slots.proofs.lift_row.Lts as lts
-use Rattle.page.proofs.copy_page.Reads as copy-page-reads
-use Rattle.sets.proofs.contains.Reads as contains-reads
-use Rattle.sets.proofs.with.Reads as with-reads
-use Rattle.sets.proofs.without.Reads as without-reads
-use Rattle.slots.proofs.slot_of.Reads as slot-of-reads
 
 mul-w : tie.Need-mul-w
 mul-w c = search needs

@@ -17,17 +17,6 @@ use Rattle.laws.specs.Tests.{same}
 use Rattle.numbers.specs.Named.{transactionOf}
 use Rattle.slots.proofs.make_version.Statement.{statement}
 use Rattle.slots.proofs.make_version.Tie as tie
-use Rattle.slots.proofs.make_version.Reads as reads
-use Rattle.slots.proofs.make_version.Lts as lts
-use Rattle.page.proofs.bring.Reads as bring-reads
-use Rattle.page.proofs.copy_page.Reads as copy-page-reads
-use Rattle.sets.proofs.contains.Reads as contains-reads
-use Rattle.sets.proofs.with.Reads as with-reads
-use Rattle.slots.proofs.slot_of.Reads as slot-of-reads
-use Rattle.slots.proofs.source.Reads as source-reads
-use Rattle.numbers.proofs.RecordNumber.index.Reads as index-reads
-use Rattle.numbers.proofs.TransactionNumber.number.Reads as number-reads
-use Rattle.numbers.proofs.TransactionNumber.index.Reads as index-reads-2
 
 number-requires : tie.Need-number-requires
 number-requires c κs = search needs

@@ -7,12 +7,6 @@ use borrow.Author.Needs.{needs}
 use Rattle.slots.proofs.Walk.{walk-own}
 use Rattle.slots.proofs.nearest.Statement.{statement}
 use Rattle.slots.proofs.nearest.Tie as tie
-use Rattle.slots.proofs.nearest.Reads as reads
-use Rattle.slots.proofs.nearest.Lts as lts
-use Rattle.sets.proofs.contains.Reads as contains-reads
-use Rattle.slots.proofs.source.Reads as source-reads
-use Rattle.numbers.proofs.TransactionNumber.index.Reads as index-reads
-use Rattle.numbers.proofs.TransactionNumber.number.Reads as number-reads
 
 number-requires : tie.Need-number-requires
 number-requires c κs = search needs

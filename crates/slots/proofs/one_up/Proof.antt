@@ -1,30 +1,11 @@
 -- One step up, or none.
-use mathlib.Core.Path.{_≡_, refl, sym, ap, ap₂, _∙_, fun-ext}
-use mathlib.Core.Bool.{Bool, true, false, not, cond, _&&_, _||_, or-false, and-false, and-true}
-use mathlib.Core.List.{List}
-use Prim.Native.Nat.{ℕ, suc, _+_, _*_, _-_, _/_, _%_, _<_, _≤_}
+use mathlib.Core.Path.{refl, sym, _∙_}
+use Prim.Native.Nat.{_-_}
 use native.Mathlib.Omega.{arith}
-use lib.ListN.{length, getD, set}
 use borrow.Author.Needs.{needs}
-use Rattle.laws.specs.Functions.{updated}
-use Rattle.laws.proofs.Updated.{updated-same, updated-self, updated-again}
-use Rattle.laws.specs.Bits.{bits}
-use Rattle.sets.specs.Sets.{sets}
-use Rattle.rules.specs.Store.{pagesOf}
-use Rattle.sets.proofs.Sets.{sets-past}
-use Rattle.arrays.specs.View.{slot, seen}
-use Rattle.arrays.proofs.View.{deep-below}
-use Rattle.arrays.proofs.Joined.{sets-joined, joined-self}
-use Rattle.arrays.proofs.Sweep.{Swept, swept-none, swept-all}
-use Rattle.slots.specs.Parts.{Sources, Climbing, ended, found, passed, Climbed, Written, lifted}
-use Rattle.slots.proofs.Walk.{Walk, walk-none, walk-more, walk-all}
-use Rattle.slots.proofs.Seen.{seen-home, seen-slot, seen-own}
-use Rattle.slots.proofs.Lifting.{lifts-row, lifts-past}
+use Rattle.slots.specs.Parts.{ended, found, passed}
 use Rattle.slots.proofs.one_up.Statement.{statement}
 use Rattle.slots.proofs.one_up.Tie as tie
-use Rattle.slots.proofs.one_up.Reads as reads
-use Rattle.slots.proofs.one_up.Lts as lts
-use Rattle.sets.proofs.contains.Reads as contains-reads
 
 returns : tie.Need-returns
 returns c = ended (c .if1 .taken) refl

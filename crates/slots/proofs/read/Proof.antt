@@ -11,12 +11,6 @@ use borrow.Author.Needs.{needs}
 use Rattle.numbers.specs.Named.{transactionOf}
 use Rattle.slots.proofs.read.Statement.{statement}
 use Rattle.slots.proofs.read.Tie as tie
-use Rattle.slots.proofs.read.Reads as reads
-use Rattle.slots.proofs.read.Lts as lts
-use Rattle.page.proofs.get_byte.Reads as get-byte-reads
-use Rattle.slots.proofs.slot_of.Reads as slot-of-reads
-use Rattle.slots.proofs.nearest.Reads as nearest-reads
-use Rattle.numbers.proofs.RecordNumber.index.Reads as index-reads
 
 index-requires : tie.Need-index-requires
 index-requires c κs = search needs

@@ -10,11 +10,6 @@ use Rattle.arrays.proofs.View.{deep-below}
 use Rattle.slots.proofs.Walk.{Walk, walk-none, walk-empty, walk-more, walk-all}
 use Rattle.slots.proofs.source.Statement.{statement}
 use Rattle.slots.proofs.source.Tie as tie
-use Rattle.slots.proofs.source.Reads as reads
-use Rattle.slots.proofs.source.Lts as lts
-use Rattle.slots.proofs.one_up.Reads as one-up-reads
-use Rattle.numbers.proofs.TransactionNumber.index.Reads as index-reads
-use Rattle.numbers.proofs.TransactionNumber.number.Reads as number-reads
 
 abbrev Inv-loop : tie.InvT-loop
 Inv-loop parent depth w start c₀ n₀ c n = (n ≤ depths) × Walk parent depth w start c n

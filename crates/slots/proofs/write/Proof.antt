@@ -9,13 +9,6 @@ use borrow.Author.Needs.{needs}
 use Rattle.numbers.specs.Named.{transactionOf, recordOf}
 use Rattle.slots.proofs.write.Statement.{statement}
 use Rattle.slots.proofs.write.Tie as tie
-use Rattle.slots.proofs.write.Reads as reads
-use Rattle.slots.proofs.write.Lts as lts
-use Rattle.page.proofs.put_byte.Reads as put-byte-reads
-use Rattle.slots.proofs.make_version.Reads as make-version-reads
-use Rattle.slots.proofs.slot_of.Reads as slot-of-reads
-use Rattle.numbers.proofs.RecordNumber.index.Reads as index-reads
-use Rattle.numbers.proofs.TransactionNumber.index.Reads as index-reads-2
 
 make-version-requires : tie.Need-make-version-requires
 make-version-requires c κs = search needs

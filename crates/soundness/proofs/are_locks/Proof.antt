@@ -10,9 +10,6 @@ use Rattle.clauses.specs.Clauses.{LockOf}
 use Rattle.clauses.proofs.Decides.{decides-none, decides-more, decides-bound}
 use Rattle.soundness.proofs.are_locks.Statement.{statement}
 use Rattle.soundness.proofs.are_locks.Tie as tie
-use Rattle.soundness.proofs.are_locks.Reads as reads
-use Rattle.soundness.proofs.are_locks.Lts as lts
-use Rattle.shares.proofs.is_lock.Reads as is-lock-reads
 
 abbrev Inv-loop : tie.InvT-loop
 Inv-loop live held retained writers ok₀ r₀ ok r =

@@ -4,10 +4,6 @@ use Rattle.clauses.proofs.Decides.{decides-true}
 use Rattle.soundness.proofs.Sole.{shares-sole}
 use Rattle.soundness.proofs.are_shares.Statement.{statement}
 use Rattle.soundness.proofs.are_shares.Tie as tie
-use Rattle.soundness.proofs.are_shares.Reads as reads
-use Rattle.soundness.proofs.are_shares.Lts as lts
-use Rattle.soundness.proofs.is_some_crowded.Reads as is-some-crowded-reads
-use Rattle.soundness.proofs.are_shares_each.Reads as are-shares-each-reads
 
 is-some-crowded-requires : tie.Need-is-some-crowded-requires
 is-some-crowded-requires c κs = search needs

@@ -6,10 +6,6 @@ use Rattle.clauses.proofs.Decides.{decides-true}
 use Rattle.soundness.proofs.Beneath.{shares-alone}
 use Rattle.soundness.proofs.are_shares_at.Statement.{statement}
 use Rattle.soundness.proofs.are_shares_at.Tie as tie
-use Rattle.soundness.proofs.are_shares_at.Reads as reads
-use Rattle.soundness.proofs.are_shares_at.Lts as lts
-use Rattle.soundness.proofs.are_shares_of.Reads as are-shares-of-reads
-use Rattle.soundness.proofs.is_crowded_at.Reads as is-crowded-at-reads
 
 is-crowded-at-requires : tie.Need-is-crowded-at-requires
 is-crowded-at-requires c κs = search needs

@@ -7,9 +7,6 @@ use Rattle.clauses.specs.Clauses.{SharesOf, Lined}
 use Rattle.clauses.proofs.Decides.{decides-none, decides-more, decides-bound}
 use Rattle.soundness.proofs.are_shares_each.Statement.{statement}
 use Rattle.soundness.proofs.are_shares_each.Tie as tie
-use Rattle.soundness.proofs.are_shares_each.Reads as reads
-use Rattle.soundness.proofs.are_shares_each.Lts as lts
-use Rattle.soundness.proofs.are_shares_at.Reads as are-shares-at-reads
 
 abbrev Inv-loop : tie.InvT-loop
 Inv-loop line held retained ok₀ r₀ ok r =

@@ -10,9 +10,6 @@ use Rattle.clauses.specs.Clauses.{Share}
 use Rattle.clauses.proofs.Decides.{decides-none, decides-more, decides-bound}
 use Rattle.soundness.proofs.are_shares_of.Statement.{statement}
 use Rattle.soundness.proofs.are_shares_of.Tie as tie
-use Rattle.soundness.proofs.are_shares_of.Reads as reads
-use Rattle.soundness.proofs.are_shares_of.Lts as lts
-use Rattle.soundness.proofs.is_share_of.Reads as is-share-of-reads
 
 abbrev ShareAt : List ℕ → ℕ → ℕ → ℕ → ℕ → ℕ → Type 0
 ShareAt line held heldWriting retained retainedWriting k =

@@ -5,11 +5,6 @@ use borrow.Author.Needs.{needs}
 use Rattle.laws.proofs.Booleans.{clash}
 use Rattle.soundness.proofs.beneath_of.Statement.{statement}
 use Rattle.soundness.proofs.beneath_of.Tie as tie
-use Rattle.soundness.proofs.beneath_of.Reads as reads
-use Rattle.soundness.proofs.beneath_of.Lts as lts
-use Rattle.sets.proofs.contains.Reads as contains-reads
-use Rattle.sets.proofs.within.Reads as within-reads
-use Rattle.transactions.proofs.descendants.Reads as descendants-reads
 
 contains-requires : tie.Need-contains-requires
 contains-requires c κs = search needs

@@ -13,9 +13,6 @@ use Rattle.arrays.specs.View.{anyMode, writeMode}
 use Rattle.clauses.specs.Clauses.{sharing}
 use Rattle.soundness.proofs.is_crowded_at.Statement.{statement}
 use Rattle.soundness.proofs.is_crowded_at.Tie as tie
-use Rattle.soundness.proofs.is_crowded_at.Reads as reads
-use Rattle.soundness.proofs.is_crowded_at.Lts as lts
-use Rattle.shares.proofs.is_crowded.Reads as is-crowded-reads
 
 mul-any : tie.Need-mul-any
 mul-any c = search needs

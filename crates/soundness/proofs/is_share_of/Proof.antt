@@ -1,7 +1,5 @@
 -- Who has nothing of the lock goes with all others; of another the clause is tested.
 use mathlib.Core.Path.{sym, _∙_}
-use mathlib.Core.Bool.{Bool, _||_}
-use Prim.Native.Nat.{ℕ}
 use borrow.Author.Needs.{needs}
 use lib.Bits.{bitOr}
 use Rattle.laws.specs.Bits.{bits}
@@ -12,11 +10,6 @@ use Rattle.clauses.proofs.Decides.{decides-true}
 use Rattle.soundness.proofs.Beneath.{share-beneath, share-none}
 use Rattle.soundness.proofs.is_share_of.Statement.{statement}
 use Rattle.soundness.proofs.is_share_of.Tie as tie
-use Rattle.soundness.proofs.is_share_of.Reads as reads
-use Rattle.soundness.proofs.is_share_of.Lts as lts
-use Rattle.sets.proofs.contains.Reads as contains-reads
-use Rattle.soundness.proofs.beneath_of.Reads as beneath-of-reads
-use Rattle.shares.proofs.is_share.Reads as is-share-reads
 
 contains-requires : tie.Need-contains-requires
 contains-requires c κs = search needs

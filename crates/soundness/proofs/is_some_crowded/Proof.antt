@@ -8,9 +8,6 @@ use Rattle.soundness.specs.Sole.{SoleOf}
 use Rattle.soundness.proofs.Sole.{no-more}
 use Rattle.soundness.proofs.is_some_crowded.Statement.{statement}
 use Rattle.soundness.proofs.is_some_crowded.Tie as tie
-use Rattle.soundness.proofs.is_some_crowded.Reads as reads
-use Rattle.soundness.proofs.is_some_crowded.Lts as lts
-use Rattle.soundness.proofs.is_crowded_at.Reads as is-crowded-at-reads
 
 abbrev Inv-loop : tie.InvT-loop
 Inv-loop held retained some₀ r₀ some r = (r ≤ 16) × (some ≡ false → (k : ℕ) → k < r → SoleOf held retained k)

@@ -8,13 +8,6 @@ use Rattle.clauses.specs.Clauses.{Locks}
 use Rattle.soundness.proofs.Whole.{whole-decided}
 use Rattle.soundness.proofs.is_sound.Statement.{statement}
 use Rattle.soundness.proofs.is_sound.Tie as tie
-use Rattle.soundness.proofs.is_sound.Reads as reads
-use Rattle.soundness.proofs.is_sound.Lts as lts
-use Rattle.soundness.proofs.are_locks.Reads as are-locks-reads
-use Rattle.soundness.proofs.are_shares.Reads as are-shares-reads
-use Rattle.phase.proofs.is_phase.Reads as is-phase-reads
-use Rattle.soundness.proofs.is_tree.Reads as is-tree-reads
-use Rattle.transactions.proofs.live_set.Reads as live-set-reads
 
 is-tree-requires : tie.Need-is-tree-requires
 is-tree-requires c κs = search needs

@@ -7,9 +7,6 @@ use Rattle.clauses.specs.Clauses.{Entry}
 use Rattle.clauses.proofs.Decides.{decides-none, decides-more, decides-bound}
 use Rattle.soundness.proofs.is_tree.Statement.{statement}
 use Rattle.soundness.proofs.is_tree.Tie as tie
-use Rattle.soundness.proofs.is_tree.Reads as reads
-use Rattle.soundness.proofs.is_tree.Lts as lts
-use Rattle.seats.proofs.is_entry.Reads as is-entry-reads
 
 abbrev Inv-loop : tie.InvT-loop
 Inv-loop parent depth line ok₀ t₀ ok t =

@@ -1,7 +1,7 @@
 -- The loop puts number after number into the set of its parent. Seen from one parent, its set is filled in order.
 use mathlib.Core.Path.{_≡_, refl, ap, _∙_}
 use mathlib.Core.Bool.{Bool, false, not, _&&_, _||_}
-use Prim.Native.Nat.{ℕ, _-_, _%_, _<_, _≤_}
+use Prim.Native.Nat.{ℕ, _-_, _%_, _≤_}
 use native.Mathlib.Omega.{arith}
 use lib.ListN.{length, getD, List·getD-eq-default}
 use borrow.Author.Needs.{needs}
@@ -12,9 +12,6 @@ use Rattle.arrays.proofs.Sweep.{Swept, swept-all, fills-more}
 use Rattle.arrays.proofs.Kin.{none-sets}
 use Rattle.transactions.proofs.children_of.Statement.{statement}
 use Rattle.transactions.proofs.children_of.Tie as tie
-use Rattle.transactions.proofs.children_of.Reads as reads
-use Rattle.transactions.proofs.children_of.Lts as lts
-use Rattle.transactions.proofs.enrol_if.Reads as enrol-if-reads
 
 abbrev Inv-loop : tie.InvT-loop
 Inv-loop parent depth children₀ j₀ children j =

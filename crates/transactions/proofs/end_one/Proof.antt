@@ -1,26 +1,13 @@
 -- Where the number is gone its three entries become zero.
-use mathlib.Core.Path.{_≡_, refl, sym, ap, ap₂, _∙_, fun-ext}
-use mathlib.Core.Bool.{Bool, true, false, not, cond, _&&_, _||_, or-false, and-false, and-true}
-use mathlib.Core.List.{List}
-use Prim.Native.Nat.{ℕ, suc, _+_, _*_, _-_, _/_, _%_, _<_, _≤_}
+use mathlib.Core.Path.{_≡_, sym, ap, _∙_}
+use mathlib.Core.Bool.{Bool, true, false, cond}
+use Prim.Native.Nat.{_-_, _%_}
 use native.Mathlib.Omega.{arith}
-use lib.ListN.{length, getD, set}
+use lib.ListN.{set}
 use borrow.Author.Needs.{needs}
-use Rattle.arrays.specs.Changes.{openTo, joined, less, leaving, heirsOf, Row, Rows, places, cleared, Cleared}
-use Rattle.arrays.proofs.Sweep.{Swept, swept-none, swept-all, Upto, upto-none, upto-more, upto-all, leaving-past, heirs-past, Clearing, clearing-none, clearing-more, clearing-all, cleared-one, fills-more}
 use Rattle.laws.specs.Bits.{bits}
-use Rattle.sets.specs.Sets.{sets}
-use Rattle.laws.specs.Tests.{same}
-use Rattle.laws.specs.Counting.{any, lowestFrom, lowest}
-use Rattle.laws.proofs.Bits.{bits-zero}
-use borrow.Author.Tests.{eq-eqb, ne-eqb, eqb-true, eqb-false}
-use lib.Dec.{eqb}
-use Rattle.sets.proofs.Sets.{sets-past}
 use Rattle.transactions.proofs.end_one.Statement.{statement}
 use Rattle.transactions.proofs.end_one.Tie as tie
-use Rattle.transactions.proofs.end_one.Reads as reads
-use Rattle.transactions.proofs.end_one.Lts as lts
-use Rattle.sets.proofs.contains.Reads as contains-reads
 
 cast-contains : tie.Need-cast-contains
 cast-contains c = search needs

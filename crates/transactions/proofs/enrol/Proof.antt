@@ -2,12 +2,8 @@
 use mathlib.Core.Path.{refl}
 use borrow.Author.Needs.{needs}
 use Rattle.sets.specs.Sets.{sets}
-use Rattle.arrays.specs.Changes.{Row}
 use Rattle.transactions.proofs.enrol.Statement.{statement}
 use Rattle.transactions.proofs.enrol.Tie as tie
-use Rattle.transactions.proofs.enrol.Reads as reads
-use Rattle.transactions.proofs.enrol.Lts as lts
-use Rattle.sets.proofs.with.Reads as with-reads
 
 with-requires : tie.Need-with-requires
 with-requires c κs = search needs

@@ -1,20 +1,17 @@
 -- Where j is live the set of p has j besides; else nothing changes.
 use mathlib.Core.Path.{_≡_, ap, _∙_, fun-ext}
-use mathlib.Core.Bool.{Bool, true, false, _&&_, _||_, or-false, and-false, and-true}
+use mathlib.Core.Bool.{Bool, true, _&&_, _||_, or-false, and-false, and-true}
 use Prim.Native.Nat.{ℕ}
 use native.Mathlib.Omega.{arith}
 use lib.ListN.{length-set}
 use Rattle.laws.specs.Tests.{same}
 use Rattle.laws.proofs.Tests.{same?, Same, is, isnt}
 use Rattle.sets.specs.Sets.{sets}
-use Rattle.arrays.specs.Changes.{joined, Rows}
+use Rattle.arrays.specs.Changes.{joined}
 use Rattle.arrays.proofs.Joined.{sets-joined}
 use borrow.Author.Needs.{needs}
 use Rattle.transactions.proofs.enrol_if.Statement.{statement}
 use Rattle.transactions.proofs.enrol_if.Tie as tie
-use Rattle.transactions.proofs.enrol_if.Reads as reads
-use Rattle.transactions.proofs.enrol_if.Lts as lts
-use Rattle.sets.proofs.with.Reads as with-reads
 
 -- the two tests in the other order
 turned : (live a : Bool) (p q : ℕ) → live ≡ true → (same q p && a) ≡ (a && (live && same p q))

@@ -1,7 +1,7 @@
 -- The trailing zeros of a word count up to its lowest bit. Bit 24 of this word is set, so the bits above it don't matter; those below are the
 -- numbers that aren't live.
 use mathlib.Core.Path.{_≡_, refl, ap, ap₂, _∙_}
-use mathlib.Core.Bool.{Bool, true, false, not, _&&_, _||_, or-false, and-true}
+use mathlib.Core.Bool.{Bool, true, not, _&&_, _||_, or-false, and-true}
 use Prim.Native.Nat.{ℕ, _<_}
 use native.Mathlib.Omega.{arith}
 use lib.Count.{trailingZeros, trailing-le}
@@ -15,10 +15,6 @@ use Rattle.laws.proofs.All.{all-at}
 use Rattle.laws.proofs.Lowest.{trailing-is, lowest-stop, lowest-agree}
 use Rattle.transactions.proofs.first_free.Statement.{statement}
 use Rattle.transactions.proofs.first_free.Tie as tie
-use Rattle.transactions.proofs.first_free.Reads as reads
-use Rattle.transactions.proofs.first_free.Lts as lts
-use Rattle.sets.proofs.minus.Reads as minus-reads
-use Rattle.sets.proofs.with.Reads as with-reads
 
 -- each bit of this word is set
 ones : (k : ℕ) → k < 24 → bits 4294967295 k ≡ true

@@ -6,8 +6,6 @@ use Rattle.sets.specs.Sets.{sets}
 use Rattle.laws.proofs.Lowest.{any-low}
 use Rattle.transactions.proofs.has_child.Statement.{statement}
 use Rattle.transactions.proofs.has_child.Tie as tie
-use Rattle.transactions.proofs.has_child.Reads as reads
-use Rattle.transactions.proofs.has_child.Lts as lts
 
 mul-result : tie.Need-mul-result
 mul-result c = search needs

@@ -12,9 +12,6 @@ use Rattle.laws.proofs.Bits.{bits-zero}
 use Rattle.arrays.proofs.Sweep.{Swept, swept-all, fills-more}
 use Rattle.transactions.proofs.live_set.Statement.{statement}
 use Rattle.transactions.proofs.live_set.Tie as tie
-use Rattle.transactions.proofs.live_set.Reads as reads
-use Rattle.transactions.proofs.live_set.Lts as lts
-use Rattle.transactions.proofs.with_if.Reads as with-if-reads
 
 abbrev Inv-loop : tie.InvT-loop
 Inv-loop depth m₀ j₀ m j =

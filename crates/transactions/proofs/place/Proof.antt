@@ -1,12 +1,8 @@
 -- The three entries of f are those given; the line is the one above with f.
 use borrow.Author.Needs.{needs}
 use mathlib.Core.Path.{refl}
-use Rattle.arrays.specs.Changes.{Row}
 use Rattle.transactions.proofs.place.Statement.{statement}
 use Rattle.transactions.proofs.place.Tie as tie
-use Rattle.transactions.proofs.place.Reads as reads
-use Rattle.transactions.proofs.place.Lts as lts
-use Rattle.sets.proofs.with.Reads as with-reads
 
 element-write-parent : tie.Need-element-write-parent
 element-write-parent c = search needs

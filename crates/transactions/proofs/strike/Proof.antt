@@ -2,12 +2,8 @@
 use mathlib.Core.Path.{refl}
 use borrow.Author.Needs.{needs}
 use Rattle.sets.specs.Sets.{sets}
-use Rattle.arrays.specs.Changes.{Row}
 use Rattle.transactions.proofs.strike.Statement.{statement}
 use Rattle.transactions.proofs.strike.Tie as tie
-use Rattle.transactions.proofs.strike.Reads as reads
-use Rattle.transactions.proofs.strike.Lts as lts
-use Rattle.sets.proofs.without.Reads as without-reads
 
 without-requires : tie.Need-without-requires
 without-requires c κs = search needs

@@ -7,11 +7,6 @@ use Rattle.waitgraph.specs.Pointing.{blockersAt, reached, waitedOn}
 use borrow.Author.Needs.{needs}
 use Rattle.waitgraph.proofs.awaited.Statement.{statement}
 use Rattle.waitgraph.proofs.awaited.Tie as tie
-use Rattle.waitgraph.proofs.awaited.Reads as reads
-use Rattle.waitgraph.proofs.awaited.Lts as lts
-use Rattle.locks.proofs.barring_place.Reads as barring-place-reads
-use Rattle.waitgraph.proofs.blockers.Reads as blockers-reads
-use Rattle.waitgraph.proofs.reach.Reads as reach-reads
 
 barring-place-requires : tie.Need-barring-place-requires
 barring-place-requires c κs = search needs

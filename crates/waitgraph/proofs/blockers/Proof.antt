@@ -6,10 +6,6 @@ use Rattle.laws.proofs.Bits.{bits-or}
 use borrow.Author.Needs.{needs}
 use Rattle.waitgraph.proofs.blockers.Statement.{statement}
 use Rattle.waitgraph.proofs.blockers.Tie as tie
-use Rattle.waitgraph.proofs.blockers.Reads as reads
-use Rattle.waitgraph.proofs.blockers.Lts as lts
-use Rattle.sets.proofs.minus.Reads as minus-reads
-use Rattle.sets.proofs.without.Reads as without-reads
 
 without-requires : tie.Need-without-requires
 without-requires c κs = search needs

@@ -15,9 +15,6 @@ use Rattle.waitgraph.proofs.Reaching.{point-is}
 use borrow.Author.Needs.{needs}
 use Rattle.waitgraph.proofs.point.Statement.{statement}
 use Rattle.waitgraph.proofs.point.Tie as tie
-use Rattle.waitgraph.proofs.point.Reads as reads
-use Rattle.waitgraph.proofs.point.Lts as lts
-use Rattle.waitgraph.proofs.awaited.Reads as awaited-reads
 
 cast-t : tie.Need-cast-t
 cast-t c = search needs

@@ -9,10 +9,6 @@ use Rattle.waitgraph.proofs.Reaching.{rows-none, rows-more, rows-as}
 use borrow.Author.Needs.{needs}
 use Rattle.waitgraph.proofs.pointings.Statement.{statement}
 use Rattle.waitgraph.proofs.pointings.Tie as tie
-use Rattle.waitgraph.proofs.pointings.Reads as reads
-use Rattle.waitgraph.proofs.pointings.Lts as lts
-use Rattle.waitgraph.proofs.point.Reads as point-reads
-use Rattle.waitgraph.proofs.to_children.Reads as to-children-reads
 
 abbrev Inv-loop : tie.InvT-loop
 Inv-loop parent depth line held retained words n points₀ i₀ points i = (i ≤ n) × Rows 24 (rowsIn (childPoints parent depth) (sets line) (sets held) (sets retained) words i) points

@@ -8,10 +8,6 @@ use Rattle.waitgraph.proofs.Reaching.{reachedTo, reached-none, reached-
 use borrow.Author.Needs.{needs}
 use Rattle.waitgraph.proofs.reach.Statement.{statement}
 use Rattle.waitgraph.proofs.reach.Tie as tie
-use Rattle.waitgraph.proofs.reach.Reads as reads
-use Rattle.waitgraph.proofs.reach.Lts as lts
-use Rattle.sets.proofs.contains.Reads as contains-reads
-use Rattle.waitgraph.proofs.reach_one.Reads as reach-one-reads
 
 abbrev Inv-loop : tie.InvT-loop
 Inv-loop line by above m₀ b₀ m b = (b ≤ 24) × (bits m ≡ reachedTo b (sets line) (bits above) (bits by))

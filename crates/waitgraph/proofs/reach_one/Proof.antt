@@ -8,10 +8,6 @@ use Rattle.laws.proofs.Bits.{bits-or}
 use borrow.Author.Needs.{needs}
 use Rattle.waitgraph.proofs.reach_one.Statement.{statement}
 use Rattle.waitgraph.proofs.reach_one.Tie as tie
-use Rattle.waitgraph.proofs.reach_one.Reads as reads
-use Rattle.waitgraph.proofs.reach_one.Lts as lts
-use Rattle.sets.proofs.minus.Reads as minus-reads
-use Rattle.sets.proofs.with.Reads as with-reads
 
 minus-requires : tie.Need-minus-requires
 minus-requires c κs = search needs

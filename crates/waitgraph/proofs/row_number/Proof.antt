@@ -8,8 +8,6 @@ use Rattle.waitgraph.proofs.Reaching.{number-dead, number-record, numbe
 use borrow.Author.Needs.{needs}
 use Rattle.waitgraph.proofs.row_number.Statement.{statement}
 use Rattle.waitgraph.proofs.row_number.Tie as tie
-use Rattle.waitgraph.proofs.row_number.Reads as reads
-use Rattle.waitgraph.proofs.row_number.Lts as lts
 
 cast-t : tie.Need-cast-t
 cast-t c = search needs

@@ -10,9 +10,6 @@ use Rattle.waitgraph.proofs.Reaching.{numbers-next, numbers-stop, numbe
 use borrow.Author.Needs.{needs}
 use Rattle.waitgraph.proofs.rows_number.Statement.{statement}
 use Rattle.waitgraph.proofs.rows_number.Tie as tie
-use Rattle.waitgraph.proofs.rows_number.Reads as reads
-use Rattle.waitgraph.proofs.rows_number.Lts as lts
-use Rattle.waitgraph.proofs.row_number.Reads as row-number-reads
 
 abbrev Inv-loop : tie.InvT-loop
 Inv-loop depth words n i₀ i = (i ≤ n) × (numbersIn (livesIn depth) words 0 n ≡ numbersIn (livesIn depth) words i (n - i)) × ((j : ℕ) → j < i → RowInRange (rowOf (getD words j 0)))

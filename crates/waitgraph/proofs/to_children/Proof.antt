@@ -8,9 +8,6 @@ use Rattle.waitgraph.proofs.Reaching.{children-are}
 use borrow.Author.Needs.{needs}
 use Rattle.waitgraph.proofs.to_children.Statement.{statement}
 use Rattle.waitgraph.proofs.to_children.Tie as tie
-use Rattle.waitgraph.proofs.to_children.Reads as reads
-use Rattle.waitgraph.proofs.to_children.Lts as lts
-use Rattle.transactions.proofs.children_of.Reads as children-of-reads
 
 abbrev Inv-loop : tie.InvT-loop
 Inv-loop parent depth children points₀ t₀ points t = (t ≤ 24) × (length points ≡ 24) × Filled 0 points t (λ (k : ℕ). getD children k 0)

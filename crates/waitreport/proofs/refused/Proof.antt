@@ -2,8 +2,6 @@
 use mathlib.Core.Path.{refl}
 use Rattle.waitreport.proofs.refused.Statement.{statement}
 use Rattle.waitreport.proofs.refused.Tie as tie
-use Rattle.waitreport.proofs.refused.Reads as reads
-use Rattle.waitreport.proofs.refused.Lts as lts
 
 returns : tie.Need-returns
 returns c = (refl, refl)

@@ -1,7 +1,6 @@
 -- By the tests: what the arrays say is what the state says.
 use mathlib.Core.Path.{_≡_, sym, ap, subst, _∙_}
-use mathlib.Core.Bool.{Bool}
-use Prim.Native.Nat.{ℕ, _≤_}
+use Prim.Native.Nat.{_≤_}
 use native.Mathlib.Omega.{arith}
 use lib.ListN.{length}
 use Rattle.arrays.specs.View.{Owners}
@@ -13,12 +12,6 @@ use Rattle.waitreport.proofs.Reporting.{numbers-are, points-are, points
 use borrow.Author.Needs.{needs}
 use Rattle.waitreport.proofs.report_sound.Statement.{statement}
 use Rattle.waitreport.proofs.report_sound.Tie as tie
-use Rattle.waitreport.proofs.report_sound.Reads as reads
-use Rattle.waitreport.proofs.report_sound.Lts as lts
-use Rattle.waitreport.proofs.show_cycle.Reads as show-cycle-reads
-use Rattle.waitreport.proofs.refused.Reads as refused-reads
-use Rattle.waitgraph.proofs.pointings.Reads as pointings-reads
-use Rattle.waitgraph.proofs.rows_number.Reads as rows-number-reads
 
 refused-requires : tie.Need-refused-requires
 refused-requires c κs = search needs

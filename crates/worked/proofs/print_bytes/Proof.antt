@@ -5,10 +5,6 @@ use Prim.Native.Nat.{_-_, _≤_}
 use lib.ListN.{length}
 use Rattle.worked.proofs.print_bytes.Statement.{statement}
 use Rattle.worked.proofs.print_bytes.Tie as tie
-use Rattle.worked.proofs.print_bytes.Reads as reads
-use Rattle.worked.proofs.print_bytes.Lts as lts
-use Rattle.io.proofs.print_hex.Reads as print-hex-reads
-use Rattle.worked.proofs.wide.Reads as wide-reads
 
 abbrev Inv-loop : tie.InvT-loop
 Inv-loop bytes i₀ i-end i =

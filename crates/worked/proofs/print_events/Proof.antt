@@ -3,10 +3,6 @@ use borrow.Author.Needs.{needs}
 use Prim.Native.Nat.{_-_, _≤_}
 use Rattle.worked.proofs.print_events.Statement.{statement}
 use Rattle.worked.proofs.print_events.Tie as tie
-use Rattle.worked.proofs.print_events.Reads as reads
-use Rattle.worked.proofs.print_events.Lts as lts
-use Rattle.io.proofs.write_all.Reads as write-all-reads
-use Rattle.worked.proofs.print_part.Reads as print-part-reads
 
 abbrev Inv-loop : tie.InvT-loop
 Inv-loop events answers k₀ t4 t5 k =

@@ -3,11 +3,6 @@ use borrow.Author.Needs.{needs}
 use Prim.Native.Nat.{_-_, _≤_}
 use Rattle.worked.proofs.print_records.Statement.{statement}
 use Rattle.worked.proofs.print_records.Tie as tie
-use Rattle.worked.proofs.print_records.Reads as reads
-use Rattle.worked.proofs.print_records.Lts as lts
-use Rattle.io.proofs.print_decimal.Reads as print-decimal-reads
-use Rattle.io.proofs.write_all.Reads as write-all-reads
-use Rattle.worked.proofs.print_part.Reads as print-part-reads
 
 abbrev Inv-loop : tie.InvT-loop
 Inv-loop store r₀ t4 t5 t6 r =

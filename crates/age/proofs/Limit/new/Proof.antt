@@ -2,8 +2,6 @@
 use mathlib.Core.Path.{refl}
 use Rattle.age.proofs.Limit.new.Statement.{statement}
 use Rattle.age.proofs.Limit.new.Tie as tie
-use Rattle.age.proofs.Limit.new.Reads as reads
-use Rattle.age.proofs.Limit.new.Lts as lts
 
 returns : tie.Need-returns
 returns c = refl

@@ -7,9 +7,6 @@ use mir.Facts.{toZ-ofZ}
 use Rattle.rules.specs.Age.{judged}
 use Rattle.age.proofs.Minutes.judged_by.Statement.{statement}
 use Rattle.age.proofs.Minutes.judged_by.Tie as tie
-use Rattle.age.proofs.Minutes.judged_by.Reads as reads
-use Rattle.age.proofs.Minutes.judged_by.Lts as lts
-use Rattle.age.proofs.judge.Reads as judge-reads
 
 -- src/lib.rt:69:9
 judge-requires : tie.Need-judge-requires

@@ -4,8 +4,6 @@ use mir.Facts.{toZ-ofZ}
 use borrow.Author.Needs.{needs}
 use Rattle.age.proofs.Minutes.value.Statement.{statement}
 use Rattle.age.proofs.Minutes.value.Tie as tie
-use Rattle.age.proofs.Minutes.value.Reads as reads
-use Rattle.age.proofs.Minutes.value.Lts as lts
 
 returns : tie.Need-returns
 returns c = toZ-ofZ {w = w64} (search needs)

@@ -2,8 +2,6 @@
 use mathlib.Core.Path.{refl}
 use Rattle.age.proofs.Reading.new.Statement.{statement}
 use Rattle.age.proofs.Reading.new.Tie as tie
-use Rattle.age.proofs.Reading.new.Reads as reads
-use Rattle.age.proofs.Reading.new.Lts as lts
 
 returns : tie.Need-returns
 returns c = refl

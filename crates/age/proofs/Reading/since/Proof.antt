@@ -5,8 +5,6 @@ use mir.Syntax.{w64}
 use mir.Facts.{toZ-ofZ}
 use Rattle.age.proofs.Reading.since.Statement.{statement}
 use Rattle.age.proofs.Reading.since.Tie as tie
-use Rattle.age.proofs.Reading.since.Reads as reads
-use Rattle.age.proofs.Reading.since.Lts as lts
 
 difference-requires : tie.Need-difference-requires
 difference-requires c κs = search needs

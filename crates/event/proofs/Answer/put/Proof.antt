@@ -5,8 +5,6 @@ use lib.ListN.{length-set}
 use borrow.Author.Needs.{needs}
 use Rattle.event.proofs.Answer.put.Statement.{statement}
 use Rattle.event.proofs.Answer.put.Tie as tie
-use Rattle.event.proofs.Answer.put.Reads as reads
-use Rattle.event.proofs.Answer.put.Lts as lts
 
 mul-at : tie.Need-mul-at
 mul-at c = search needs

@@ -8,9 +8,6 @@ use Rattle.event.proofs.Meaning.{in-range1}
 use borrow.Author.Needs.{needs}
 use Rattle.event.proofs.Event.of_word.Statement.{statement}
 use Rattle.event.proofs.Event.of_word.Tie as tie
-use Rattle.event.proofs.Event.of_word.Reads as reads
-use Rattle.event.proofs.Event.of_word.Lts as lts
-use Rattle.event.proofs.narrow.Reads as narrow-reads
 
 cast-kind : tie.Need-cast-kind
 cast-kind c = search needs

@@ -2,8 +2,6 @@
 use mathlib.Core.Path.{refl}
 use Rattle.event.proofs.Event.table.Statement.{statement}
 use Rattle.event.proofs.Event.table.Tie as tie
-use Rattle.event.proofs.Event.table.Reads as reads
-use Rattle.event.proofs.Event.table.Lts as lts
 
 returns : tie.Need-returns
 returns c = refl

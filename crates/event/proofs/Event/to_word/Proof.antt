@@ -3,8 +3,6 @@ use Rattle.rules.specs.Event.{word}
 use borrow.Author.Needs.{needs}
 use Rattle.event.proofs.Event.to_word.Statement.{statement}
 use Rattle.event.proofs.Event.to_word.Tie as tie
-use Rattle.event.proofs.Event.to_word.Reads as reads
-use Rattle.event.proofs.Event.to_word.Lts as lts
 
 -- src/lib.rt:85:20
 cast-kind : tie.Need-cast-kind

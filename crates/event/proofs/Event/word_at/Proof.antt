@@ -6,9 +6,6 @@ use Rattle.event.proofs.Words.{four-at}
 use borrow.Author.Needs.{needs}
 use Rattle.event.proofs.Event.word_at.Statement.{statement}
 use Rattle.event.proofs.Event.word_at.Tie as tie
-use Rattle.event.proofs.Event.word_at.Reads as reads
-use Rattle.event.proofs.Event.word_at.Lts as lts
-use Rattle.event.proofs.wide.Reads as wide-reads
 
 -- src/lib.rt:101:18
 mul-at : tie.Need-mul-at

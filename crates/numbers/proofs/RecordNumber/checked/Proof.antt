@@ -3,8 +3,6 @@ use native.Mathlib.Omega.{arith}
 use Rattle.numbers.proofs.Named.{record-below, record-past}
 use Rattle.numbers.proofs.RecordNumber.checked.Statement.{statement}
 use Rattle.numbers.proofs.RecordNumber.checked.Tie as tie
-use Rattle.numbers.proofs.RecordNumber.checked.Reads as reads
-use Rattle.numbers.proofs.RecordNumber.checked.Lts as lts
 
 returns : tie.Need-returns
 returns c = record-below (c .before .args .count) (c .before .args .n) (omega arith)

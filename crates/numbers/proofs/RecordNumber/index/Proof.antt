@@ -4,8 +4,6 @@ use Rattle.numbers.specs.Named.{recordOf}
 use borrow.Author.Needs.{needs}
 use Rattle.numbers.proofs.RecordNumber.index.Statement.{statement}
 use Rattle.numbers.proofs.RecordNumber.index.Tie as tie
-use Rattle.numbers.proofs.RecordNumber.index.Reads as reads
-use Rattle.numbers.proofs.RecordNumber.index.Lts as lts
 
 -- src/lib.rt:72:35
 cast-result : tie.Need-cast-result

@@ -3,8 +3,6 @@ use native.Mathlib.Omega.{arith}
 use Rattle.numbers.specs.Named.{recordOf}
 use Rattle.numbers.proofs.RecordNumber.number.Statement.{statement}
 use Rattle.numbers.proofs.RecordNumber.number.Tie as tie
-use Rattle.numbers.proofs.RecordNumber.number.Reads as reads
-use Rattle.numbers.proofs.RecordNumber.number.Lts as lts
 
 -- src/lib.rt:76:5
 returns : tie.Need-returns

@@ -3,8 +3,6 @@ use native.Mathlib.Omega.{arith}
 use Rattle.numbers.proofs.Named.{transaction-below, transaction-past}
 use Rattle.numbers.proofs.TransactionNumber.checked.Statement.{statement}
 use Rattle.numbers.proofs.TransactionNumber.checked.Tie as tie
-use Rattle.numbers.proofs.TransactionNumber.checked.Reads as reads
-use Rattle.numbers.proofs.TransactionNumber.checked.Lts as lts
 
 -- src/lib.rt:20:5
 returns : tie.Need-returns

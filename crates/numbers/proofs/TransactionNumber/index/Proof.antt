@@ -4,8 +4,6 @@ use Rattle.numbers.specs.Named.{transactionOf}
 use borrow.Author.Needs.{needs}
 use Rattle.numbers.proofs.TransactionNumber.index.Statement.{statement}
 use Rattle.numbers.proofs.TransactionNumber.index.Tie as tie
-use Rattle.numbers.proofs.TransactionNumber.index.Reads as reads
-use Rattle.numbers.proofs.TransactionNumber.index.Lts as lts
 
 -- src/lib.rt:34:35
 cast-result : tie.Need-cast-result

@@ -3,8 +3,6 @@ use native.Mathlib.Omega.{arith}
 use Rattle.numbers.specs.Named.{transactionOf}
 use Rattle.numbers.proofs.TransactionNumber.number.Statement.{statement}
 use Rattle.numbers.proofs.TransactionNumber.number.Tie as tie
-use Rattle.numbers.proofs.TransactionNumber.number.Reads as reads
-use Rattle.numbers.proofs.TransactionNumber.number.Lts as lts
 
 -- src/lib.rt:38:5
 returns : tie.Need-returns

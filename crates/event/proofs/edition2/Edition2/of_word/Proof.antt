@@ -7,9 +7,6 @@ use Rattle.event.proofs.Words.{right2, passes, fails}
 use borrow.Author.Needs.{needs}
 use Rattle.event.proofs.edition2.Edition2.of_word.Statement.{statement}
 use Rattle.event.proofs.edition2.Edition2.of_word.Tie as tie
-use Rattle.event.proofs.edition2.Edition2.of_word.Reads as reads
-use Rattle.event.proofs.edition2.Edition2.of_word.Lts as lts
-use Rattle.event.proofs.narrow.Reads as narrow-reads
 
 cast-kind : tie.Need-cast-kind
 cast-kind c = search needs

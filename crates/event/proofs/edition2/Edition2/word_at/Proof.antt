@@ -6,9 +6,6 @@ use Rattle.event.proofs.Words.{eight-at}
 use borrow.Author.Needs.{needs}
 use Rattle.event.proofs.edition2.Edition2.word_at.Statement.{statement}
 use Rattle.event.proofs.edition2.Edition2.word_at.Tie as tie
-use Rattle.event.proofs.edition2.Edition2.word_at.Reads as reads
-use Rattle.event.proofs.edition2.Edition2.word_at.Lts as lts
-use Rattle.event.proofs.Event.word_at.Reads as word-at-reads
 
 mul-word-at : tie.Need-mul-word-at
 mul-word-at c = search needs

@@ -1,0 +1,2 @@
+-- What is delivered.
+pub mod Delivered

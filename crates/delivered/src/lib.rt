@@ -1,0 +1,1 @@
+// All that is promised of the rules, under one name. No code.
