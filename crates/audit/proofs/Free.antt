@@ -7,7 +7,7 @@ use mathlib.Core.Option.{Option, none, some}
 use Prim.Native.Nat.{ℕ, zero, suc}
 use Rattle.laws.specs.Tests.{under, open-tests}
 use Rattle.rules.specs.Geometry.{Geometry}
-use Rattle.rules.specs.Event.{Event, Fields, begin, lock, write, read, commit, abort, crash, recover, prepare, decide, query, fields, wellFormed, eventOf, decode}
+use Rattle.rules.specs.Event.{Event, Fields, begin, lock, write, read, commit, abort, crash, recover, prepare, decide, query, fields, wellFormed, eventAt, eventOf, decode}
 use Rattle.rules.specs.State.{lineOf, down}
 use Rattle.rules.specs.Versions.{isSome}
 use Rattle.rules.specs.Commit.{Cut}
@@ -37,29 +37,29 @@ isPlain (some (query i)) = false
 abbrev ofKind : ℕ → Fields → Fields
 ofKind n x = record { kind = n; transaction = x .transaction; rec = x .rec; offset = x .offset; count = x .count; value = x .value; spare = x .spare }
 
-plain-kind : (n : ℕ) (x : Fields) → (under 8 n && under n 12) ≡ false → isPlain (eventOf (ofKind n x)) ≡ true
-unfolding eventOf open-tests
-plain-kind zero x e = refl
-plain-kind (suc zero) x e = refl
-plain-kind (suc (suc zero)) x e = refl
-plain-kind (suc (suc (suc zero))) x e = refl
-plain-kind (suc (suc (suc (suc zero)))) x e = refl
-plain-kind (suc (suc (suc (suc (suc zero))))) x e = refl
-plain-kind (suc (suc (suc (suc (suc (suc zero)))))) x e = refl
-plain-kind (suc (suc (suc (suc (suc (suc (suc zero))))))) x e = refl
-plain-kind (suc (suc (suc (suc (suc (suc (suc (suc zero)))))))) x e = refl
-plain-kind (suc (suc (suc (suc (suc (suc (suc (suc (suc zero))))))))) x e = absurd (true≢false e)
-plain-kind (suc (suc (suc (suc (suc (suc (suc (suc (suc (suc zero)))))))))) x e = absurd (true≢false e)
-plain-kind (suc (suc (suc (suc (suc (suc (suc (suc (suc (suc (suc zero))))))))))) x e = absurd (true≢false e)
-plain-kind (suc (suc (suc (suc (suc (suc (suc (suc (suc (suc (suc (suc n)))))))))))) x e = refl
+plain-kind : (n : ℕ) (x : Fields) (k : ℕ) → (under 8 n && under n 12) ≡ false → isPlain (eventAt (ofKind n x) k) ≡ true
+unfolding eventAt open-tests
+plain-kind zero x k e = refl
+plain-kind (suc zero) x k e = refl
+plain-kind (suc (suc zero)) x k e = refl
+plain-kind (suc (suc (suc zero))) x k e = refl
+plain-kind (suc (suc (suc (suc zero)))) x k e = refl
+plain-kind (suc (suc (suc (suc (suc zero))))) x k e = refl
+plain-kind (suc (suc (suc (suc (suc (suc zero)))))) x k e = refl
+plain-kind (suc (suc (suc (suc (suc (suc (suc zero))))))) x k e = refl
+plain-kind (suc (suc (suc (suc (suc (suc (suc (suc zero)))))))) x k e = refl
+plain-kind (suc (suc (suc (suc (suc (suc (suc (suc (suc zero))))))))) x k e = absurd (true≢false e)
+plain-kind (suc (suc (suc (suc (suc (suc (suc (suc (suc (suc zero)))))))))) x k e = absurd (true≢false e)
+plain-kind (suc (suc (suc (suc (suc (suc (suc (suc (suc (suc (suc zero))))))))))) x k e = absurd (true≢false e)
+plain-kind (suc (suc (suc (suc (suc (suc (suc (suc (suc (suc (suc (suc n)))))))))))) x k e = refl
 
 -- a word of another kind than 9 to 11
 pub plain-word : (g : Geometry) (w : ℕ) → isTwoPhase g w ≡ false → isPlain (decode g w) ≡ true
-unfolding decode isTwoPhase
+unfolding decode isTwoPhase eventOf
 plain-word g w e = go (wellFormed g (fields g w))
   where
-    go : (b : Bool) → isPlain (cond b (eventOf (fields g w)) none) ≡ true
-    go true = plain-kind (fields g w .kind) (fields g w) e
+    go : (b : Bool) → isPlain (cond b (eventOf g (fields g w)) none) ≡ true
+    go true = plain-kind (fields g w .kind) (fields g w) _ e
     go false = refl
 
 module _ (f : Form) where

@@ -1,6 +1,6 @@
 -- The page writes of a commit in two halves, the second without its last page write, and then that one.
 use mathlib.Core.Path.{_≡_, sym, ap, subst⁻¹, _∙_}
-use mathlib.Core.Bool.{cond}
+use mathlib.Core.Bool.{false, cond}
 use mathlib.Core.List.{List, [], _∷_, _++_, append-assoc}
 use mathlib.Core.Logic.{_≢_}
 use mathlib.Core.Option.{Option, none, some}
@@ -10,14 +10,15 @@ use Rattle.laws.specs.Tests.{same}
 use Rattle.rules.specs.Store.{Page, Pages, named, commitPage}
 use Rattle.rules.specs.Commit.{PageWrite, sets, cutAt, marks, commitAt}
 use Rattle.rules.specs.Editions.{geometry1}
-use Rattle.commit.specs.Phase.{Phase, Leaves, sweep, copies}
-use Rattle.commit.proofs.Phases.{phase-then, phase-last}
+use Rattle.counted.specs.Phase.{Phase, Leaves}
+use Rattle.counted.proofs.Phases.{phase-then, phase-last, as-spent}
+use Rattle.commit.specs.Phase.{sweep, copies}
 use Rattle.commit.proofs.Plans.{commit-is}
 
 pub halves-leave : (map : ℕ) (v : ℕ → Option Page) (new : ℕ → Page) → ((r : ℕ) → r < 16 → v r ≡ cond (named geometry1 map r) (some (new r)) none)
     → {s s₁ s₂ s₃ : Pages} {k a b c : ℕ} → map < 2 ^ 16 → map ≢ 0
-    → Phase k (sweep (named geometry1 map) (copies 1 new) 16 ++ (sets 0 (commitPage geometry1 map) ∷ [])) s s₁ a
-    → Phase a (sweep (named geometry1 map) (copies 17 new) 16) s₁ s₂ b → Phase b (sets 0 (commitPage geometry1 0) ∷ []) s₂ s₃ c
+    → Phase false k (sweep (named geometry1 map) (copies 1 new) 16 ++ (sets 0 (commitPage geometry1 map) ∷ [])) s s₁ a
+    → Phase false a (sweep (named geometry1 map) (copies 17 new) 16) s₁ s₂ b → Phase false b (sets 0 (commitPage geometry1 0) ∷ []) s₂ s₃ c
     → Leaves (commitAt geometry1 s v k) s₃ (k - c) (same b 0)
 unfolding commitAt marks
 halves-leave map v new are {s} {s₁} {s₂} {s₃} {k} {a} {b} {c} small h p q r =
@@ -25,4 +26,4 @@ halves-leave map v new are {s} {s₁} {s₂} {s₃} {k} {a} {b} {c} small h p q 
     (commit-is geometry1 16 (layout1 .many) map v new are small h
     ∙ ap (λ (ws : List PageWrite). ws ++ (sets 0 (commitPage geometry1 0) ∷ []))
     (sym (append-assoc (sweep (named geometry1 map) (copies 1 new) 16) (sets 0 (commitPage geometry1 map) ∷ []) (sweep (named geometry1 map) (copies 17 new) 16))))
-    (phase-last (phase-then p q) r)
+    (as-spent b (phase-last (phase-then p q) r))

@@ -1,6 +1,6 @@
 // The auditor's own page writes: of a top transaction's commit, with pages found in the history, and of a recovery, each cut at a count.
 ghost use mathlib.Core.Path.{_≡_};
-ghost use mathlib.Core.Bool.{true, cond};
+ghost use mathlib.Core.Bool.{true, false, cond};
 ghost use mathlib.Core.List.{List, [], _∷_, _++_};
 ghost use Prim.Native.Nat.{ℕ, _+_, _*_, _<_, _≤_};
 ghost use lib.ListN.{length, getD};
@@ -14,7 +14,8 @@ ghost use Rattle.history.specs.Demand3.{settledIn};
 ghost use Rattle.event.specs.Flags.{flags};
 ghost use Rattle.audit.specs.Plain.{Ledger, changesBy};
 ghost use Rattle.commitpage.specs.Heard.{understood};
-ghost use Rattle.commit.specs.Phase.{Phase, Leaves, due, sweep, copies};
+ghost use Rattle.counted.specs.Phase.{Phase, Leaves};
+ghost use Rattle.commit.specs.Phase.{due, sweep, copies};
 ghost use Rattle.links.specs.Links.{Earlier, Linked};
 ghost use Rattle.scans.specs.Scans.{writesUpTo};
 ghost use Rattle.bearers.specs.Tables.{tables, ledgerOf};
@@ -91,7 +92,7 @@ fn changed_map(
 // Page n becomes `page`, if the count `left` allows another page write. Returns what remains of the count.
 fn write_one(store: &mut [u8], n: usize, page: [u8; 32], left: u8) -> u8
     requires { ⌜ (n < 33) × (length (now store) ≡ 1056) ⌝ }
-    ensures { λ x. ⌜ Phase left (sets n page ∷ []) (pagesOf (now (store .entry))) (pagesOf (now (store .exit))) x ⌝ }
+    ensures { λ x. ⌜ Phase false left (sets n page ∷ []) (pagesOf (now (store .entry))) (pagesOf (now (store .exit))) x ⌝ }
 {
     if 0 < left {
         page::put_page(store, n, page);
@@ -118,7 +119,7 @@ fn write_record(
 ) -> u8
     requires { ⌜ (now table ≡ flags) × (n < 4096) × (4 * n + 4 ≤ length (now events)) × ((j : ℕ) → getD (now owner) j 0 < 4097) × (me < 4097) × Earlier (now parent) × (length (now start) ≡ 1056) × (length (now store) ≡ 1056) × (first + 16 ≤ 33) × (r < 16) ⌝ }
     ensures { λ x. ⌜ ((l : Ledger) → Linked l (now (parent .entry)) (now (fate .entry)) →
-        Phase left (due (named geometry1 map) (copies first (changedPage l (now (start .entry)) (now (owner .entry)) (now (events .entry)) n me)) r) (pagesOf (now (store .entry))) (pagesOf (now (store .exit))) x) ⌝ }
+        Phase false left (due (named geometry1 map) (copies first (changedPage l (now (start .entry)) (now (owner .entry)) (now (events .entry)) n me)) r) (pagesOf (now (store .entry))) (pagesOf (now (store .exit))) x) ⌝ }
 {
     if commitpage::names(map, 16, r) & (0 < left) {
         let at = first + (r as usize);
@@ -156,7 +157,7 @@ fn write_records(
 ) -> u8
     requires { ⌜ (now table ≡ flags) × (n < 4096) × (4 * n + 4 ≤ length (now events)) × ((j : ℕ) → getD (now owner) j 0 < 4097) × (me < 4097) × Earlier (now parent) × (length (now start) ≡ 1056) × (length (now store) ≡ 1056) × (first + 16 ≤ 33) ⌝ }
     ensures { λ x. ⌜ ((l : Ledger) → Linked l (now (parent .entry)) (now (fate .entry)) →
-        Phase left (sweep (named geometry1 map) (copies first (changedPage l (now (start .entry)) (now (owner .entry)) (now (events .entry)) n me)) 16) (pagesOf (now (store .entry))) (pagesOf (now (store .exit))) x) ⌝ }
+        Phase false left (sweep (named geometry1 map) (copies first (changedPage l (now (start .entry)) (now (owner .entry)) (now (events .entry)) n me)) 16) (pagesOf (now (store .entry))) (pagesOf (now (store .exit))) x) ⌝ }
 {
     let mut rest = left;
     for r in 0..16u8 {
@@ -195,7 +196,7 @@ fn write_intentions(
 ) -> u8
     requires { ⌜ (now table ≡ flags) × (n < 4096) × (4 * n + 4 ≤ length (now events)) × ((j : ℕ) → getD (now owner) j 0 < 4097) × (me < 4097) × Earlier (now parent) × (length (now start) ≡ 1056) × (length (now store) ≡ 1056) × (map < 65536) ⌝ }
     ensures { λ x. ⌜ ((l : Ledger) → Linked l (now (parent .entry)) (now (fate .entry)) →
-        Phase left (sweep (named geometry1 map) (copies 1 (changedPage l (now (start .entry)) (now (owner .entry)) (now (events .entry)) n me)) 16 ++ (sets 0 (commitPage geometry1 map) ∷ [])) (pagesOf (now (store .entry))) (pagesOf (now (store .exit))) x) ⌝ }
+        Phase false left (sweep (named geometry1 map) (copies 1 (changedPage l (now (start .entry)) (now (owner .entry)) (now (events .entry)) n me)) 16 ++ (sets 0 (commitPage geometry1 map) ∷ [])) (pagesOf (now (store .entry))) (pagesOf (now (store .exit))) x) ⌝ }
 {
     let rest = write_records(
         store,
@@ -281,7 +282,7 @@ pub fn commit_writes(
 // Record r's intention page goes home, if the map names r and anything is left of the count.
 fn recover_record(store: &mut [u8], map: u64, r: u8, left: u8) -> u8
     requires { ⌜ (r < 16) × (length (now store) ≡ 1056) ⌝ }
-    ensures { λ x. ⌜ Phase left (due (named geometry1 map) (copies 17 (λ j. pagesOf (now (store .entry)) (1 + j))) r) (pagesOf (now (store .entry))) (pagesOf (now (store .exit))) x ⌝ }
+    ensures { λ x. ⌜ Phase false left (due (named geometry1 map) (copies 17 (λ j. pagesOf (now (store .entry)) (1 + j))) r) (pagesOf (now (store .entry))) (pagesOf (now (store .exit))) x ⌝ }
 {
     if commitpage::names(map, 16, r) & (0 < left) {
         let at = r as usize;

@@ -1,5 +1,6 @@
 -- The crate's laws
-pub mod Phases
+pub mod Room
+pub mod Understood
 pub mod Sweeps
 pub mod Plans
 pub mod Arguments

@@ -1,41 +1,36 @@
 -- The page writes of a commit and of a recovery as phases: a sweep over the records, a commit page, and so on; and the rules' cut of them.
-use mathlib.Core.Path.{_≡_, refl, sym, ap, ap₂, subst, subst⁻¹, _∙_}
+use mathlib.Core.Path.{_≡_, refl, sym, ap, ap₂, subst, subst⁻¹, _∙_, fun-ext}
 use mathlib.Core.Bool.{Bool, true, false, cond, _&&_, true≢false}
 use mathlib.Core.List.{List, [], _∷_, _++_, map, append-assoc}
 use mathlib.Core.Logic.{_≢_}
 use mathlib.Core.Option.{Option, none, some}
 use Prim.Native.Nat.{ℕ, _+_, _-_, _^_, _<_}
 use native.Mathlib.Omega.{arith}
-use lib.ListN.{length, take}
 use lib.Pow.{pow-pos}
-use lib.Seq.{take-nil}
-use Rattle.laws.specs.Tests.{same, under}
+use Rattle.laws.specs.Tests.{under}
 use Rattle.laws.specs.Counting.{those}
 use Rattle.laws.proofs.Tests.{lt-under, Is, is?, yes′, no′}
 use Rattle.laws.proofs.Those.{those-same, those-none}
 use Rattle.rules.specs.Geometry.{Geometry, records}
 use Rattle.rules.specs.Store.{Page, Pages, intention, home, mapOf, named, commitPage, readCommit, mapIn, isNamed}
 use Rattle.rules.specs.Versions.{isSome, else}
-use Rattle.rules.specs.Commit.{PageWrite, sets, applied, cutAt, pageIn, intentions, homes, marks, commitWrites, recoverWrites, commitPlan, recoverPlan, commitAt, recoverAt}
+use Rattle.rules.specs.Commit.{PageWrite, sets, Cut, pageIn, intentions, homes, marks, commitWrites, recoverWrites, commitPlan, recoverPlan, commitAt, recoverAt}
 use Rattle.rules.proofs.CommitPage.{read-is}
-use Rattle.rules.proofs.Cuts.{not-lt-under}
 use Rattle.rules.proofs.Map.{mapOf-named, mapOf-same, named-zero, names-none}
 use Rattle.rules.proofs.Members.{those-all}
 use Rattle.rules.specs.State.{mem}
-use Rattle.commit.specs.Phase.{Phase, Leaves, sweep, copies, topSlot, versionsIn}
-use Rattle.commit.proofs.Phases.{phase-then, phase-last}
+use Rattle.rules.specs.Pairs.{shown, mended, commitPairs, recoverPairs}
+use Rattle.rules.proofs.Pairs.{shows-mend}
+use Rattle.counted.specs.Phase.{StoreOf, storeOf, shownIn, mendedIn, cutOn, share, Phase, madeOf, Leaves, mediumOf}
+use Rattle.counted.proofs.Phases.{phase-then, phase-last, none-left}
+use Rattle.commit.specs.Phase.{sweep, copies, topSlot, versionsIn}
 use Rattle.commit.proofs.Sweeps.{sweep-same}
 
--- nothing to write
-pub none-left : (k : ℕ) (s : Pages) {ws : List PageWrite} → ws ≡ [] → Leaves (cutAt k ws s) s 0 false
-unfolding cutAt applied
-none-left k s {ws} e =
-    let u : under k (length ws) ≡ false = ap (λ (l : List PageWrite). under k (length l)) e ∙ not-lt-under k 0 (omega arith) in
-    record {
-      store = sym (ap (λ (l : List PageWrite). applied (take k l) s) e ∙ ap (λ (l : List PageWrite). applied l s) (take-nil k));
-      made = sym (ap₂ (λ (b : Bool) (l : List PageWrite). cond b k (length l)) u e);
-      crashed = sym u;
-    }
+-- mending shows what was shown
+shown-mended : (b : Bool) (s : StoreOf b) → shownIn b (mendedIn b s) ≡ shownIn b s
+unfolding shown mended
+shown-mended false s = refl
+shown-mended true s = fun-ext (λ n. shows-mend (s n))
 
 -- something to write
 commit-some : (g : Geometry) (new : ℕ → Page) (m : ℕ) (rs : List ℕ) → rs ≢ []
@@ -119,18 +114,18 @@ module _ (g : Geometry) (n : ℕ) (many : records g ≡ n) where
     commit-nothing e =
         ap (commitWrites g (pageIn v) (mapOf g (λ r. isSome (v r)))) (those-is ∙ ap (λ (m : ℕ). those n (named g m)) e ∙ those-none n (named-zero g))
 
-    pub commit-none : (s : Pages) (k : ℕ) → map ≡ 0 → Leaves (commitAt g s v k) s 0 false
-    unfolding commitAt
-    commit-none s k e = none-left k s (commit-nothing e)
+    pub commit-none : (b : Bool) (s : StoreOf b) (k : ℕ) → map ≡ 0 → Leaves (cutOn b k (commitPlan g v) s) s 0 false
+    commit-none b s k e = none-left b k s (commit-nothing e)
 
     -- the four phases of a commit
-    pub commit-leaves : {s s₁ s₂ s₃ s₄ : Pages} {k a b c d : ℕ} → map < 2 ^ n → map ≢ 0
-        → Phase k (sweep (named g map) (copies 1 new) n) s s₁ a → Phase a (sets 0 (commitPage g map) ∷ []) s₁ s₂ b
-        → Phase b (sweep (named g map) (copies (1 + n) new) n) s₂ s₃ c → Phase c (sets 0 (commitPage g 0) ∷ []) s₃ s₄ d
-        → Leaves (commitAt g s v k) s₄ (k - d) (same c 0)
-    unfolding commitAt marks
-    commit-leaves {s = s} {s₄ = s₄} {k = k} {c = c} {d = d} small h p q r t =
-        subst⁻¹ (λ (ws : List PageWrite). Leaves (cutAt k ws s) s₄ (k - d) (same c 0)) (commit-is small h) (phase-last (phase-then p (phase-then q r)) t)
+    pub commit-leaves : {b : Bool} {s s₁ s₂ s₃ s₄ : StoreOf b} {k a c d e : ℕ} → map < 2 ^ n → map ≢ 0
+        → Phase b k (sweep (named g map) (copies 1 new) n) s s₁ a → Phase b a (sets 0 (commitPage g map) ∷ []) s₁ s₂ c
+        → Phase b c (sweep (named g map) (copies (1 + n) new) n) s₂ s₃ d → Phase b d (sets 0 (commitPage g 0) ∷ []) s₃ s₄ e
+        → Leaves (cutOn b k (commitPlan g v) s) s₄ (madeOf b k d e) (under d (share b))
+    unfolding marks
+    commit-leaves {b} {s = s} {s₄ = s₄} {k = k} {d = d} {e = e} small h p q r t =
+        subst⁻¹ (λ (ws : List PageWrite). Leaves (cutOn b k ws s) s₄ (madeOf b k d e) (under d (share b))) (commit-is small h)
+        (phase-last (phase-then p (phase-then q r)) t)
 
   -- a recovery over a commit page whose map in force is this
   module _ (map k : ℕ) (s : Pages) (says : mapIn (readCommit g (s 0)) ≡ map) where
@@ -148,10 +143,6 @@ module _ (g : Geometry) (n : ℕ) (many : records g ≡ n) where
     unfolding recoverWrites
     recover-nothing e = ap (recoverWrites g (λ r. s (intention r))) (names-are ∙ ap (λ (m : ℕ). those n (named g m)) e ∙ those-none n (named-zero g))
 
-    pub recover-none : map ≡ 0 → Leaves (recoverAt g s k) s 0 false
-    unfolding recoverAt
-    recover-none e = none-left k s (recover-nothing e)
-
     returns-are : homes g (λ r. s (intention r)) (those n (named g map)) ≡ sweep (named g map) (copies (1 + n) (λ r. s (1 + r))) n
     unfolding homes sweep home copies intention
     returns-are = sweep-same n (named g map) _ _ (λ r lt e. ap (λ (j : ℕ). sets j (s (1 + r))) (omega (arith, many)))
@@ -162,10 +153,42 @@ module _ (g : Geometry) (n : ℕ) (many : records g ≡ n) where
         ∙ recover-some g (λ r. s (intention r)) (those n (named g map)) (some-named map small h)
         ∙ ap (λ (l : List PageWrite). l ++ (marks g 0 ∷ [])) returns-are
 
-    -- the two phases of a recovery
-    pub recover-leaves : {s₁ s₂ : Pages} {a b : ℕ} → map ≢ 0
-        → Phase k (sweep (named g map) (copies (1 + n) (λ r. s (1 + r))) n) s s₁ a → Phase a (sets 0 (commitPage g 0) ∷ []) s₁ s₂ b
-        → Leaves (recoverAt g s k) s₂ (k - b) (same a 0)
-    unfolding recoverAt marks
-    recover-leaves {s₂ = s₂} {a = a} {b = b} h p q =
-        subst⁻¹ (λ (ws : List PageWrite). Leaves (cutAt k ws s) s₂ (k - b) (same a 0)) (recovery-is h) (phase-last p q)
+  -- a recovery of a store that shows such a commit page: its page writes begin with the store mended
+  module _ (b : Bool) (map k : ℕ) (s : StoreOf b) (says : mapIn (readCommit g (shownIn b s 0)) ≡ map) {s₀ : StoreOf b} (mends : s₀ ≡ mendedIn b s) where
+    pub recover-none : map ≡ 0 → Leaves (cutOn b k (recoverPlan g (shownIn b s)) (mendedIn b s)) s₀ 0 false
+    recover-none e =
+        subst⁻¹ (λ (t : StoreOf b). Leaves (cutOn b k (recoverPlan g (shownIn b s)) (mendedIn b s)) t 0 false) mends
+        (none-left b k (mendedIn b s) (recover-nothing map k (shownIn b s) says e))
+
+    planned : map ≢ 0 → recoverPlan g (shownIn b s) ≡ sweep (named g map) (copies (1 + n) (λ r. shownIn b s₀ (1 + r))) n ++ (marks g 0 ∷ [])
+    planned h =
+        recovery-is map k (shownIn b s) says h
+        ∙ ap (λ (t : Pages). sweep (named g map) (copies (1 + n) (λ r. t (1 + r))) n ++ (marks g 0 ∷ [])) (sym (ap (shownIn b) mends ∙ shown-mended b s))
+
+    -- its two phases
+    pub recover-leaves : {s₁ s₂ : StoreOf b} {a c : ℕ} → map ≢ 0
+        → Phase b k (sweep (named g map) (copies (1 + n) (λ r. shownIn b s₀ (1 + r))) n) s₀ s₁ a → Phase b a (sets 0 (commitPage g 0) ∷ []) s₁ s₂ c
+        → Leaves (cutOn b k (recoverPlan g (shownIn b s)) (mendedIn b s)) s₂ (madeOf b k a c) (under a (share b))
+    unfolding marks
+    recover-leaves {s₂ = s₂} {a = a} {c = c} h p q =
+        subst (λ (t : StoreOf b). Leaves (cutOn b k (recoverPlan g (shownIn b s)) t) s₂ (madeOf b k a c) (under a (share b))) mends
+        (subst⁻¹ (λ (ws : List PageWrite). Leaves (cutOn b k ws s₀) s₂ (madeOf b k a c) (under a (share b))) (planned h) (phase-last p q))
+
+-- what is told of a cut, in other words
+pub told : {S : Type 0} {c : Cut S} {t : S} {m m′ : ℕ} {d d′ : Bool} → m ≡ m′ → d ≡ d′ → Leaves c t m′ d′ → Leaves c t m d
+told e f L = record { store = L .store; made = e ∙ L .made; crashed = f ∙ L .crashed }
+
+-- the rules' cut, by the medium
+pub by-commit : (b : Bool) (g : Geometry) (bs bs′ : List ℕ) (v : ℕ → Option Page) (k m : ℕ) (d : Bool)
+    → Leaves (cutOn b k (commitPlan g v) (storeOf b bs)) (storeOf b bs′) m d
+    → Leaves (mediumOf b g .commit (mediumOf b g .fromBytes bs) v k) (mediumOf b g .fromBytes bs′) m d
+unfolding commitAt commitPairs
+by-commit false g bs bs′ v k m d L = L
+by-commit true g bs bs′ v k m d L = L
+
+pub by-recovery : (b : Bool) (g : Geometry) (bs bs′ : List ℕ) (k m : ℕ) (d : Bool)
+    → Leaves (cutOn b k (recoverPlan g (shownIn b (storeOf b bs))) (mendedIn b (storeOf b bs))) (storeOf b bs′) m d
+    → Leaves (mediumOf b g .recover (mediumOf b g .fromBytes bs) k) (mediumOf b g .fromBytes bs′) m d
+unfolding recoverAt recoverPairs
+by-recovery false g bs bs′ k m d L = L
+by-recovery true g bs bs′ k m d L = L

@@ -4,43 +4,34 @@ use mathlib.Core.Bool.{Bool, true, false, _&&_}
 use mathlib.Core.List.{List, [], _∷_, _++_}
 use mathlib.Core.Logic.{_≢_}
 use mathlib.Core.Option.{Option, some}
-use Prim.Native.Nat.{ℕ, zero, suc, _+_, _-_, _^_, _<_}
+use Prim.Native.Nat.{ℕ, _+_, _-_, _^_, _<_}
 use native.Mathlib.Omega.{arith}
-use lib.ListN.{take}
-use lib.Seq.{take-nil}
 use Rattle.laws.specs.Tests.{same}
 use Rattle.laws.specs.Counting.{those}
-use Rattle.laws.specs.Functions.{updated}
 use Rattle.laws.proofs.Tests.{lt-under}
 use Rattle.laws.proofs.Those.{those-same, those-none}
-use Rattle.laws.proofs.Updated.{updated-other}
 use Rattle.rules.specs.Geometry.{Geometry, records}
 use Rattle.rules.specs.Store.{Page, Pages, intention, home, mapOf, named, commitPage, Prepared, preparedPage, readPrepared, preparedMap, isReserved}
 use Rattle.rules.specs.Versions.{isSome}
-use Rattle.rules.specs.Commit.{PageWrite, sets, written, applied, cutAt, pageIn, intentions, homes, marks, recoverWrites, prepareWrites, decideWrites, prepareAt, decideAt, preparePlan, decidePlan}
+use Rattle.rules.specs.Commit.{PageWrite, sets, cutAt, pageIn, intentions, homes, marks, recoverWrites, prepareWrites, decideWrites, prepareAt, decideAt, preparePlan, decidePlan}
 use Rattle.rules.proofs.Map.{named-zero}
 use Rattle.rules.proofs.PreparedPage.{prepared-is}
 use Rattle.commitpage.specs.Heard.{prepared}
-use Rattle.commit.specs.Phase.{Phase, Leaves, sweep, copies, topSlot, versionsIn}
-use Rattle.commit.proofs.Phases.{phase-then, phase-last, phase-none}
-use Rattle.commit.proofs.Plans.{slots-are, none-left, recover-some, some-named, those-is, map-is, intentions-are}
-use Rattle.commit.proofs.Sweeps.{sweep-same}
+use Rattle.counted.specs.Phase.{Phase, Leaves}
+use Rattle.counted.proofs.Phases.{phase-then, phase-last, phase-none, none-left, as-spent}
+use Rattle.commit.specs.Phase.{sweep, copies, topSlot, versionsIn}
+use Rattle.commit.proofs.Plans.{slots-are, recover-some, some-named, those-is, map-is, intentions-are}
+use Rattle.commit.proofs.Sweeps.{sweep-same, kept-mark}
 
 prepare-some : (g : Geometry) (new : ℕ → Page) (p : Prepared) (rs : List ℕ) → rs ≢ [] → prepareWrites g new p rs ≡ intentions g new rs ++ (sets 0 (preparedPage g p) ∷ [])
 unfolding prepareWrites
 prepare-some g new p [] h = absurd (h refl)
 prepare-some g new p (r ∷ rs) h = refl
 
--- a page write of the commit page leaves the intention pages
-mark-plan : (k : ℕ) (p : Page) (s : Pages) (j : ℕ) → applied (take k (sets 0 p ∷ [])) s (1 + j) ≡ s (1 + j)
-unfolding applied written
-mark-plan zero p s j = refl
-mark-plan (suc k) p s j = ap (λ (l : List PageWrite). applied l (updated 0 p s) (1 + j)) (take-nil k) ∙ updated-other 0 p s (1 + j) (λ e. omega arith)
-
 -- the one phase of a decision to abort
-pub struck-leaves : (g : Geometry) {s s₁ : Pages} {k a : ℕ} → Phase k (sets 0 (commitPage g 0) ∷ []) s s₁ a → Leaves (decideAt g s false k) s₁ (k - a) (same k 0)
+pub struck-leaves : (g : Geometry) {s s₁ : Pages} {k a : ℕ} → Phase false k (sets 0 (commitPage g 0) ∷ []) s s₁ a → Leaves (decideAt g s false k) s₁ (k - a) (same k 0)
 unfolding decideAt decideWrites marks
-struck-leaves g p = phase-last phase-none p
+struck-leaves g {k = k} p = as-spent k (phase-last phase-none p)
 
 module _ (g : Geometry) (n : ℕ) (many : records g ≡ n) where
   module _ (map : ℕ) (work : List ℕ) (i : ℕ) where
@@ -62,15 +53,15 @@ module _ (g : Geometry) (n : ℕ) (many : records g ≡ n) where
 
     pub prepare-none : (s : Pages) (k : ℕ) → map ≡ 0 → Leaves (prepareAt g s (versionsIn g map work) i k) s 0 false
     unfolding prepareAt
-    prepare-none s k e = none-left k s (prepare-nothing e)
+    prepare-none s k e = none-left false k s (prepare-nothing e)
 
     -- the two phases of a prepare
     pub prepare-leaves : {s s₁ s₂ : Pages} {k a b : ℕ} → map < 2 ^ n → map ≢ 0
-        → Phase k (sweep (named g map) (copies 1 (topSlot work)) n) s s₁ a → Phase a (sets 0 (preparedPage g (prepared map i)) ∷ []) s₁ s₂ b
+        → Phase false k (sweep (named g map) (copies 1 (topSlot work)) n) s s₁ a → Phase false a (sets 0 (preparedPage g (prepared map i)) ∷ []) s₁ s₂ b
         → Leaves (prepareAt g s (versionsIn g map work) i k) s₂ (k - b) (same a 0)
     unfolding prepareAt
     prepare-leaves {s = s} {s₂ = s₂} {k = k} {a = a} {b = b} small h p q =
-        subst⁻¹ (λ (ws : List PageWrite). Leaves (cutAt k ws s) s₂ (k - b) (same a 0)) (prepare-is small h) (phase-last p q)
+        subst⁻¹ (λ (ws : List PageWrite). Leaves (cutAt k ws s) s₂ (k - b) (same a 0)) (prepare-is small h) (as-spent a (phase-last p q))
 
   -- a decision on what is prepared with this map
   module _ (map i k : ℕ) (s : Pages) (says : readPrepared g (s 0) ≡ some (prepared map i)) where
@@ -104,11 +95,11 @@ module _ (g : Geometry) (n : ℕ) (many : records g ≡ n) where
 
     -- the three phases of a decision to commit
     pub decided-leaves : {s₁ s₂ s₃ : Pages} {a b c : ℕ}
-        → Phase k (sets 0 (commitPage g map) ∷ []) s s₁ a → Phase a (sweep (named g map) (copies (1 + n) (λ r. s₁ (1 + r))) n) s₁ s₂ b
-        → Phase b (sets 0 (commitPage g 0) ∷ []) s₂ s₃ c
+        → Phase false k (sets 0 (commitPage g map) ∷ []) s s₁ a → Phase false a (sweep (named g map) (copies (1 + n) (λ r. s₁ (1 + r))) n) s₁ s₂ b
+        → Phase false b (sets 0 (commitPage g 0) ∷ []) s₂ s₃ c
         → Leaves (decideAt g s true k) s₃ (k - c) (same b 0)
     unfolding decideAt marks
     decided-leaves {s₁ = s₁} {s₃ = s₃} {b = b} {c = c} p q t =
         subst⁻¹ (λ (ws : List PageWrite). Leaves (cutAt k ws s) s₃ (k - c) (same b 0))
-        (decision-is (λ r. s₁ (1 + r)) (λ j. ap (λ (x : Pages). x (1 + j)) (p .store) ∙ mark-plan k (commitPage g map) s j))
-        (phase-last (phase-then p q) t)
+        (decision-is (λ r. s₁ (1 + r)) (λ j. kept-mark k (commitPage g map) p j))
+        (as-spent b (phase-last (phase-then p q) t))

@@ -1,21 +1,18 @@
--- Page writes in phases, each with what the phases before it left of the count; the versions that a top transaction commits.
-use mathlib.Core.Path.{_≡_}
-use mathlib.Core.Bool.{Bool, cond, _&&_}
+-- The page writes of the records that a map names, by rising record; the versions that a top transaction commits; what a store says before a recovery.
+use mathlib.Core.Bool.{Bool, true, false, not, cond, _&&_}
 use mathlib.Core.List.{List, [], _∷_, map}
 use mathlib.Core.Option.{Option, none, some}
 use Prim.Native.Nat.{ℕ, _+_, _-_, _*_}
-use lib.ListN.{length, take}
 use Rattle.laws.specs.Tests.{under}
 use Rattle.laws.specs.Counting.{those}
 use Rattle.rules.specs.Geometry.{Geometry, records}
-use Rattle.rules.specs.Store.{Page, Pages, pagesOf, named}
-use Rattle.rules.specs.Commit.{PageWrite, sets, applied, Cut}
+use Rattle.rules.specs.Store.{Page, pagesOf, named, readCommit, mapIn}
+use Rattle.rules.specs.Commit.{PageWrite, sets}
+use Rattle.rules.specs.Pairs.{shown, damagedPairs}
 use Rattle.rules.specs.Editions.{depths}
-
--- Of these page writes the first k happen: the store after them, and what they leave of k.
-pub record Phase (k : ℕ) (ws : List PageWrite) (before after : Pages) (left : ℕ) : Type 0 where
-  pub store : after ≡ applied (take k ws) before
-  pub count : left ≡ k - length ws
+use Rattle.commitpage.specs.Heard.{understood}
+use Rattle.commitpage.specs.declared.CommitMap.{CommitMap}
+use Rattle.counted.specs.Phase.{StoreOf}
 
 -- the page write of record r, if it is one of those that p picks; the page writes of those below n, by rising record
 unfoldable pub due : (ℕ → Bool) → (ℕ → PageWrite) → ℕ → List PageWrite
@@ -36,11 +33,11 @@ topSlot work r = pagesOf work (r * depths)
 unfoldable pub versionsIn : Geometry → ℕ → List ℕ → ℕ → Option Page
 versionsIn g map work r = cond (under r (records g) && named g map r) (some (topSlot work r)) none
 
--- a store, a count of page writes and whether a crash came are what the rules say
-pub record Leaves (c : Cut Pages) (after : Pages) (n : ℕ) (down : Bool) : Type 0 where
-  pub store : after ≡ c .store
-  pub made : n ≡ c .made
-  pub crashed : down ≡ c .crashed
+-- What a store says before a recovery: whether it can be recovered, and the map in force. Atomic pages can't where the commit page is damaged, pages that can
+-- tear neither where some page has no good copy.
+abbrev pub understoodIn : (tears : Bool) → Geometry → StoreOf tears → CommitMap
+understoodIn false g s = understood g (s 0)
+understoodIn true g s = record { good = not (damagedPairs g s); map = mapIn (readCommit g (shown s 0)) }
 
 -- opens the definitions of this module: for what is proved by computing
 unfoldable pub open-phase : Unit {0}

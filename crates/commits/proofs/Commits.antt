@@ -32,7 +32,8 @@ use Rattle.arrays.proofs.Nested.{inheriting-nested}
 use Rattle.arrays.proofs.Modes.{leaving-discarded, inheriting-inherited}
 use Rattle.slots.specs.Parts.{lifted}
 use Rattle.slots.proofs.Lifting.{hit, miss-depth, miss-row}
-use Rattle.commit.specs.Phase.{Leaves, versionsIn}
+use Rattle.counted.specs.Phase.{Leaves}
+use Rattle.commit.specs.Phase.{versionsIn}
 use Rattle.state.specs.Whole.{Arrays, arrays, view, lineIn, Intact, saying, Stepped, Ready, Reserves}
 use Rattle.state.proofs.Rules.{commit-done, commit-busy, commit-refused, prepare-children, prepare-busy, prepare-beneath, prepare-done}
 use Rattle.state.proofs.Steps.{answer, stepped, finishes, unmoved, state-eq, up-is, live-is, wrote-is, depth-of, shallow, writer-deep}

@@ -14,7 +14,8 @@ ghost use Rattle.rules.specs.Editions.{Edition, geometryOf, formOf, InNumbers};
 ghost use Rattle.arrays.specs.Kin.{Kin};
 ghost use Rattle.slots.specs.Parts.{Sources};
 ghost use Rattle.commitpage.specs.Layout.{Known, Layout};
-ghost use Rattle.commit.specs.Phase.{Leaves, versionsIn};
+ghost use Rattle.counted.specs.Phase.{Leaves};
+ghost use Rattle.commit.specs.Phase.{versionsIn};
 ghost use Rattle.commits.specs.Settling.{settling, settlingAt};
 ghost use Rattle.numbers.specs.Named.{transactionOf};
 ghost use Rattle.state.specs.Whole.{arrays, view, Intact, Stepped, Ready, Reserves};
@@ -95,7 +96,7 @@ fn write_pages(
     if prepares {
         return commit::prepare_pages(store, work, map, records, i, k);
     }
-    commit::commit_pages(store, work, map, records, k)
+    commit::commit_pages(store, work, map, records, false, k)
 }
 
 // After a prepare, what is prepared is read again.
@@ -116,7 +117,7 @@ fn reread(
     if !prepares {
         return;
     }
-    let p = commit::read_held(store, records, joint);
+    let p = commit::read_held(store, records, joint, false);
     *reserved = p.map;
     *identity = p.identity;
 }

@@ -26,7 +26,7 @@ use Rattle.sets.specs.Sets.{sets}
 use Rattle.arrays.specs.View.{Owners, bearerAt, bearersOf, anyMode, writeMode, modeOf, modesOf, Nested, slot, versionsOf}
 use Rattle.commitpage.specs.Heard.{understood}
 use Rattle.commitpage.specs.declared.CommitMap.{CommitMap}
-use Rattle.commit.specs.Phase.{Leaves}
+use Rattle.counted.specs.Phase.{Leaves}
 use Rattle.state.specs.Whole.{Arrays, arrays, view, lineIn, Served, Formed, Intact, saying, Stepped}
 use Rattle.state.proofs.Rules.{crash-done, recover-up, recover-damaged, recover-done}
 use Rattle.state.proofs.Steps.{answer, stepped, finishes, unmoved, state-eq, up-is, down-is}

@@ -95,7 +95,7 @@ pub fn recover_event(up: &mut u8, store: &mut [u8], records: usize, joint: bool,
             value: 0,
         };
     }
-    let c = commit::read_map(&store[..], records, joint);
+    let c = commit::read_map(&store[..], records, joint, false);
     let map = c.map;
     if !c.good {
         return Answer {
@@ -103,7 +103,7 @@ pub fn recover_event(up: &mut u8, store: &mut [u8], records: usize, joint: bool,
             value: 0,
         };
     }
-    let m = commit::recover_pages(store, map, records, k);
+    let m = commit::recover_pages(store, map, records, false, k);
     let made = m.made;
     if m.crashed {
         return Answer {

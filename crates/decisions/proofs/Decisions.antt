@@ -17,7 +17,7 @@ use Rattle.rules.specs.Geometry.{Geometry, records}
 use Rattle.rules.specs.Form.{Form, atomic}
 use Rattle.rules.proofs.PreparedPage.{prepared-is}
 use Rattle.commitpage.specs.Heard.{prepared}
-use Rattle.commit.specs.Phase.{Leaves}
+use Rattle.counted.specs.Phase.{Leaves}
 use Rattle.state.specs.Whole.{Arrays, arrays, view, Intact, saying, Stepped, Reserves}
 use Rattle.state.proofs.Rules.{decide-done, query-done}
 use Rattle.state.proofs.Steps.{answer, stepped, finishes, state-eq, up-is}

@@ -14,7 +14,7 @@ ghost use Rattle.rules.specs.Editions.{Edition, geometryOf, formOf, InNumbers};
 ghost use Rattle.arrays.specs.Kin.{Kin};
 ghost use Rattle.commitpage.specs.Heard.{prepared};
 ghost use Rattle.commitpage.specs.Layout.{Known, Layout};
-ghost use Rattle.commit.specs.Phase.{Leaves};
+ghost use Rattle.counted.specs.Phase.{Leaves};
 ghost use Rattle.state.specs.Whole.{Arrays, arrays, Intact, Stepped, Reserves};
 use event::Answer;
 
@@ -87,7 +87,7 @@ pub fn decide_event(
     }
     let m = decide_pages(store, map, whose, records, commits, k);
     let made = m.made;
-    let p = commit::read_held(&store[..], records, joint);
+    let p = commit::read_held(&store[..], records, joint, false);
     *reserved = p.map;
     *identity = p.identity;
     if m.crashed {

@@ -1,6 +1,7 @@
 -- WHAT IS DELIVERED, under one name. The contracts of the open operations tie the code to the rules: a run is `run`, a portion is `portion`. Here stands what
 -- follows from the rules, one field for each theorem that is promised: of every edition, and of edition 1 alone.
 use mathlib.Core.Path.{_≡_}
+use mathlib.Core.Bool.{true}
 use mathlib.Core.List.{List}
 use mathlib.Core.Option.{Option}
 use Prim.Native.Nat.{ℕ}
@@ -10,12 +11,13 @@ use Rattle.rules.specs.State.{down}
 use Rattle.rules.specs.Step.{StateOf, refused, step}
 use Rattle.rules.specs.Run.{play}
 use Rattle.rules.specs.Sound.{Sound}
-use Rattle.rules.specs.Editions.{Edition, geometryOf, formOf, edition1, edition2}
+use Rattle.rules.specs.Editions.{Edition, geometryOf, formOf, edition1, edition2, geometryPairs, editionPairs}
 use Rattle.history.specs.Demand3.{Demand-3-holds}
 use Rattle.history.specs.Claims.{Reads-overlay, Commit-survives}
 use Rattle.history.specs.Survival.{Survives-in-k}
-use Rattle.serial.specs.OneAtATime.{One-run-at-a-time-holds}
+use Rattle.serial.specs.OneAtATime.{One-at-a-time-holds, One-run-at-a-time-holds}
 use Rattle.device.specs.Device.{Happening, Device-holds}
+use Rattle.device_pairs.specs.Device.{Happening as TornHappening, listOf, allFit, Torn-device-holds}
 use Rattle.agreement.specs.Agreement.{Agreement, Fresh}
 use Rattle.audit.specs.Audit.{audit1}
 use Rattle.audit.specs.Walk.{plainAudit}
@@ -56,10 +58,21 @@ pub record Promised-of-portions : Type 0 where
   -- A list may be cut into portions anywhere.
   pub cut-anywhere : Cut-anywhere
 
+-- Of runs over pages that can tear (document 02, L5), each kept as a pair of copies.
+pub record Promised-of-torn-pages : Type 0 where
+  pub reads : (store ws : List ℕ) → length store ≡ editionPairs .medium .size → Reads-overlay editionPairs store ws
+  pub survives-in-k : (store ws more : List ℕ) (w t c : ℕ) → length store ≡ editionPairs .medium .size → Survives-in-k editionPairs store ws more w t c
+  pub commit-survives : (store ws more : List ℕ) → length store ≡ editionPairs .medium .size → Commit-survives editionPairs store ws more
+  pub demand-3 : Demand-3-holds editionPairs
+  pub one-at-a-time : One-at-a-time-holds editionPairs
+  -- Wherever the power goes among copy writes, between two or within one, the medium is what the rules' tears leave.
+  pub device : (store : List ℕ) → length store ≡ 2178 → (hs : List TornHappening) → allFit geometryPairs (listOf geometryPairs hs) ≡ true → Torn-device-holds geometryPairs store hs
+
 -- THE WHOLE.
 pub record Delivered : Type 1 where
   pub runs : (k : Edition) → Promised-of-runs k
   pub portions : Promised-of-portions
+  pub torn-pages : Promised-of-torn-pages
   -- Truck and depot never hold opposite decisions.
   pub agreement : Agreement edition1 (Fresh edition1)
   -- The auditor, who keeps no version and no lock, says what a run says.

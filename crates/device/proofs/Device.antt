@@ -1,6 +1,6 @@
 -- A device follows the rules' run over the list that stands for what happened to it.
 use mathlib.Core.Path.{_≡_, refl, sym, ap, _∙_}
-use mathlib.Core.Bool.{Bool, true, cond, _&&_}
+use mathlib.Core.Bool.{Bool, true, false, cond, _&&_}
 use mathlib.Core.List.{List, [], _∷_}
 use mathlib.Core.Option.{Option, none, some}
 use Prim.Native.Nat.{ℕ, zero, suc, _≤_, _<_, _^_}
@@ -9,7 +9,7 @@ use lib.ListN.{length, take}
 use Rattle.laws.specs.Tests.{under}
 use Rattle.laws.proofs.Tests.{Is, is?, yes′, no′, under-lt, lt-under, not-under}
 use Rattle.laws.proofs.Booleans.{and-left, and-right}
-use Rattle.rules.specs.Geometry.{Geometry}
+use Rattle.rules.specs.Geometry.{Geometry, cutCount}
 use Rattle.rules.specs.Store.{Pages}
 use Rattle.rules.specs.Event.{Event, begin, lock, write, read, commit, abort, crash, recover, prepare, decide, query, decode, encode, fits}
 use Rattle.rules.specs.State.{down}
@@ -81,16 +81,21 @@ count-within n k b a c d h e =
     let one = and-left (a && under k b) c two in
     rw (count-less n k b a h one, and-right (a && under k b) c two, and-right (a && under k b && c) d e)
 
+-- of a place among page writes that tells how the next is torn, too
+cut-less : (b : Bool) (n k : ℕ) → n ≤ k → cutCount b n ≤ cutCount b k
+cut-less false n k h = h
+cut-less true n k h = omega arith
+
 fits-less : (g : Geometry) (n : ℕ) (e : Event) → n ≤ countOf e → fits g e ≡ true → fits g (withCount n e) ≡ true
 unfolding fits withCount countOf
 fits-less g n (begin p) h q = q
 fits-less g n (lock t r a) h q = q
 fits-less g n (write t r o v) h q = q
 fits-less g n (read t r o) h q = q
-fits-less g n (commit t k) h q = count-less n k (2 ^ g .cutBits) (under t 32) h q
+fits-less g n (commit t k) h q = count-less (cutCount (g .tears) n) (cutCount (g .tears) k) (2 ^ g .cutBits) (under t 32) (cut-less (g .tears) n k h) q
 fits-less g n (abort t w) h q = q
 fits-less g n crash h q = q
-fits-less g n (recover k) h q = under-less n k (2 ^ g .cutBits) h q
+fits-less g n (recover k) h q = under-less (cutCount (g .tears) n) (cutCount (g .tears) k) (2 ^ g .cutBits) (cut-less (g .tears) n k h) q
 fits-less g n (prepare t k i) h q = count-within n k (2 ^ g .cutBits) (under t 32) (under i 256) (g .joint) h q
 fits-less g n (decide d k i) h q = count-first n k (2 ^ g .cutBits) (under i 256) (g .joint) h q
 fits-less g n (query i) h q = q

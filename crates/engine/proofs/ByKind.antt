@@ -1,5 +1,5 @@
 -- Events by their kind: what is refused before a transaction is looked at, and that every event keeps the arrays sound.
-use mathlib.Core.Path.{_≡_, refl, sym, ap, subst⁻¹, _∙_}
+use mathlib.Core.Path.{_≡_, refl, sym, ap, subst, subst⁻¹, _∙_}
 use mathlib.Core.Bool.{Bool, true, false, not, true≢false}
 use mathlib.Core.List.{List}
 use mathlib.Core.Logic.{_≢_}
@@ -10,9 +10,9 @@ use lib.Dec.{eqb·suc-zero}
 use lib.ListN.{length}
 use Rattle.laws.specs.Tests.{same}
 use Rattle.laws.proofs.Tests.{lt-under, same?, Same, is, isnt}
-use Rattle.rules.specs.Geometry.{Geometry, Proper, records, pageCount}
+use Rattle.rules.specs.Geometry.{Geometry, Proper, records, pageCount, cutCount}
 use Rattle.rules.specs.Store.{pagesOf}
-use Rattle.rules.specs.Event.{Event, begin, lock, write, read, commit, abort, crash, recover, prepare, decide, query, accessOf, reportOf, decisionOf, eventOf, fits}
+use Rattle.rules.specs.Event.{Event, begin, lock, write, read, commit, abort, crash, recover, prepare, decide, query, accessOf, reportOf, decisionOf, eventAt, fits}
 use Rattle.rules.specs.State.{live}
 use Rattle.rules.specs.Form.{Form, atomicPages}
 use Rattle.rules.specs.Step.{refused, hasChild, StateOf, step}
@@ -105,26 +105,30 @@ module _ (f : Form) where
     waits-steps c e q I h g R =
         unmoved f x (meaning e) 14 (I .form) (waits-kinds (view f x) e (e .kind) refl h g (up-is f x (R .up)) (rw q (live-is f x t (R .live))) (rw q (sym test ∙ c)))
 
+-- where no page tears a cut is its count
+count-within : (g : Geometry) (c : ℕ) → cutCount (g .tears) c < 2 ^ g .cutBits → g .tears ≡ false → c < 2 ^ g .cutBits
+count-within g c h still = subst (λ (b : Bool). cutCount b c < 2 ^ g .cutBits) still h
+
 -- an event whose fields are in range fits a word
-fits-of : (g : Geometry) (k t r o c v : ℕ) → t < 32 → r < records g → o < 32 → c < 2 ^ g .cutBits → v < 256 → (8 < k → g .joint ≡ true) → (e : Event) → eventOf (fieldsOf k t r o c v) ≡ some e → fits g e ≡ true
-unfolding eventOf fieldsOf fits
-fits-of g zero t r o c v ht hr ho hc hv hj e q = let z : true ≡ false = cc in absurd (true≢false z)
-fits-of g (suc zero) t r o c v ht hr ho hc hv hj e q = let p : begin t ≡ e = cc in rw (← p) (lt-under t 32 ht)
-fits-of g (suc (suc zero)) t r o c v ht hr ho hc hv hj e q = let p : lock t r (accessOf v) ≡ e = cc in rw (← p, lt-under t 32 ht, lt-under r (records g) hr)
-fits-of g (suc (suc (suc zero))) t r o c v ht hr ho hc hv hj e q = let p : write t r o v ≡ e = cc in rw (← p, lt-under t 32 ht, lt-under r (records g) hr, lt-under o 32 ho, lt-under v 256 hv)
-fits-of g (suc (suc (suc (suc zero)))) t r o c v ht hr ho hc hv hj e q = let p : read t r o ≡ e = cc in rw (← p, lt-under t 32 ht, lt-under r (records g) hr, lt-under o 32 ho)
-fits-of g (suc (suc (suc (suc (suc zero))))) t r o c v ht hr ho hc hv hj e q = let p : commit t c ≡ e = cc in rw (← p, lt-under t 32 ht, lt-under c (2 ^ g .cutBits) hc)
-fits-of g (suc (suc (suc (suc (suc (suc zero)))))) t r o c v ht hr ho hc hv hj e q = let p : abort t (reportOf v) ≡ e = cc in rw (← p) (lt-under t 32 ht)
-fits-of g (suc (suc (suc (suc (suc (suc (suc zero))))))) t r o c v ht hr ho hc hv hj e q = let p : crash ≡ e = cc in rw (← p)
-fits-of g (suc (suc (suc (suc (suc (suc (suc (suc zero)))))))) t r o c v ht hr ho hc hv hj e q = let p : recover c ≡ e = cc in rw (← p) (lt-under c (2 ^ g .cutBits) hc)
-fits-of g (suc (suc (suc (suc (suc (suc (suc (suc (suc zero))))))))) t r o c v ht hr ho hc hv hj e q = let p : prepare t c v ≡ e = cc in rw (← p, lt-under t 32 ht, lt-under c (2 ^ g .cutBits) hc, lt-under v 256 hv, hj (omega arith))
-fits-of g (suc (suc (suc (suc (suc (suc (suc (suc (suc (suc zero)))))))))) t r o c v ht hr ho hc hv hj e q = let p : decide (decisionOf o) c v ≡ e = cc in rw (← p, lt-under c (2 ^ g .cutBits) hc, lt-under v 256 hv, hj (omega arith))
-fits-of g (suc (suc (suc (suc (suc (suc (suc (suc (suc (suc (suc zero))))))))))) t r o c v ht hr ho hc hv hj e q = let p : query v ≡ e = cc in rw (← p, lt-under v 256 hv, hj (omega arith))
-fits-of g (suc (suc (suc (suc (suc (suc (suc (suc (suc (suc (suc (suc k)))))))))))) t r o c v ht hr ho hc hv hj e q = let z : true ≡ false = cc in absurd (true≢false z)
+fits-of : (g : Geometry) (k t r o c v : ℕ) → t < 32 → r < records g → o < 32 → cutCount (g .tears) c < 2 ^ g .cutBits → v < 256 → (8 < k → g .joint ≡ true) → (8 < k → g .tears ≡ false) → (e : Event) → eventAt (fieldsOf k t r o c v) c ≡ some e → fits g e ≡ true
+unfolding eventAt fieldsOf fits
+fits-of g zero t r o c v ht hr ho hc hv hj hs e q = let z : true ≡ false = cc in absurd (true≢false z)
+fits-of g (suc zero) t r o c v ht hr ho hc hv hj hs e q = let p : begin t ≡ e = cc in rw (← p) (lt-under t 32 ht)
+fits-of g (suc (suc zero)) t r o c v ht hr ho hc hv hj hs e q = let p : lock t r (accessOf v) ≡ e = cc in rw (← p, lt-under t 32 ht, lt-under r (records g) hr)
+fits-of g (suc (suc (suc zero))) t r o c v ht hr ho hc hv hj hs e q = let p : write t r o v ≡ e = cc in rw (← p, lt-under t 32 ht, lt-under r (records g) hr, lt-under o 32 ho, lt-under v 256 hv)
+fits-of g (suc (suc (suc (suc zero)))) t r o c v ht hr ho hc hv hj hs e q = let p : read t r o ≡ e = cc in rw (← p, lt-under t 32 ht, lt-under r (records g) hr, lt-under o 32 ho)
+fits-of g (suc (suc (suc (suc (suc zero))))) t r o c v ht hr ho hc hv hj hs e q = let p : commit t c ≡ e = cc in rw (← p, lt-under t 32 ht, lt-under (cutCount (g .tears) c) (2 ^ g .cutBits) hc)
+fits-of g (suc (suc (suc (suc (suc (suc zero)))))) t r o c v ht hr ho hc hv hj hs e q = let p : abort t (reportOf v) ≡ e = cc in rw (← p) (lt-under t 32 ht)
+fits-of g (suc (suc (suc (suc (suc (suc (suc zero))))))) t r o c v ht hr ho hc hv hj hs e q = let p : crash ≡ e = cc in rw (← p)
+fits-of g (suc (suc (suc (suc (suc (suc (suc (suc zero)))))))) t r o c v ht hr ho hc hv hj hs e q = let p : recover c ≡ e = cc in rw (← p) (lt-under (cutCount (g .tears) c) (2 ^ g .cutBits) hc)
+fits-of g (suc (suc (suc (suc (suc (suc (suc (suc (suc zero))))))))) t r o c v ht hr ho hc hv hj hs e q = let p : prepare t c v ≡ e = cc in rw (← p, lt-under t 32 ht, lt-under c (2 ^ g .cutBits) (count-within g c hc (hs (omega arith))), lt-under v 256 hv, hj (omega arith))
+fits-of g (suc (suc (suc (suc (suc (suc (suc (suc (suc (suc zero)))))))))) t r o c v ht hr ho hc hv hj hs e q = let p : decide (decisionOf o) c v ≡ e = cc in rw (← p, lt-under c (2 ^ g .cutBits) (count-within g c hc (hs (omega arith))), lt-under v 256 hv, hj (omega arith))
+fits-of g (suc (suc (suc (suc (suc (suc (suc (suc (suc (suc (suc zero))))))))))) t r o c v ht hr ho hc hv hj hs e q = let p : query v ≡ e = cc in rw (← p, lt-under v 256 hv, hj (omega arith))
+fits-of g (suc (suc (suc (suc (suc (suc (suc (suc (suc (suc (suc (suc k)))))))))))) t r o c v ht hr ho hc hv hj hs e q = let z : true ≡ false = cc in absurd (true≢false z)
 
 -- an event of another kind than prepare and decide
-plain-of : (k t r o c v : ℕ) → k ≢ 9 → k ≢ 10 → (e : Event) → eventOf (fieldsOf k t r o c v) ≡ some e → isPlain e ≡ true
-unfolding eventOf fieldsOf isPlain
+plain-of : (k t r o c v : ℕ) → k ≢ 9 → k ≢ 10 → (e : Event) → eventAt (fieldsOf k t r o c v) c ≡ some e → isPlain e ≡ true
+unfolding eventAt fieldsOf isPlain
 plain-of zero t r o c v p d e q = let z : true ≡ false = cc in absurd (true≢false z)
 plain-of (suc zero) t r o c v p d e q = let z : begin t ≡ e = cc in rw (← z)
 plain-of (suc (suc zero)) t r o c v p d e q = let z : lock t r (accessOf v) ≡ e = cc in rw (← z)
@@ -141,7 +145,7 @@ plain-of (suc (suc (suc (suc (suc (suc (suc (suc (suc (suc (suc (suc k))))))))))
 
 meaning-fits : (g : Geometry) (e : Fields) → InWord g e → (8 < e .kind → g .joint ≡ true) → (f : Event) → meaning e ≡ some f → fits g f ≡ true
 unfolding meaning
-meaning-fits g e R J f q = fits-of g (e .kind) (e .transaction) (e .rec) (e .offset) (e .count) (e .value) (R .transaction) (R .rec) (R .offset) (R .count) (R .value) J f q
+meaning-fits g e R J f q = fits-of g (e .kind) (e .transaction) (e .rec) (e .offset) (e .count) (e .value) (R .transaction) (R .rec) (R .offset) (R .count) (R .value) J (R .still) f q
 
 module _ (k : Edition) where
   proper : Proper (geometryOf k)

@@ -6,9 +6,10 @@ ghost use Rattle.laws.specs.Bytes.{number};
 ghost use Rattle.rules.specs.Event.{decode, word};
 ghost use Rattle.rules.specs.Editions.{geometry1};
 ghost use Rattle.event.specs.Flags.{flags};
-ghost use Rattle.event.specs.Meaning.{meaning, InRange, Fits};
+ghost use Rattle.event.specs.Meaning.{meaning, apart, InRange, Fits};
 
 pub mod edition2;
+pub mod pairs;
 
 // An answer's two bytes.
 pub struct Answer {
@@ -125,10 +126,10 @@ impl Event {
         USES
     }
 
-    // The event that a word stands for, by the table.
-    pub fn of_word(table: &[u32; 16], w: u32) -> Self
-        requires { ⌜ now table ≡ flags ⌝ }
-        ensures { λ r. ⌜ (decode geometry1 w ≡ meaning r) × InRange r ⌝ }
+    // A word taken apart by a table of used fields: kind 0 where it has a bit that its kind doesn't use.
+    fn apart(table: &[u32; 16], w: u32) -> Self
+        requires { ⌜ length (now table) ≡ 16 ⌝ }
+        ensures { λ r. ⌜ (r ≡ apart geometry1 (now (table .entry)) w) × (r .count < 64) ⌝ }
     {
         let kind = (w / Self::KIND_PLACE % Self::KIND_SPAN) as u8;
         let transaction = (w / Self::TRANSACTION_PLACE % Self::TRANSACTION_SPAN) as u8;
@@ -156,6 +157,14 @@ impl Event {
                 value,
             }
         }
+    }
+
+    // The event that a word stands for, by the table.
+    pub fn of_word(table: &[u32; 16], w: u32) -> Self
+        requires { ⌜ now table ≡ flags ⌝ }
+        ensures { λ r. ⌜ (decode geometry1 w ≡ meaning r) × InRange r ⌝ }
+    {
+        Self::apart(table, w)
     }
 
     // The word of an event whose fields fit.

@@ -1,6 +1,6 @@
 -- Demand 3 of every run that is played: from its bytes to lists of words, and back.
 use mathlib.Core.Path.{_≡_, refl, sym, ap, subst, subst⁻¹, _∙_}
-use mathlib.Core.Bool.{Bool, not}
+use mathlib.Core.Bool.{Bool, not, false≢true}
 use mathlib.Core.List.{List}
 use mathlib.Core.Logic.{_≢_}
 use mathlib.Core.Option.{Option, none, some}
@@ -99,7 +99,7 @@ module _ (f : Form) (M : MediumLaws (f .geometry) (f .medium)) where
   unfolding down startOf
   words-twice final store ws us R K E =
       let d = f .medium .fromBytes store in
-      twice f M final R (start-holds f M d) (λ j r. none) d ws us K (record { shape = λ j r. refl; alike = λ j r e. refl; stores = M .agree-refl d; waits = λ z r. refl }) E
+      twice f M final R (start-holds f M d) (λ j r. none) d ws us K (record { shape = λ j r. refl; alike = λ j r e. refl; stores = M .agree-refl d; calm = λ u. absurd (false≢true u); waits = λ z r. refl }) E
 
   -- the same, of any rows that are theirs: of a whole run, and of portions
   pub list-runs : (store ws us : List ℕ) → Reached f M (start store) → {a b : List Row} → a ≡ rowsFrom f (start store) ws → b ≡ rowsFrom f (start store) us

@@ -1,7 +1,7 @@
 -- Two states with one control and stores that agree, whose versions differ at most where a transaction does not survive: every event that is
 -- the same, or an accepted write by one that does not survive, leaves two such states, and the same answer but for what such a one reads.
 use mathlib.Core.Path.{_≡_, refl, sym, ap, ap₂, subst, subst⁻¹, _∙_, fun-ext}
-use mathlib.Core.Bool.{Bool, true, false, _&&_, _||_, or-true, true≢false}
+use mathlib.Core.Bool.{Bool, true, false, _&&_, _||_, or-true, true≢false, false≢true}
 use mathlib.Core.List.{List, [], _∷_}
 use mathlib.Core.Logic.{_≢_, _⊎_, inl, inr}
 use mathlib.Core.Option.{Option, none, some}
@@ -11,6 +11,7 @@ use lib.ListN.{getD, set}
 use Rattle.laws.specs.Tests.{same, under}
 use Rattle.laws.specs.Counting.{count}
 use Rattle.laws.proofs.Tests.{same?, Same, is, isnt, same-refl, ne-false, Is, is?, yes′, no′}
+use Rattle.laws.proofs.Booleans.{or-left}
 use Rattle.rules.specs.Geometry.{records}
 use Rattle.rules.specs.Store.{Page}
 use Rattle.rules.specs.Event.{Event, write, read, commit, abort, recover, prepare, decide}
@@ -18,7 +19,7 @@ use Rattle.rules.specs.State.{lineOf, mem, Versions, down}
 use Rattle.rules.specs.Versions.{isSome, else, also, nearest, withVersion, handedUp, dropped}
 use Rattle.rules.specs.Commit.{Cut}
 use Rattle.rules.specs.Form.{Form}
-use Rattle.rules.specs.Step.{Answer, done, cut, valueOf, isBusy, isFor, decides, StateOf, OutcomeOf, wrote, ended as endedState, retaining, aborted, passed, raised, concluded, finished, visible, refusal, commitsTop, commitsChild, recovers, act}
+use Rattle.rules.specs.Step.{Answer, done, cut, valueOf, isFor, decides, StateOf, OutcomeOf, wrote, ended as endedState, retaining, aborted, passed, raised, concluded, finished, visible, refusal, commitsTop, commitsChild, recovers, act}
 use Rattle.rules.specs.Sound.{Sound, isCalm}
 use Rattle.rules.proofs.Medium.{MediumLaws, changedIn, stored as storedBy, isClear}
 use Rattle.rules.proofs.Reserved.{for-some}
@@ -56,6 +57,8 @@ module _ (f : Form) (M : MediumLaws (f .geometry) (f .medium)) where
     pub shape : (j r : ℕ) → isSome (ver j r) ≡ isSome (s .version j r)
     pub alike : (j r : ℕ) → φ (at j) ≡ settled → ver j r ≡ s .version j r
     pub stores : M .Agree (s .store) d
+    -- the second store is calm too while up (stores that agree need not both be: see `MediumLaws`)
+    pub calm : s .up ≡ true → isCalm (f .medium) d ≡ true
     -- what is pending, if it will be settled
     pub waits : φ waiting ≡ settled → (r : ℕ) → f .medium .pending d r ≡ f .medium .pending (s .store) r
 
@@ -68,17 +71,7 @@ module _ (f : Form) (M : MediumLaws (f .geometry) (f .medium)) where
 
   pub down-twin : {φ : Root → Root} (c c′ : f .medium .Store) → M .Agree c c′ → (φ waiting ≡ settled → (r : ℕ) → f .medium .pending c′ r ≡ f .medium .pending c r) → Twin φ (down c) (λ j r. none) c′
   unfolding down
-  down-twin c c′ A P = record { shape = λ j r. refl; alike = λ j r z. refl; stores = A; waits = P }
-
-  agree-calm : (c c′ : f .medium .Store) → M .Agree c c′ → isCalm (f .medium) c′ ≡ isCalm (f .medium) c
-  unfolding isCalm
-  agree-calm c c′ A = ap₂ (λ (b : Bool) (o : Option ℕ). b || isBusy o) (M .agree-emptied c c′ A) (M .agree-prepared c c′ A)
-
-  -- versions of the same shape may be written over a store that agrees
-  agree-clear : (c c′ : f .medium .Store) (v w : ℕ → Option Page) → M .Agree c c′ → ((r : ℕ) → isSome (w r) ≡ isSome (v r)) → isClear (f .geometry) (f .medium) c v ≡ true
-      → isClear (f .geometry) (f .medium) c′ w ≡ true
-  unfolding isClear changedIn
-  agree-clear c c′ v w A h e = ap₂ (λ (b : Bool) (t : ℕ → Bool). b || same (count (records (f .geometry)) t) 0) (M .agree-emptied c c′ A) (fun-ext h) ∙ e
+  down-twin c c′ A P = record { shape = λ j r. refl; alike = λ j r z. refl; stores = A; calm = λ u. absurd (false≢true u); waits = P }
 
 module _ (f : Form) (M : MediumLaws (f .geometry) (f .medium)) {s : StateOf f} (S : Sound f s) {φ : Root → Root} (F : Fair (lineOf (s .bearer)) φ)
     {ver : Versions} {d : f .medium .Store} (W : Twin f M φ s ver d) where
@@ -86,7 +79,7 @@ module _ (f : Form) (M : MediumLaws (f .geometry) (f .medium)) {s : StateOf f} (
   seen : (t r : ℕ) → s .up ≡ true → φ (at t) ≡ settled → visible f (swap f s ver d) t r ≡ visible f s t r
   unfolding visible
   seen t r u e = nearest-same (s .version) ver _ _ r (lineOf (s .bearer) t)
-      (M .home-settled d r (agree-calm f M (s .store) d (W .stores) ∙ S .calm u) ∙ M .agree-settled (s .store) d (W .stores) r ∙ sym (M .home-settled (s .store) r (S .calm u)))
+      (M .home-settled d r (W .calm u) ∙ M .agree-settled (s .store) d (W .stores) r ∙ sym (M .home-settled (s .store) r (S .calm u)))
       (λ a m. W .alike a r (F .upward t a m e))
 
   pub twin-write : (t x o v w : ℕ) → s .up ≡ true → (φ (at t) ≡ settled → w ≡ v) → Next f M φ φ (some (write t x o v)) (act f s (write t x o v)) (act f (swap f s ver d) (write t x o w))
@@ -95,7 +88,7 @@ module _ (f : Form) (M : MediumLaws (f .geometry) (f .medium)) {s : StateOf f} (
     ver = withVersion t x (set (visible f (swap f s ver d) t x) o w) ver;
     store = d;
     stands = refl;
-    twin = record { shape = λ j r. go j r (is? (same j t && same r x)); alike = λ j r e. go′ j r e (same? j t) (same? r x); stores = W .stores; waits = W .waits };
+    twin = record { shape = λ j r. go j r (is? (same j t && same r x)); alike = λ j r e. go′ j r e (same? j t) (same? r x); stores = W .stores; calm = W .calm; waits = W .waits };
     echo = same-answer refl;
   }
     where
@@ -125,10 +118,10 @@ module _ (f : Form) (M : MediumLaws (f .geometry) (f .medium)) {s : StateOf f} (
 module _ (f : Form) (M : MediumLaws (f .geometry) (f .medium)) {s : StateOf f} {φ : Root → Root} {ver : Versions} {d : f .medium .Store} where
   -- those that `dead` picks end
   ended-twin : (dead : ℕ → Bool) (turns : Root → Root) (c c′ : f .medium .Store) → ((j : ℕ) → dead j ≡ false → turns (at j) ≡ at j)
-      → Twin f M (λ c. φ (turns c)) s ver d → M .Agree c c′ → (φ waiting ≡ settled → (r : ℕ) → f .medium .pending c′ r ≡ f .medium .pending c r)
+      → Twin f M (λ c. φ (turns c)) s ver d → M .Agree c c′ → (s .up ≡ true → isCalm (f .medium) c′ ≡ true) → (φ waiting ≡ settled → (r : ℕ) → f .medium .pending c′ r ≡ f .medium .pending c r)
       → Twin f M φ (endedState s dead c) (dropped dead ver) c′
   unfolding endedState dropped isSome
-  ended-twin dead turns c c′ keeps W A P = record { shape = λ j r. go j r (is? (dead j)); alike = λ j r z. go′ j r z (is? (dead j)); stores = A; waits = P }
+  ended-twin dead turns c c′ keeps W A calm P = record { shape = λ j r. go j r (is? (dead j)); alike = λ j r z. go′ j r z (is? (dead j)); stores = A; calm = calm; waits = P }
     where
       go : (j r : ℕ) → Is (dead j) → isSome (dropped dead ver j r) ≡ isSome (dropped dead (s .version) j r)
       go j r (yes′ k) = rw k
@@ -142,12 +135,12 @@ module _ (f : Form) (M : MediumLaws (f .geometry) (f .medium)) {s : StateOf f} {
       → Next f M ψ φ (some (abort x w)) (act f s (abort x w)) (act f (swap f s ver d) (abort x w))
   unfolding act finished endedState retaining aborted
   twin-abort ψ x w W =
-      let E = ended-twin (λ j. mem x (lineOf (s .bearer) j)) (lose (λ j. mem x (lineOf (s .bearer) j))) (s .store) d (λ j k. rw k) W (W .stores) (W .waits) in
+      let E = ended-twin (λ j. mem x (lineOf (s .bearer) j)) (lose (λ j. mem x (lineOf (s .bearer) j))) (s .store) d (λ j k. rw k) W (W .stores) (W .calm) (W .waits) in
       record {
         ver = dropped (λ j. mem x (lineOf (s .bearer) j)) ver;
         store = d;
         stands = refl;
-        twin = record { shape = E .shape; alike = E .alike; stores = E .stores; waits = E .waits };
+        twin = record { shape = E .shape; alike = E .alike; stores = E .stores; calm = E .calm; waits = E .waits };
         echo = same-answer refl;
       }
 
@@ -158,7 +151,7 @@ module _ (f : Form) (M : MediumLaws (f .geometry) (f .medium)) {s : StateOf f} {
     ver = lift x y ver;
     store = d;
     stands = refl;
-    twin = record { shape = λ j r. go j r (same? j x) (same? j y); alike = λ j r z. go′ j r z (same? j x) (same? j y); stores = W .stores; waits = W .waits };
+    twin = record { shape = λ j r. go j r (same? j x) (same? j y); alike = λ j r z. go′ j r z (same? j x) (same? j y); stores = W .stores; calm = W .calm; waits = W .waits };
     echo = same-answer refl;
   }
     where
@@ -175,12 +168,12 @@ module _ (f : Form) (M : MediumLaws (f .geometry) (f .medium)) {s : StateOf f} {
           rw (k, k′) (ap₂ also (W .alike x r (rw (same-refl x) z′)) (W .alike y r (rw (ne-false y x (λ w. n (sym w))) z′)))
 
   -- a top transaction, by what its page writes left in the first run
-  pub twin-top : (ψ : Root → Root) (x k a : ℕ) → isClear (f .geometry) (f .medium) (s .store) (s .version x) ≡ true → ((r : ℕ) → isSome (s .version x r) ≡ true → r < records (f .geometry)) → φ settled ≡ settled
+  pub twin-top : (ψ : Root → Root) (x k a : ℕ) → isClear (f .geometry) (f .medium) (s .store) (s .version x) ≡ true → isCalm (f .medium) d ≡ true → isClear (f .geometry) (f .medium) d (ver x) ≡ true → ((r : ℕ) → isSome (s .version x r) ≡ true → r < records (f .geometry)) → φ settled ≡ settled
       → let o = commitsTop f s x (f .medium .commit (s .store) (s .version x) k) in
       Twin f M (λ c. φ (answered (o .answer) (commitTurn x (a ∷ []) (suffices (o .answer) (changedOf f s x))) c)) s ver d
       → Next f M ψ φ (some (commit x k)) o (commitsTop f (swap f s ver d) x (f .medium .commit d (ver x) k))
   unfolding commitsTop concluded endedState down suffices storedBy
-  twin-top ψ x k a clear ranged on-settled W = go (c .crashed) refl W
+  twin-top ψ x k a clear calm′ clear′ ranged on-settled W = go (c .crashed) refl W
     where
       c : Cut (f .medium .Store)
       c = f .medium .commit (s .store) (s .version x) k
@@ -189,10 +182,8 @@ module _ (f : Form) (M : MediumLaws (f .geometry) (f .medium)) {s : StateOf f} {
       c′ = f .medium .commit d (ver x) k
 
       -- what is pending stays
-      same-pending : M .Agree (s .store) d → ((r : ℕ) → isSome (ver x r) ≡ isSome (s .version x r)) → ((r : ℕ) → f .medium .pending d r ≡ f .medium .pending (s .store) r)
-          → (r : ℕ) → f .medium .pending (c′ .store) r ≡ f .medium .pending (c .store) r
-      same-pending A h e r =
-          M .commit-unmoved d (ver x) k (agree-clear f M (s .store) d (s .version x) (ver x) A h clear) .same-pending r ∙ e r ∙ sym (M .commit-unmoved (s .store) (s .version x) k clear .same-pending r)
+      same-pending : ((r : ℕ) → f .medium .pending d r ≡ f .medium .pending (s .store) r) → (r : ℕ) → f .medium .pending (c′ .store) r ≡ f .medium .pending (c .store) r
+      same-pending e r = M .commit-unmoved d (ver x) k clear′ .same-pending r ∙ e r ∙ sym (M .commit-unmoved (s .store) (s .version x) k clear .same-pending r)
 
       still : (b : Bool) → allLost (topTurn x b waiting) ≡ waiting
       still true = refl
@@ -202,31 +193,31 @@ module _ (f : Form) (M : MediumLaws (f .geometry) (f .medium)) {s : StateOf f} {
           Twin f M (λ c. φ (answered (o .answer) (commitTurn x (a ∷ []) (suffices (o .answer) (changedOf f s x))) c)) s ver d
           → Next f M ψ φ (some (commit x k)) o (concluded (endedState (swap f s ver d) (λ j. same j x) (c′ .store)) c′ (c′ .crashed))
       go false e W =
-          let A = M .agree-commit (s .store) d (s .version x) (ver x) k clear ranged (W .stores) (λ r. W .shape x r) (λ z r. W .alike x r (rw (same-refl x) on-settled)) in
+          let A = M .agree-commit (s .store) d (s .version x) (ver x) k clear clear′ ranged (W .stores) (λ r. W .shape x r) (λ z r. W .alike x r (rw (same-refl x) on-settled)) in
           subst⁻¹ (λ (b : Bool). Next f M ψ φ (some (commit x k)) (concluded (endedState s (λ j. same j x) (c .store)) c false) (concluded (endedState (swap f s ver d) (λ j. same j x) (c′ .store)) c′ b)) (A .2 ∙ e)
           (record {
             ver = dropped (λ j. same j x) ver;
             store = c′ .store;
             stands = refl;
-            twin = ended-twin (λ j. same j x) (move x settled) (c .store) (c′ .store) (λ j z. rw z) W (A .0) (λ z. same-pending (W .stores) (λ r. W .shape x r) (W .waits z));
+            twin = ended-twin (λ j. same j x) (move x settled) (c .store) (c′ .store) (λ j z. rw z) W (A .0) (λ u. M .commit-whole d (ver x) k calm′ clear′ (A .2 ∙ e) .0) (λ z. same-pending (W .waits z));
             echo = same-answer (ap done (A .1));
           })
       go true e W =
-          let A = M .agree-commit (s .store) d (s .version x) (ver x) k clear ranged (W .stores) (λ r. W .shape x r)
+          let A = M .agree-commit (s .store) d (s .version x) (ver x) k clear clear′ ranged (W .stores) (λ r. W .shape x r)
           (λ z r. W .alike x r (rw (rw (ne-false (changedOf f s x) 0 (λ q. let n : 0 < changedOf f s x = M .commit-cut (s .store) (s .version x) k e in omega arith)) at z, same-refl x) on-settled)) in
           subst⁻¹ (λ (b : Bool). Next f M ψ φ (some (commit x k)) (concluded (endedState s (λ j. same j x) (c .store)) c true) (concluded (endedState (swap f s ver d) (λ j. same j x) (c′ .store)) c′ b)) (A .2 ∙ e)
           (record {
             ver = λ j r. none;
             store = c′ .store;
             stands = refl;
-            twin = down-twin f M (c .store) (c′ .store) (A .0) (λ z. same-pending (W .stores) (λ r. W .shape x r) (W .waits (ap φ (still (under (changedOf f s x) (c .made))) ∙ z)));
+            twin = down-twin f M (c .store) (c′ .store) (A .0) (λ z. same-pending (W .waits (ap φ (still (under (changedOf f s x) (c .made))) ∙ z)));
             echo = same-answer (ap cut (A .1));
           })
 
-  pub twin-recover : (ψ : Root → Root) (k : ℕ) → let o = recovers f s (f .medium .recover (s .store) k) in Twin f M (λ c. φ (turn f s (some (recover k)) (o .answer) c)) s ver d
+  pub twin-recover : (ψ : Root → Root) (k : ℕ) → f .medium .damaged (s .store) ≡ false → let o = recovers f s (f .medium .recover (s .store) k) in Twin f M (λ c. φ (turn f s (some (recover k)) (o .answer) c)) s ver d
       → Next f M ψ φ (some (recover k)) o (recovers f (swap f s ver d) (f .medium .recover d k))
   unfolding recovers concluded raised down
-  twin-recover ψ k W = go (c .crashed) refl W
+  twin-recover ψ k sound W = go (c .crashed) refl W
     where
       c : Cut (f .medium .Store)
       c = f .medium .recover (s .store) k
@@ -243,18 +234,31 @@ module _ (f : Form) (M : MediumLaws (f .geometry) (f .medium)) {s : StateOf f} {
       go : (b : Bool) → c .crashed ≡ b → let o = concluded (raised s (c .store)) c b in Twin f M (λ c. φ (turn f s (some (recover k)) (o .answer) c)) s ver d
           → Next f M ψ φ (some (recover k)) o (concluded (raised (swap f s ver d) (c′ .store)) c′ (c′ .crashed))
       go false e W = subst⁻¹ (λ (b : Bool). Next f M ψ φ (some (recover k)) (concluded (raised s (c .store)) c false) (concluded (raised (swap f s ver d) (c′ .store)) c′ b)) (A .2 ∙ e)
-          (record { ver = ver; store = c′ .store; stands = refl; twin = record { shape = W .shape; alike = W .alike; stores = A .0; waits = λ z. same-pending (W .waits z) }; echo = same-answer (ap done (A .1)) })
+          (record {
+            ver = ver;
+            store = c′ .store;
+            stands = refl;
+            twin = record {
+              shape = W .shape;
+              alike = W .alike;
+              stores = A .0;
+              calm = λ u. M .recover-whole d k (M .agree-damaged (s .store) d (W .stores) ∙ sound) (A .2 ∙ e);
+              waits = λ z. same-pending (W .waits z);
+            };
+            echo = same-answer (ap done (A .1));
+          })
       go true e W = subst⁻¹ (λ (b : Bool). Next f M ψ φ (some (recover k)) (concluded (raised s (c .store)) c true) (concluded (raised (swap f s ver d) (c′ .store)) c′ b)) (A .2 ∙ e)
           (record { ver = λ j r. none; store = c′ .store; stands = refl; twin = down-twin f M (c .store) (c′ .store) (A .0) (λ z. same-pending (W .waits z)); echo = same-answer (ap cut (A .1)) })
 
   -- a top transaction is prepared
-  pub twin-prepare : (ψ : Root → Root) (x k i : ℕ) → isClear (f .geometry) (f .medium) (s .store) (s .version x) ≡ true → ((r : ℕ) → isSome (s .version x r) ≡ true → r < records (f .geometry))
+  pub twin-prepare : (ψ : Root → Root) (x k i : ℕ) → isClear (f .geometry) (f .medium) (s .store) (s .version x) ≡ true → isCalm (f .medium) d ≡ true → isClear (f .geometry) (f .medium) d (ver x) ≡ true
+      → ((r : ℕ) → isSome (s .version x r) ≡ true → r < records (f .geometry))
       → f .geometry .joint ≡ true → i < 256 → φ settled ≡ settled
       → let o = commitsTop f s x (f .medium .prepare (s .store) (s .version x) i k) in
       Twin f M (λ c. φ (answered (o .answer) (prepareTurn x (isWhole (o .answer)) (same (changedOf f s x) 0)) c)) s ver d
       → Next f M ψ φ (some (prepare x k i)) o (commitsTop f (swap f s ver d) x (f .medium .prepare d (ver x) i k))
   unfolding commitsTop concluded endedState down isWhole changedIn
-  twin-prepare ψ x k i clear ranged on short on-settled W = go (c .crashed) refl (same? (changedOf f s x) 0) W
+  twin-prepare ψ x k i clear calm′ clear′ ranged on short on-settled W = go (c .crashed) refl (same? (changedOf f s x) 0) W
     where
       c : Cut (f .medium .Store)
       c = f .medium .prepare (s .store) (s .version x) i k
@@ -263,10 +267,10 @@ module _ (f : Form) (M : MediumLaws (f .geometry) (f .medium)) {s : StateOf f} {
       c′ = f .medium .prepare d (ver x) i k
 
       A : M .Agree (c .store) (c′ .store) × (c′ .made ≡ c .made) × (c′ .crashed ≡ c .crashed)
-      A = M .agree-prepare (s .store) d (s .version x) (ver x) i k clear on short (W .stores) (λ r. W .shape x r)
+      A = M .agree-prepare (s .store) d (s .version x) (ver x) i k clear clear′ on short (W .stores) (λ r. W .shape x r)
 
-      clear′ : isClear (f .geometry) (f .medium) d (ver x) ≡ true
-      clear′ = agree-clear f M (s .store) d (s .version x) (ver x) (W .stores) (λ r. W .shape x r) clear
+      calm″ : c .crashed ≡ false → isCalm (f .medium) (c′ .store) ≡ true
+      calm″ e = M .prepare-calm d (ver x) i k calm′ on short (A .2 ∙ e)
 
       counts : changedIn (f .geometry) (ver x) ≡ changedOf f s x
       counts = ap (count (records (f .geometry))) (fun-ext (λ r. W .shape x r))
@@ -303,7 +307,7 @@ module _ (f : Form) (M : MediumLaws (f .geometry) (f .medium)) {s : StateOf f} {
             ver = dropped (λ j. same j x) ver;
             store = c′ .store;
             stands = refl;
-            twin = ended-twin (λ j. same j x) (move x settled) (c .store) (c′ .store) (λ j y. rw y) W′ (A .0) (λ y. idle n (W′ .waits y));
+            twin = ended-twin (λ j. same j x) (move x settled) (c .store) (c′ .store) (λ j y. rw y) W′ (A .0) (λ u. calm″ e) (λ y. idle n (W′ .waits y));
             echo = same-answer (ap done (A .1));
           })
       go false e (isnt n z _) W =
@@ -313,7 +317,7 @@ module _ (f : Form) (M : MediumLaws (f .geometry) (f .medium)) {s : StateOf f} {
             ver = dropped (λ j. same j x) ver;
             store = c′ .store;
             stands = refl;
-            twin = ended-twin (λ j. same j x) (move x waiting) (c .store) (c′ .store) (λ j y. rw y) W′ (A .0) (λ y. taken n e (λ r. W′ .alike x r (rw (same-refl x) y)));
+            twin = ended-twin (λ j. same j x) (move x waiting) (c .store) (c′ .store) (λ j y. rw y) W′ (A .0) (λ u. calm″ e) (λ y. taken n e (λ r. W′ .alike x r (rw (same-refl x) y)));
             echo = same-answer (ap done (A .1));
           })
 
@@ -355,6 +359,9 @@ module _ (f : Form) (M : MediumLaws (f .geometry) (f .medium)) {s : StateOf f} {
       agrees : M .Agree (s .store) d → (0 < c .made → dec ≡ true → (r : ℕ) → f .medium .pending d r ≡ f .medium .pending (s .store) r) → Agrees
       agrees B h = M .agree-decide (s .store) d dec k i here B h
 
+      calms : M .Agree (s .store) d → c′ .crashed ≡ false → isCalm (f .medium) (c′ .store) ≡ true
+      calms B e = unfold isCalm in or-left (f .medium .emptied (c′ .store)) _ (M .decide-whole d dec k i (here′ B) e .0)
+
       rules : (e : Bool) → dec ≡ e → e ≡ true → resolve dec waiting ≡ settled
       rules true p q = rw p
       rules false p q = absurd (true≢false (sym q))
@@ -367,7 +374,7 @@ module _ (f : Form) (M : MediumLaws (f .geometry) (f .medium)) {s : StateOf f} {
           let W′ : Twin f M (λ x. φ (resolve dec x)) s ver d = subst (λ (b : Bool). Twin f M (λ x. φ (decideTurn dec b x)) s ver d) z W in
           let A = agrees (W′ .stores) (λ h t. W′ .waits (ap φ (rules dec refl t) ∙ on-settled)) in
           subst⁻¹ (λ (b : Bool). Next f M ψ φ (some (decide dec k i)) (concluded (raised s (c .store)) c false) (concluded (raised (swap f s ver d) (c′ .store)) c′ b)) (A .2 ∙ e)
-          (record { ver = ver; store = c′ .store; stands = refl; twin = record { shape = W′ .shape; alike = W′ .alike; stores = A .0; waits = λ y. over (W′ .stores) A n }; echo = same-answer (ap done (A .1)) })
+          (record { ver = ver; store = c′ .store; stands = refl; twin = record { shape = W′ .shape; alike = W′ .alike; stores = A .0; calm = λ u. calms (W′ .stores) (A .2 ∙ e); waits = λ y. over (W′ .stores) A n }; echo = same-answer (ap done (A .1)) })
       go true e (is n z _) W =
           let W′ : Twin f M (λ x. φ (allLost x)) s ver d = subst (λ (b : Bool). Twin f M (λ x. φ (allLost (decideTurn dec b x))) s ver d) z W in
           let A = agrees (W′ .stores) (λ h t. absurd (omega (arith, h, n))) in

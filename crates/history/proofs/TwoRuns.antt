@@ -16,8 +16,8 @@ use Rattle.rules.specs.Step.{Answer, done, numberOf, valueOf, isFor, isTop, Sta
 use Rattle.rules.specs.Run.{play}
 use Rattle.rules.specs.Sound.{Sound}
 use Rattle.rules.proofs.Tree.{isCons}
-use Rattle.rules.proofs.Medium.{MediumLaws}
-use Rattle.rules.proofs.Acceptance.{CommitOk, write-ok, read-ok, commit-ok, commit-clear, prepare-ok, Judged, acts, refuses, judge?}
+use Rattle.rules.proofs.Medium.{MediumLaws, isClear}
+use Rattle.rules.proofs.Acceptance.{CommitOk, write-ok, read-ok, commit-ok, commit-clear, recover-ok, prepare-ok, Judged, acts, refuses, judge?}
 use Rattle.rules.proofs.Locks.{live-line, child-line}
 use Rattle.rules.proofs.Reserved.{clear-of, prepare-fits}
 use Rattle.rules.proofs.Soundness.{Reached, reached-word}
@@ -34,29 +34,34 @@ module _ (f : Form) (M : MediumLaws (f .geometry) (f .medium)) {s : StateOf f} (
   abbrev before : Option Event → Answer → Root → Root
   before e a c = φ (turn f s e a c)
 
+  -- what a transaction may write in the first run it may write in the second
+  clear-too : {ψ : Root → Root} (x : ℕ) → Twin f M ψ s ver d → s .up ≡ true → (changes f s x && busy f s) ≡ false → isClear (f .geometry) (f .medium) d (ver x) ≡ true
+  unfolding changes busy
+  clear-too x W u h = clear-of f (swap f s ver d) x (W .calm u) (rw (M .agree-prepared (s .store) d (W .stores), fun-ext (W .shape x)) h)
+
   twin-commit : (x k : ℕ) → CommitOk s x → (l : List ℕ) → lineOf (s .bearer) x ≡ l → (isTop l ≡ true → (changes f s x && busy f s) ≡ false) → (ψ : Root → Root)
       → let o = commits f s x k l in Twin f M (λ c. φ (answered (o .answer) (commitTurn x l (suffices (o .answer) (changedOf f s x))) c)) s ver d
       → Next f M ψ φ (some (commit x k)) o (commits f (swap f s ver d) x k l)
   unfolding commits commitsChild finished isTop
   twin-commit x k ok [] q h ψ W = clash (ok .alive) (live-line S x ∙ ap isCons q)
-  twin-commit x k ok (a ∷ []) q h ψ W = twin-top f M ψ x k a (clear-of f s x (S .calm (ok .up)) (h refl)) (S .ranged x) on-settled W
+  twin-commit x k ok (a ∷ []) q h ψ W = twin-top f M ψ x k a (clear-of f s x (S .calm (ok .up)) (h refl)) (W .calm (ok .up)) (clear-too x W (ok .up) (h refl)) (S .ranged x) on-settled W
   twin-commit x k ok (a ∷ y ∷ l) q h ψ W = twin-child f M ψ (commit x k) x y (child-line S x a y l q .two) W
 
   twin-act : (e : Event) → fits (f .geometry) e ≡ true → refusal f s e ≡ none → let o = act f s e in Fair (lineOf (s .bearer)) (before (some e) (o .answer)) → Twin f M (before (some e) (o .answer)) s ver d
       → Next f M (before (some e) (o .answer)) φ (some e) o (act f (swap f s ver d) e)
   unfolding act finished begun locked firstFree live down
-  twin-act (begin p) g q F W = record { ver = ver; store = d; stands = refl; twin = record { shape = W .shape; alike = W .alike; stores = W .stores; waits = W .waits }; echo = same-answer refl }
-  twin-act (lock t r a) g q F W = record { ver = ver; store = d; stands = refl; twin = record { shape = W .shape; alike = W .alike; stores = W .stores; waits = W .waits }; echo = same-answer refl }
+  twin-act (begin p) g q F W = record { ver = ver; store = d; stands = refl; twin = record { shape = W .shape; alike = W .alike; stores = W .stores; calm = W .calm; waits = W .waits }; echo = same-answer refl }
+  twin-act (lock t r a) g q F W = record { ver = ver; store = d; stands = refl; twin = record { shape = W .shape; alike = W .alike; stores = W .stores; calm = W .calm; waits = W .waits }; echo = same-answer refl }
   twin-act (write t r o v) g q F W = twin-write f M S F W t r o v v (write-ok f s t r o v q .up) (λ e. refl)
   twin-act (read t r o) g q F W = twin-read f M S F W t r o (read-ok f s t r o q .up)
   twin-act (commit x k) g q F W = twin-commit x k (commit-ok f s x k q) (lineOf (s .bearer) x) refl (commit-clear f s x k q) _ W
   twin-act (abort x w) g q F W = twin-abort f M _ x w W
   twin-act crash g q F W = record { ver = λ j r. none; store = d; stands = refl; twin = down-twin f M (s .store) d (W .stores) (W .waits); echo = same-answer refl }
-  twin-act (recover k) g q F W = twin-recover f M _ k W
+  twin-act (recover k) g q F W = twin-recover f M _ k (recover-ok f s k q .whole) W
   twin-act (prepare x k i) g q F W =
       let ok = prepare-ok f s x k i q in
       let a = prepare-fits (f .geometry) x k i g in
-      twin-prepare f M _ x k i (clear-of f s x (S .calm (ok .as-commit .up)) (ok .clear)) (S .ranged x) (a .0) (a .1) on-settled W
+      twin-prepare f M _ x k i (clear-of f s x (S .calm (ok .as-commit .up)) (ok .clear)) (W .calm (ok .as-commit .up)) (clear-too x W (ok .as-commit .up) (ok .clear)) (S .ranged x) (a .0) (a .1) on-settled W
   twin-act (decide c k i) g q F W = rw (M .agree-prepared (s .store) d (W .stores)) (twin-decide f M _ c k i (isFor i (f .medium .prepared (s .store))) refl on-settled W)
   twin-act (query i) g q F W = record { ver = ver; store = d; stands = refl; twin = W; echo = same-answer (ap (λ (o : Option ℕ). done (cond (isFor i o) 1 0)) (M .agree-prepared (s .store) d (W .stores))) }
 

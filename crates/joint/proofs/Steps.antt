@@ -7,7 +7,7 @@ use Prim.Native.Nat.{ℕ, zero, suc}
 use Rattle.laws.specs.Tests.{same, under, open-tests}
 use Rattle.rules.specs.Geometry.{open-geometry}
 use Rattle.rules.specs.Store.{Page, Pages, Prepared, readCommit, readPrepared, identityIn, isPrepared, isDamaged, damaged, open-store}
-use Rattle.rules.specs.Event.{Event, Uses, Fields, begin, lock, write, read, commit, abort, crash, recover, prepare, decide, query, fields, row, noKind, uses, usesOf, limitOf, offsetLimitOf, wellFormed, eventOf, decode}
+use Rattle.rules.specs.Event.{Event, Uses, Fields, begin, lock, write, read, commit, abort, crash, recover, prepare, decide, query, fields, row, noKind, uses, usesOf, limits, limitOf, offsetLimitOf, wellFormed, eventOf, decode}
 use Rattle.rules.specs.State.{State, lineOf, live}
 use Rattle.rules.specs.Locks.{grantable}
 use Rattle.rules.specs.Versions.{isSome}
@@ -48,12 +48,12 @@ formed f u =
     (u .count || same (f .count) 0) &&
     (u .value || same (f .value) 0) &&
     same (f .spare) 0 &&
-    under (f .value) (suc (limitOf (f .kind))) &&
+    under (f .value) (suc (limitOf geometry1 (f .kind))) &&
     under (f .offset) (suc (offsetLimitOf (f .kind)))
 
 pub decode-same : (w : ℕ) → isTwoPhase geometry1 w ≡ false → decode geometryWithout w ≡ decode geometry1 w
-unfolding decode fields wellFormed isTwoPhase
-decode-same w e = ap (λ (u : Uses). cond (formed (fields geometry1 w) u) (eventOf (fields geometry1 w)) none) (uses-same (fields geometry1 w .kind) e)
+unfolding decode fields wellFormed isTwoPhase eventOf limits limitOf
+decode-same w e = ap (λ (u : Uses). cond (formed (fields geometry1 w) u) (eventOf geometry1 (fields geometry1 w)) none) (uses-same (fields geometry1 w .kind) e)
 
 -- the formats and the page writes don't ask for the switch
 read-same : (page : Page) → readCommit geometryWithout page ≡ readCommit geometry1 page

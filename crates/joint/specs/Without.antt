@@ -13,7 +13,7 @@ use Rattle.rules.specs.Editions.{geometry1, edition1}
 use Rattle.audit.specs.Audit.{someTwoPhase}
 
 abbrev pub geometryWithout : Geometry
-geometryWithout = record { edition = 1; recordBits = 4; cutBits = 6; spareBits = 0; onesBits = 5; depthLimit = 16; joint = false }
+geometryWithout = record { edition = 1; recordBits = 4; cutBits = 6; spareBits = 0; onesBits = 5; depthLimit = 16; joint = false; tears = false }
 
 abbrev pub edition1Without : Form
 edition1Without = record { geometry = geometryWithout; medium = atomicPages geometryWithout }

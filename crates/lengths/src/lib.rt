@@ -1,8 +1,8 @@
-// The refusals by the lengths of the buffers: of a run or a portion before its first event, and of a question for a page write. An edition is told by its
-// number of records and by the bytes of its event word.
+// The refusals by the lengths of the buffers: of a run or a portion before its first event, and of a question for a page write. A form is told by whether its
+// pages tear, by its number of records and by the bytes of its event word.
 ghost use mathlib.Core.Path.{_≡_};
 ghost use Prim.Native.Nat.{_<_, _≤_};
-ghost use Rattle.lengths.specs.Lengths.{lengthsRefused, questionRefused, refusalNumber};
+ghost use Rattle.lengths.specs.Lengths.{storeBytes, lengthsRefused, questionRefused, refusalNumber};
 
 // The events of the longest list.
 const LONGEST: usize = 4096;
@@ -10,8 +10,21 @@ const LONGEST: usize = 4096;
 // A page write: the page's number, and the page.
 const PAGE_WRITE: usize = 33;
 
+// The bytes of a store with so many records: a commit page and two pages for each record, as they are, or each as a pair of copies.
+pub fn store_size(tears: bool, records: usize) -> usize
+    requires { ⌜ records ≤ 64 ⌝ }
+    ensures { λ r. ⌜ r ≡ storeBytes tears records ⌝ }
+{
+    let pages = 1 + (records + records);
+    if tears {
+        return 66 * pages;
+    }
+    32 * pages
+}
+
 // The refusal before the first event, by the lengths of the buffers; 0 for none.
 pub fn refusal(
+    tears: bool,
     records: usize,
     word: usize,
     store: usize,
@@ -20,9 +33,9 @@ pub fn refusal(
     answers: usize,
 ) -> u8
     requires { ⌜ (records ≤ 64) × (0 < word) × (word ≤ 8) ⌝ }
-    ensures { λ r. ⌜ r ≡ refusalNumber (lengthsRefused records word store events work answers) ⌝ }
+    ensures { λ r. ⌜ r ≡ refusalNumber (lengthsRefused tears records word store events work answers) ⌝ }
 {
-    if store != 32 * (1 + (records + records)) {
+    if store != store_size(tears, records) {
         return 22;
     }
     if work != 512 * records {

@@ -83,19 +83,19 @@ module _ (x : Kept) (events answers : List ℕ) where
       )
 
   -- by the lengths
-  pub length-refused : (n : ℕ) → n ≡ refusalNumber (lengthsRefused 16 4 (length (x .store)) (length events) (length (x .work)) (length answers)) → n ≢ 0
+  pub length-refused : (n : ℕ) → n ≡ refusalNumber (lengthsRefused false 16 4 (length (x .store)) (length events) (length (x .work)) (length answers)) → n ≢ 0
       → Portioned-as x events answers n x answers
   unfolding refusalNumber
-  length-refused n e h = go (lengthsRefused 16 4 (length (x .store)) (length events) (length (x .work)) (length answers)) (by-lengths 16 4 geometry1 (layout1 .many) bytes1 refl (x .store) events (x .work) answers) e
+  length-refused n e h = go (lengthsRefused false 16 4 (length (x .store)) (length events) (length (x .work)) (length answers)) (by-lengths false 16 4 geometry1 (layout1 .many) bytes1 refl (x .store) events (x .work) answers) e
     where
       go : (o : Option ℕ) → firstOf (runRefusals edition1 (x .store) events (x .work) answers) ≡ o → n ≡ refusalNumber o → Portioned-as x events answers n x answers
       go none q z = absurd (h z)
       go (some m) q z = as-it-was n false (λ p. let k : some m ≡ none = sym q ∙ p in let c : true ≡ false = cc in absurd (true≢false c))
           (z ∙ sym (lengths-first edition1 false (view x) (x .store) events (x .work) answers m q)) h
 
-  module _ (fits : refusalNumber (lengthsRefused 16 4 (length (x .store)) (length events) (length (x .work)) (length answers)) ≡ 0) where
+  module _ (fits : refusalNumber (lengthsRefused false 16 4 (length (x .store)) (length events) (length (x .work)) (length answers)) ≡ 0) where
     passes : Passes
-    passes = by-lengths 16 4 geometry1 (layout1 .many) bytes1 refl (x .store) events (x .work) answers ∙ lengths-of 16 4 _ _ _ _ fits .none-is
+    passes = by-lengths false 16 4 geometry1 (layout1 .many) bytes1 refl (x .store) events (x .work) answers ∙ lengths-of false 16 4 _ _ _ _ fits .none-is
 
     -- as no sound state
     pub state-refused : (b : Bool) → Decides b (Intact edition1 (whole (x .engine) (x .work) (x .store)) × (x .engine .spare ≡ replicate 3 0)) → b ≡ false

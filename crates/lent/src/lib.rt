@@ -27,6 +27,9 @@ const JOINT: bool = true;
 
 const STORE: usize = 1056;
 
+// Pages don't tear.
+const TEARS: bool = false;
+
 // The spare bytes are zeros.
 fn is_bare(spare: [u8; 3]) -> bool
     ensures { λ r. ⌜ Decides r (spare ≡ replicate 3 0) ⌝ }
@@ -90,6 +93,7 @@ pub fn portion_of(
     ensures { λ r. ⌜ Portioned-as (kept e (now (work .entry)) (now (store .entry))) (now (events .entry)) (now (answers .entry)) (r .number) (kept (r .engine) (now (work .exit)) (now (store .exit))) (now (answers .exit)) ⌝ }
 {
     let m = lengths::refusal(
+        TEARS,
         RECORDS,
         WORD,
         store.len(),
@@ -160,7 +164,7 @@ fn is_state_aside(e: Engine) -> bool
     ensures { λ r. ⌜ Decides r (Sound-aside e) ⌝ }
 {
     let mut store = [0u8; STORE];
-    records::lay(&mut store, RECORDS);
+    records::lay(&mut store, TEARS, RECORDS);
     is_state(e, &store)
 }
 

@@ -52,7 +52,7 @@ module _ (f : Form) (s : StateOf f) where
   numbered : (e : Event) → Numbered (step f s (some e) .answer)
   numbered e n q = refused-number f s (some e) n q .0
 
-  by-event : (e : Event) → let a = step f s (some e) .answer in voteOn (fieldsOf e .kind) (numberOf a) (valueOf a) ≡ voteCode (reply (some e) a)
+  by-event : (e : Event) → let a = step f s (some e) .answer in voteOn (fieldsOf (f .geometry) e .kind) (numberOf a) (valueOf a) ≡ voteCode (reply (some e) a)
   unfolding fieldsOf reply voteCode
   by-event (begin p) = on-other 1 _ _ (λ e. omega (arith, e)) (λ e. omega (arith, e))
   by-event (lock t r m) = on-other 2 _ _ (λ e. omega (arith, e)) (λ e. omega (arith, e))

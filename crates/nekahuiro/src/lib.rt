@@ -28,6 +28,9 @@ const WORD: usize = 4;
 // Transactions can be prepared.
 const JOINT: bool = true;
 
+// Pages don't tear.
+const TEARS: bool = false;
+
 pub const WORK: usize = page::WORK;
 
 // Lays down a fresh store: 0, or 22 where it hasn't the size of a store, and then writes nothing.
@@ -35,7 +38,7 @@ pub const WORK: usize = page::WORK;
 pub extern "C" fn nekahuiro_fresh(store: &mut [u8]) -> u8
     ensures { λ r. ⌜ (r ≡ layFresh edition1 (now (store .entry)) .answer) × (now (store .exit) ≡ layFresh edition1 (now (store .entry)) .store) ⌝ }
 {
-    records::lay_fresh(store, RECORDS)
+    records::lay_fresh(store, TEARS, RECORDS)
 }
 
 // Tells the age of a record: 0 live, 1 ahead, 2 stale, with the age in minutes left at `age`; or refused with 22, 23 or 4, and `age` stays.
@@ -49,7 +52,7 @@ pub extern "C" fn nekahuiro_age(
 ) -> u8
     ensures { λ r. ⌜ (r ≡ ageNumber (ageOf edition1 (now (store .entry)) number clock limit)) × (now (age .exit) ≡ ageLeft (ageOf edition1 (now (store .entry)) number clock limit) (now (age .entry))) ⌝ }
 {
-    records::tell(store, RECORDS, JOINT, number, clock, limit, age)
+    records::tell(store, TEARS, RECORDS, JOINT, number, clock, limit, age)
 }
 
 // Runs a list of events on a store, with an answer of two bytes for each. 0, or a refusal's number: 22, 24, 20 or 21, in this order, and then
@@ -67,6 +70,7 @@ pub extern "C" fn nekahuiro_run(
     ensures { λ r. ⌜ (r ≡ 0 → One-run-at-a-time edition1 (now (store .entry)) (now (events .entry)) (now (work .entry)) (now (answers .entry))) ⌝ }
 {
     let n = lengths::refusal(
+        TEARS,
         RECORDS,
         WORD,
         store.len(),

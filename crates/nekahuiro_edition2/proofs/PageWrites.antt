@@ -33,8 +33,8 @@ module _ (store events work answers event : List ℕ) (index : ℕ) (write : Lis
   abbrev asks : Option ℕ
   asks = firstOf (askLengths geometry2 store event work write)
 
-  runs-by : runs ≡ lengthsRefused 64 8 (length store) (length events) (length work) (length answers)
-  runs-by = by-lengths 64 8 geometry2 (layout2 .many) bytes2 refl store events work answers
+  runs-by : runs ≡ lengthsRefused false 64 8 (length store) (length events) (length work) (length answers)
+  runs-by = by-lengths false 64 8 geometry2 (layout2 .many) bytes2 refl store events work answers
 
   asks-by : asks ≡ questionRefused 64 8 (length store) (length event) (length work) (length write)
   unfolding askLengths questionRefused open-geometry
@@ -52,18 +52,18 @@ module _ (store events work answers event : List ℕ) (index : ℕ) (write : Lis
   }
 
   -- as a run with the list
-  pub list-refused : (n : ℕ) → n ≡ refusalNumber (lengthsRefused 64 8 (length store) (length events) (length work) (length answers)) → n ≢ 0
+  pub list-refused : (n : ℕ) → n ≡ refusalNumber (lengthsRefused false 64 8 (length store) (length events) (length work) (length answers)) → n ≢ 0
       → Told-after geometry2 store events work answers event index write n store work answers write
   unfolding refusalNumber orElse
-  list-refused n e h = go (lengthsRefused 64 8 (length store) (length events) (length work) (length answers)) runs-by e
+  list-refused n e h = go (lengthsRefused false 64 8 (length store) (length events) (length work) (length answers)) runs-by e
     where
       go : (o : Option ℕ) → runs ≡ o → n ≡ refusalNumber o → Told-after geometry2 store events work answers event index write n store work answers write
       go none q z = absurd (h z)
       go (some m) q z = refused-with n (ap (λ (o : Option ℕ). orElse o asks) q ∙ ap some (sym z))
 
-  module _ (fits : refusalNumber (lengthsRefused 64 8 (length store) (length events) (length work) (length answers)) ≡ 0) where
+  module _ (fits : refusalNumber (lengthsRefused false 64 8 (length store) (length events) (length work) (length answers)) ≡ 0) where
     runs-none : runs ≡ none
-    runs-none = runs-by ∙ lengths-of 64 8 _ _ _ _ fits .none-is
+    runs-none = runs-by ∙ lengths-of false 64 8 _ _ _ _ fits .none-is
 
     -- by the event and the buffer for the page write
     pub event-refused : (n : ℕ) → n ≡ refusalNumber (questionRefused 64 8 (length store) (length event) (length work) (length write)) → n ≢ 0

@@ -19,6 +19,9 @@ const WORD: usize = 8;
 // No transaction can be prepared.
 const JOINT: bool = false;
 
+// Pages don't tear.
+const TEARS: bool = false;
+
 // Lays down a fresh store: 0, or 22 where it hasn't the size of a store, and then writes nothing.
 #[no_mangle]
 pub extern "C" fn nekahuiro_fresh_edition2(store: &mut [u8]) -> u8
@@ -26,7 +29,7 @@ pub extern "C" fn nekahuiro_fresh_edition2(store: &mut [u8]) -> u8
         let before = now (store .entry) in
         ⌜ (r ≡ layFresh edition2 before .answer) × (now (store .exit) ≡ layFresh edition2 before .store) ⌝ }
 {
-    records::lay_fresh(store, RECORDS)
+    records::lay_fresh(store, TEARS, RECORDS)
 }
 
 // Tells the age of a record: 0 live, 1 ahead, 2 stale, with the age in minutes left at `age`; or refused with 22, 23 or 4, and `age` stays.
@@ -42,7 +45,7 @@ pub extern "C" fn nekahuiro_age_edition2(
         let told = ageOf edition2 (now (store .entry)) number clock limit in
         ⌜ (r ≡ ageNumber told) × (now (age .exit) ≡ ageLeft told (now (age .entry))) ⌝ }
 {
-    records::tell(store, RECORDS, JOINT, number, clock, limit, age)
+    records::tell(store, TEARS, RECORDS, JOINT, number, clock, limit, age)
 }
 
 // Runs a list of events on a store, with an answer of two bytes for each. 0, or a refusal's number: 22, 24, 20 or 21, in this order, and then
@@ -61,6 +64,7 @@ pub extern "C" fn nekahuiro_run_edition2(
     ensures { λ r. ⌜ (r ≡ 0 → One-run-at-a-time edition2 (now (store .entry)) (now (events .entry)) (now (work .entry)) (now (answers .entry))) ⌝ }
 {
     let n = lengths::refusal(
+        TEARS,
         RECORDS,
         WORD,
         store.len(),
@@ -93,6 +97,7 @@ pub extern "C" fn nekahuiro_page_write_edition2(
         (now (store .exit)) (now (work .exit)) (now (answers .exit)) (now (write .exit)) ⌝ }
 {
     let unplayed = lengths::refusal(
+        TEARS,
         RECORDS,
         WORD,
         store.len(),

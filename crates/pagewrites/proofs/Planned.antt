@@ -16,7 +16,7 @@ use Rattle.laws.proofs.Booleans.{clash, or-cases}
 use Rattle.rules.specs.Geometry.{Geometry, records}
 use Rattle.rules.specs.Form.{atomic}
 use Rattle.rules.specs.Store.{Page, Pages, pagesOf, readCommit, mapIn, readPrepared, mapOf, named}
-use Rattle.rules.specs.Event.{Event, begin, lock, write, read, commit, abort, crash, recover, prepare, decide, query, decisionOf, eventOf}
+use Rattle.rules.specs.Event.{Event, begin, lock, write, read, commit, abort, crash, recover, prepare, decide, query, decisionOf, eventAt}
 use Rattle.rules.specs.State.{State, lineOf, live}
 use Rattle.rules.specs.Commit.{PageWrite, Cut, marks, decideWrites, commitPlan, recoverPlan, preparePlan, decidePlan}
 use Rattle.rules.specs.Step as rules
@@ -186,8 +186,8 @@ module _ (g : Geometry) (N : ℕ) (many : records g ≡ N) where
       go (some n) = refl
 
   -- THE OTHER KINDS of events
-  pub still-kinds : (s : StateOf (atomic g)) (k t r o c v : ℕ) → k ≢ 5 → k ≢ 8 → k ≢ 9 → k ≢ 10 → planFor g s (eventOf (fieldsOf k t r o c v)) ≡ []
-  unfolding planFor eventOf fieldsOf acceptedPlan
+  pub still-kinds : (s : StateOf (atomic g)) (k t r o c v : ℕ) → k ≢ 5 → k ≢ 8 → k ≢ 9 → k ≢ 10 → planFor g s (eventAt (fieldsOf k t r o c v) c) ≡ []
+  unfolding planFor eventAt fieldsOf acceptedPlan
   still-kinds s zero t r o c v h₅ h₈ h₉ h₁₀ = refl
   still-kinds s (suc zero) t r o c v h₅ h₈ h₉ h₁₀ = idle-plan s (begin t) refl
   still-kinds s (suc (suc zero)) t r o c v h₅ h₈ h₉ h₁₀ = idle-plan s (lock t r _) refl

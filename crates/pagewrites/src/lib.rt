@@ -264,7 +264,7 @@ fn recovery_plan(up: u8, store: &[u8], records: usize, joint: bool) -> Plan
     if up == 1 {
         return none();
     }
-    let c = commit::read_map(store, records, joint);
+    let c = commit::read_map(store, records, joint, false);
     let map = c.map;
     if !c.good {
         return none();
@@ -309,7 +309,7 @@ fn plan_of(
     ensures { λ p. ⌜ (p .map < 2 ^ records) × (p .prepared ≡ true → records ≡ 16) ⌝ }
 {
     let kind = e.kind;
-    let held = commit::read_held(store, records, joint);
+    let held = commit::read_held(store, records, joint, false);
     if kind == 8 {
         return recovery_plan(up, store, records, joint);
     }

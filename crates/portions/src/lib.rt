@@ -52,7 +52,7 @@ pub fn portion(
     let mut writers = e.writers;
     let mut live = transactions::live_set(&depth);
     let mut children = transactions::children_of(&parent, &depth);
-    let p = commit::read_held(&store[..], 16, true);
+    let p = commit::read_held(&store[..], 16, true, false);
     let mut reserved = p.map;
     let mut identity = p.identity;
     let table = Event::table();

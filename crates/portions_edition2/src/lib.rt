@@ -30,7 +30,7 @@ pub fn from_start(store: &mut [u8], events: &[u8], work: &mut [u8], answers: &mu
     let mut writers = [0u32; 64];
     let mut live = transactions::live_set(&depth);
     let mut children = transactions::children_of(&parent, &depth);
-    let p = commit::read_held(&store[..], 64, false);
+    let p = commit::read_held(&store[..], 64, false, false);
     let mut reserved = p.map;
     let mut identity = p.identity;
     let table = Edition2::table();

@@ -1,31 +1,31 @@
--- The stamp and the settled page are those of the rules; the cases of an age's answer.
+-- The settled page is that of the rules, through what the medium shows; the cases of an age's answer.
 use mathlib.Core.Path.{_≡_, refl, sym, ap, subst⁻¹, _∙_}
-use mathlib.Core.Bool.{Bool, true, false, cond, true≢false, false≢true}
+use mathlib.Core.Bool.{Bool, true, false, cond, _||_, true≢false, false≢true}
 use mathlib.Core.List.{List}
 use mathlib.Core.Logic.{_≢_}
 use mathlib.Core.Option.{none, some}
-use Prim.Native.Nat.{ℕ, _+_, _*_, _<_, _≤_, min}
+use Prim.Native.Nat.{ℕ, _+_, _<_, _≤_, min}
 use native.Mathlib.Omega.{arith}
 use lib.IntN.{ℤ, subℕ}
-use lib.ListN.{length, take, drop}
-use lib.Seq.{take-take}
+use lib.ListN.{length, take}
 use Rattle.laws.specs.Tests.{same, under}
 use Rattle.laws.specs.Bytes.{number}
 use Rattle.laws.proofs.Tests.{lt-under, under-lt, ne-false, same-refl}
 use Rattle.laws.proofs.Booleans.{not-false, not-true}
-use Rattle.rules.specs.Geometry.{Geometry, records, pageCount, pageSize}
-use Rattle.rules.specs.Store.{Page, pagesOf, named, readCommit, mapIn, damaged, isNamed, intention, home, settled}
+use Rattle.rules.specs.Geometry.{Geometry, records, pageCount}
+use Rattle.rules.specs.Store.{Page, Pages, named, readCommit, mapIn, damaged, isNamed, intention, home, settled}
 use Rattle.rules.specs.Step.{firstOf}
 use Rattle.rules.specs.Age.{Age, refused, judged, stamp, ageRefusals, ageBy, ageOf}
-use Rattle.rules.specs.Form.{atomic}
+use Rattle.rules.specs.Pairs.{damagedPairs}
+use Rattle.counted.specs.Phase.{storeOf, shownIn, lostIn, mediumOf}
 use denote.Enum.Declared.{tagOf}
 use Rattle.numbers.proofs.RecordNamed.{the-type}
 use Rattle.numbers.specs.Named.{recordNamed, recordOf}
 use Rattle.numbers.specs.declared.RecordNamed.{RecordNamed}
 use Rattle.numbers.specs.declared.RecordNamed.the-variants as R
 use Rattle.numbers.specs.declared.RecordNumber.{RecordNumber}
-use Rattle.lengths.specs.Lengths.{storeBytes}
-use Rattle.lengths.proofs.Sizes.{store-size}
+use Rattle.lengths.specs.Lengths.{formIn, storeBytes}
+use Rattle.lengths.proofs.Sizes.{store-size, pages-are}
 use Rattle.commitpage.specs.Heard.{understood}
 use Rattle.commitpage.specs.declared.CommitMap.{CommitMap}
 use Rattle.age.specs.Meaning.{meaning}
@@ -34,67 +34,85 @@ use Rattle.records.specs.Ages.{ageIn, toldAs, ageNumber, ageLeft}
 use Rattle.records.specs.declared.Told.{Told}
 use Rattle.records.specs.declared.Told.the-variants as T
 
-pub stamp-is : (bs : List ℕ) (n : ℕ) → number (take 4 (drop (4 * (8 * n)) bs)) ≡ number (take 4 (pagesOf bs n))
-unfolding pagesOf
-stamp-is bs n =
-    let e : 4 * (8 * n) ≡ 32 * n = omega arith in
-    ap number (ap (λ (k : ℕ). take 4 (drop k bs)) e ∙ sym (take-take 4 32 (drop (32 * n) bs) (omega arith)))
+-- damaged where no copy of some page is good, or the commit page that is shown is damaged; the settled values are those that are shown
+damaged-is : (tears : Bool) (g : Geometry) (bs : List ℕ) → mediumOf tears g .damaged (mediumOf tears g .fromBytes bs) ≡ (lostIn tears (pageCount g) (storeOf tears bs) || damaged g (shownIn tears (storeOf tears bs)))
+unfolding damagedPairs
+damaged-is false g bs = refl
+damaged-is true g bs = refl
 
-module _ (g : Geometry) (n : ℕ) (many : records g ≡ n) where
+settles : (tears : Bool) (g : Geometry) (bs : List ℕ) (r : ℕ) → mediumOf tears g .settled (mediumOf tears g .fromBytes bs) r ≡ settled g (shownIn tears (storeOf tears bs)) r
+settles false g bs r = refl
+settles true g bs r = refl
+
+module _ (tears : Bool) (g : Geometry) (n : ℕ) (many : records g ≡ n) where
   -- the page of the settled value, where this map is in force
-  settled-is : (bs : List ℕ) (map r : ℕ) → mapIn (readCommit g (pagesOf bs 0)) ≡ map → r < n
-      → settled g (pagesOf bs) r ≡ pagesOf bs (cond (named g map r) (1 + r) (1 + n + r))
+  settled-is : (s : Pages) (map r : ℕ) → mapIn (readCommit g (s 0)) ≡ map → r < n → settled g s r ≡ s (cond (named g map r) (1 + r) (1 + n + r))
   unfolding settled isNamed intention home
-  settled-is bs map r e h = rw (e, lt-under r (records g) (let m = many in omega (arith, h))) (go (named g map r))
+  settled-is s map r e h = rw (e, lt-under r (records g) (let m = many in omega (arith, h))) (go (named g map r))
     where
-      go : (b : Bool) → cond b (pagesOf bs (1 + r)) (pagesOf bs (1 + (records g + r))) ≡ pagesOf bs (cond b (1 + r) (1 + n + r))
+      go : (b : Bool) → cond b (s (1 + r)) (s (1 + (records g + r))) ≡ s (cond b (1 + r) (1 + n + r))
       go true = refl
-      go false = let q : 1 + (records g + r) ≡ 1 + n + r = omega (arith, many) in ap (pagesOf bs) q
+      go false = let q : 1 + (records g + r) ≡ 1 + n + r = omega (arith, many) in ap s q
 
-  age-damaged : (bs : List ℕ) (r clock limit : ℕ) → damaged g (pagesOf bs) ≡ true → refused 4 ≡ ageIn g bs r clock limit
+  -- where no page is lost the commit page decides
+  by-page : (bs : List ℕ) (b : Bool) → b ≡ lostIn tears (1 + (n + n)) (storeOf tears bs) → mediumOf tears g .damaged (mediumOf tears g .fromBytes bs) ≡ (b || damaged g (shownIn tears (storeOf tears bs)))
+  by-page bs b e =
+      damaged-is tears g bs ∙ ap (λ (m : ℕ). lostIn tears m (storeOf tears bs) || damaged g (shownIn tears (storeOf tears bs))) (pages-are n g many)
+      ∙ ap (λ (x : Bool). x || damaged g (shownIn tears (storeOf tears bs))) (sym e)
+
+  age-damaged : (bs : List ℕ) (r clock limit : ℕ) → mediumOf tears g .damaged (mediumOf tears g .fromBytes bs) ≡ true → refused 4 ≡ ageIn tears g bs r clock limit
   unfolding ageIn
   age-damaged bs r clock limit e = rw e
 
-  age-judged : (bs : List ℕ) (map r clock limit : ℕ) → damaged g (pagesOf bs) ≡ false → mapIn (readCommit g (pagesOf bs 0)) ≡ map → r < n
-      → judged (subℕ clock (number (take 4 (pagesOf bs (cond (named g map r) (1 + r) (1 + n + r)))))) limit ≡ ageIn g bs r clock limit
+  age-judged : (bs : List ℕ) (map r clock limit : ℕ) → mediumOf tears g .damaged (mediumOf tears g .fromBytes bs) ≡ false → mapIn (readCommit g (shownIn tears (storeOf tears bs) 0)) ≡ map → r < n
+      → judged (subℕ clock (number (take 4 (shownIn tears (storeOf tears bs) (cond (named g map r) (1 + r) (1 + n + r)))))) limit ≡ ageIn tears g bs r clock limit
   unfolding ageIn
-  age-judged bs map r clock limit d e h = rw (settled-is bs map r e h, d)
+  age-judged bs map r clock limit d e h = rw (settles tears g bs r ∙ settled-is (shownIn tears (storeOf tears bs)) map r e h, d)
 
-  pub age-short : (bs : List ℕ) (r clock limit : ℕ) → length bs ≢ storeBytes n → refused 22 ≡ ageOf (atomic g) bs r clock limit
+  pub age-short : (bs : List ℕ) (r clock limit : ℕ) → length bs ≢ storeBytes tears n → refused 22 ≡ ageOf (formIn tears g) bs r clock limit
   unfolding ageOf ageBy ageRefusals firstOf
-  age-short bs r clock limit h = rw (ne-false (length bs) (pageCount g * pageSize) (λ e. h (e ∙ store-size n g many)))
+  age-short bs r clock limit h = rw (ne-false (length bs) (mediumOf tears g .size) (λ e. h (e ∙ store-size n g many tears)))
 
-  right-size : (bs : List ℕ) → length bs ≡ storeBytes n → same (length bs) (pageCount g * pageSize) ≡ true
-  right-size bs e = ap (λ (k : ℕ). same k (pageCount g * pageSize)) (e ∙ sym (store-size n g many)) ∙ same-refl (pageCount g * pageSize)
+  right-size : (bs : List ℕ) → length bs ≡ storeBytes tears n → same (length bs) (mediumOf tears g .size) ≡ true
+  right-size bs e = ap (λ (k : ℕ). same k (mediumOf tears g .size)) (e ∙ sym (store-size n g many tears)) ∙ same-refl (mediumOf tears g .size)
 
   below : (r : ℕ) (b : Bool) → under r n ≡ b → under r (records g) ≡ b
   below r b h = ap (under r) many ∙ h
 
-  pub age-no-record : (bs : List ℕ) (r clock limit : ℕ) → length bs ≡ storeBytes n → under r n ≡ false → refused 23 ≡ ageOf (atomic g) bs r clock limit
+  pub age-no-record : (bs : List ℕ) (r clock limit : ℕ) → length bs ≡ storeBytes tears n → under r n ≡ false → refused 23 ≡ ageOf (formIn tears g) bs r clock limit
   unfolding ageOf ageBy ageRefusals firstOf
   age-no-record bs r clock limit e h = rw (right-size bs e, below r false h)
 
-  pub age-in : (bs : List ℕ) (r clock limit : ℕ) → length bs ≡ storeBytes n → under r n ≡ true → ageIn g bs r clock limit ≡ ageOf (atomic g) bs r clock limit
+  pub age-in : (bs : List ℕ) (r clock limit : ℕ) → length bs ≡ storeBytes tears n → under r n ≡ true → ageIn tears g bs r clock limit ≡ ageOf (formIn tears g) bs r clock limit
   unfolding ageIn ageOf ageBy ageRefusals stamp firstOf
-  age-in bs r clock limit e h = rw (right-size bs e, below r true h) (go (damaged g (pagesOf bs)))
+  age-in bs r clock limit e h = rw (right-size bs e, below r true h) (go (mediumOf tears g .damaged (mediumOf tears g .fromBytes bs)))
     where
-      go : (b : Bool) → cond b (refused 4) (judged (subℕ clock (number (take 4 (settled g (pagesOf bs) r)))) limit)
-          ≡ ageBy (atomic g) bs r clock limit (cond b (some 4) none)
+      go : (b : Bool) → cond b (refused 4) (judged (subℕ clock (number (take 4 (mediumOf tears g .settled (mediumOf tears g .fromBytes bs) r)))) limit)
+          ≡ ageBy (formIn tears g) bs r clock limit (cond b (some 4) none)
       go true = refl
       go false = refl
 
+  -- a page has no good copy
+  pub told-lost : (bs : List ℕ) (b : Bool) (r clock limit : ℕ) → b ≡ lostIn tears (1 + (n + n)) (storeOf tears bs) → b ≡ true → refused 4 ≡ ageIn tears g bs r clock limit
+  told-lost bs b r clock limit l e = age-damaged bs r clock limit (by-page bs b l ∙ ap (λ (x : Bool). x || damaged g (shownIn tears (storeOf tears bs))) e)
+
   -- what is read of the commit page, and what follows of the age
-  pub told-good : (bs : List ℕ) (page : Page) (o : CommitMap) (r clock limit p stamp : ℕ) (age : ℤ) (a : Age) → page ≡ pagesOf bs 0 → o ≡ understood g page → o .good ≡ true → r < n
-      → p ≡ cond (named g (o .map) r) (1 + r) (1 + n + r) → stamp ≡ number (take 4 (pagesOf bs p)) → age ≡ subℕ clock stamp → a ≡ judged age limit → a ≡ ageIn g bs r clock limit
+  pub told-good : (bs : List ℕ) (b : Bool) (page : Page) (o : CommitMap) (r clock limit p stamp : ℕ) (age : ℤ) (a : Age) → b ≡ lostIn tears (1 + (n + n)) (storeOf tears bs) → b ≡ false
+      → page ≡ shownIn tears (storeOf tears bs) 0 → o ≡ understood g page → o .good ≡ true → r < n
+      → p ≡ cond (named g (o .map) r) (1 + r) (1 + n + r) → stamp ≡ number (take 4 (shownIn tears (storeOf tears bs) p)) → age ≡ subℕ clock stamp → a ≡ judged age limit → a ≡ ageIn tears g bs r clock limit
   unfolding understood damaged
-  told-good bs page o r clock limit p stamp age a q u good h en es ea e =
-      e ∙ ap (λ (z : ℤ). judged z limit) (ea ∙ ap (subℕ clock) (es ∙ ap (λ (k : ℕ). number (take 4 (pagesOf bs k))) en))
-      ∙ age-judged bs (o .map) r clock limit (not-true _ (ap (λ (x : Page). understood g x .good) (sym q) ∙ ap (λ (c : CommitMap). c .good) (sym u) ∙ good))
+  told-good bs b page o r clock limit p stamp age a l f q u good h en es ea e =
+      e ∙ ap (λ (z : ℤ). judged z limit) (ea ∙ ap (subℕ clock) (es ∙ ap (λ (k : ℕ). number (take 4 (shownIn tears (storeOf tears bs) k))) en))
+      ∙ age-judged bs (o .map) r clock limit
+      (by-page bs b l ∙ ap (λ (x : Bool). x || damaged g (shownIn tears (storeOf tears bs))) f ∙ not-true _ (ap (λ (x : Page). understood g x .good) (sym q) ∙ ap (λ (c : CommitMap). c .good) (sym u) ∙ good))
       (ap (λ (x : Page). understood g x .map) (sym q) ∙ ap (λ (c : CommitMap). c .map) (sym u)) h
 
-  pub told-bad : (bs : List ℕ) (page : Page) (o : CommitMap) (r clock limit : ℕ) → page ≡ pagesOf bs 0 → o ≡ understood g page → o .good ≡ false → refused 4 ≡ ageIn g bs r clock limit
+  pub told-bad : (bs : List ℕ) (b : Bool) (page : Page) (o : CommitMap) (r clock limit : ℕ) → b ≡ lostIn tears (1 + (n + n)) (storeOf tears bs) → b ≡ false
+      → page ≡ shownIn tears (storeOf tears bs) 0 → o ≡ understood g page → o .good ≡ false → refused 4 ≡ ageIn tears g bs r clock limit
   unfolding understood damaged
-  told-bad bs page o r clock limit q u good = age-damaged bs r clock limit (not-false _ (ap (λ (x : Page). understood g x .good) (sym q) ∙ ap (λ (c : CommitMap). c .good) (sym u) ∙ good))
+  told-bad bs b page o r clock limit l f q u good =
+      age-damaged bs r clock limit
+      (by-page bs b l ∙ ap (λ (x : Bool). x || damaged g (shownIn tears (storeOf tears bs))) f ∙ not-false _ (ap (λ (x : Page). understood g x .good) (sym q) ∙ ap (λ (c : CommitMap). c .good) (sym u) ∙ good))
 
 -- what the check of a record's number answers
 module _ (m : ℕ) (few : m ≤ 64) where

@@ -1,13 +1,13 @@
 -- What telling the age of a record answers.
 use Prim.Native.Nat.{ℕ}
-use mathlib.Core.Bool.{cond}
+use mathlib.Core.Bool.{Bool, cond}
 use mathlib.Core.List.{List}
 use lib.IntN.{ℤ, subℕ}
 use lib.ListN.{take}
 use Rattle.laws.specs.Bytes.{number}
 use Rattle.rules.specs.Geometry.{Geometry}
-use Rattle.rules.specs.Store.{pagesOf, damaged, settled}
 use Rattle.rules.specs.Age.{Age, ahead, live, stale, refused, judged}
+use Rattle.counted.specs.Phase.{mediumOf}
 use Rattle.age.specs.Meaning.{meaning}
 use Rattle.records.specs.declared.Told.{Told}
 use Rattle.records.specs.declared.Told.the-variants as T
@@ -31,7 +31,8 @@ ageLeft (ahead a) old = a
 ageLeft (stale a) old = a
 ageLeft (refused n) old = old
 
--- the age of record r in a store of the right size, unless its commit page is damaged
-unfoldable pub ageIn : Geometry → List ℕ → ℕ → ℕ → ℕ → Age
-ageIn g store r clock limit =
-    cond (damaged g (pagesOf store)) (refused 4) (judged (subℕ clock (number (take 4 (settled g (pagesOf store) r)))) limit)
+-- the age of record r in a store of the right size, unless the store is damaged
+unfoldable pub ageIn : Bool → Geometry → List ℕ → ℕ → ℕ → ℕ → Age
+ageIn tears g store r clock limit =
+    let m = mediumOf tears g in
+    cond (m .damaged (m .fromBytes store)) (refused 4) (judged (subℕ clock (number (take 4 (m .settled (m .fromBytes store) r)))) limit)

@@ -1,20 +1,24 @@
-// A fresh store, laid page by page; the age of a record, told from its settled page's stamp.
+// A fresh store, laid page by page; the age of a record, told from its settled page's stamp. Both over atomic pages and over pages that tear, which lie in the
+// store as pairs of copies: `tears` tells which.
 ghost use mathlib.Core.Path.{_≡_};
 ghost use mathlib.Core.Bool.{true, cond};
 ghost use Prim.Native.Nat.{_+_, _*_, _<_, _≤_};
 ghost use lib.ListN.{length, take};
 ghost use Rattle.laws.specs.Bytes.{number as spelled};
 ghost use Rattle.rules.specs.Geometry.{Geometry, records};
-ghost use Rattle.rules.specs.Store.{pagesOf, named, fresh};
-ghost use Rattle.rules.specs.Form.{atomic};
+ghost use Rattle.rules.specs.Store.{named, fresh};
 ghost use Rattle.rules.specs.Run.{layFresh};
 ghost use Rattle.rules.specs.Age.{ageOf};
 ghost use Rattle.commitpage.specs.Layout.{Known, Layout};
-ghost use Rattle.lengths.specs.Lengths.{storeBytes};
+ghost use Rattle.counted.specs.Phase.{storeOf, shownIn, strideOf};
+ghost use Rattle.lengths.specs.Lengths.{formIn, storeBytes};
 ghost use Rattle.numbers.specs.Named.{recordOf};
 ghost use Rattle.records.specs.Ages.{toldAs, ageIn, ageNumber, ageLeft};
 ghost use Rattle.records.specs.Laying.{LaidTo};
 ghost use Rattle.age.specs.Meaning.{meaning};
+
+// No cut comes before a page write is whole.
+const UNCUT: u8 = 255;
 
 // Page p of a fresh store of n records.
 fn fresh_page(p: usize, n: usize) -> [u8; 32]
@@ -28,27 +32,27 @@ fn fresh_page(p: usize, n: usize) -> [u8; 32]
 }
 
 // Every page becomes that of a fresh store of n records.
-pub fn lay(store: &mut [u8], n: usize)
-    requires { ⌜ Known n × (length (now store) ≡ storeBytes n) ⌝ }
-    ensures { λ _. ⌜ ((g : Geometry) → Layout g n → LaidTo g (1 + (n + n)) (now (store .exit))) ⌝ }
+pub fn lay(store: &mut [u8], tears: bool, n: usize)
+    requires { ⌜ Known n × (length (now store) ≡ storeBytes tears n) ⌝ }
+    ensures { λ _. ⌜ ((g : Geometry) → Layout g n → LaidTo tears g (1 + (n + n)) (now (store .exit))) ⌝ }
 {
     let pages = 1 + (n + n);
     for p in 0..pages {
-        page::put_page(store, p, fresh_page(p, n));
+        counted::write_counted(store, tears, p, fresh_page(p, n), UNCUT);
     }
 }
 
 // Lays down a fresh store of n records: 0, or 22 where it hasn't the size of a store, and then writes nothing.
-pub fn lay_fresh(store: &mut [u8], n: usize) -> u8
+pub fn lay_fresh(store: &mut [u8], tears: bool, n: usize) -> u8
     requires { ⌜ Known n ⌝ }
     ensures { λ r.
         let before = now (store .entry) in
-        ⌜ ((g : Geometry) → Layout g n → (r ≡ layFresh (atomic g) before .answer) × (now (store .exit) ≡ layFresh (atomic g) before .store)) ⌝ }
+        ⌜ ((g : Geometry) → Layout g n → (r ≡ layFresh (formIn tears g) before .answer) × (now (store .exit) ≡ layFresh (formIn tears g) before .store)) ⌝ }
 {
-    if store.len() != 32 * (1 + (n + n)) {
+    if store.len() != lengths::store_size(tears, n) {
         return 22;
     }
-    lay(store, n);
+    lay(store, tears, n);
     0
 }
 
@@ -59,11 +63,12 @@ pub enum Told {
 }
 
 // The stamp that a page begins with: four bytes, as an event word of edition 1 has.
-fn stamp_on(store: &[u8], p: usize) -> u32
-    requires { ⌜ (p < 1024) × (32 * p + 32 ≤ length (now store)) ⌝ }
-    ensures { λ r. ⌜ r ≡ spelled (take 4 (pagesOf (now (store .entry)) p)) ⌝ }
+fn stamp_on(store: &[u8], tears: bool, p: usize) -> u32
+    requires { ⌜ (p < 4096) × (strideOf tears * p + strideOf tears ≤ length (now store)) ⌝ }
+    ensures { λ r. ⌜ r ≡ spelled (take 4 (shownIn tears (storeOf tears (now (store .entry))) p)) ⌝ }
 {
-    event::Event::word_at(store, 8 * p)
+    let page = counted::get_page(store, tears, p);
+    event::Event::word_at(&page, 0)
 }
 
 // The page that has the settled value of record r, of n, under a commit page with this map.
@@ -78,21 +83,25 @@ fn settled_page(map: u64, n: usize, r: numbers::RecordNumber) -> usize
     1 + n + at
 }
 
-// The age of record r of a store of the right size, unless its commit page is damaged.
+// The age of record r of a store of the right size, unless some page has no good copy or the commit page is damaged.
 fn age_in(
     store: &[u8],
+    tears: bool,
     n: usize,
     joint: bool,
     r: numbers::RecordNumber,
     clock: age::Reading,
     limit: age::Limit,
 ) -> Told
-    requires { ⌜ Known n × (joint ≡ true → n ≡ 16) × (length (now store) ≡ storeBytes n) × (recordOf r < n) ⌝ }
-    ensures { λ t. ⌜ ((g : Geometry) → Layout g n → g .joint ≡ joint → toldAs t ≡ ageIn g (now (store .entry)) (recordOf r) (clock .0) (limit .0)) ⌝ }
+    requires { ⌜ Known n × (joint ≡ true → n ≡ 16) × (length (now store) ≡ storeBytes tears n) × (recordOf r < n) ⌝ }
+    ensures { λ t. ⌜ ((g : Geometry) → Layout g n → g .joint ≡ joint → toldAs t ≡ ageIn tears g (now (store .entry)) (recordOf r) (clock .0) (limit .0)) ⌝ }
 {
-    let c = commitpage::read_page(page::get_page(store, 0), n, joint);
+    if counted::any_lost(store, tears, 1 + (n + n)) {
+        return Told::Refused(4);
+    }
+    let c = commitpage::read_page(counted::get_page(store, tears, 0), n, joint);
     if c.good {
-        let stamp = age::Reading::new(stamp_on(store, settled_page(c.map, n, r)));
+        let stamp = age::Reading::new(stamp_on(store, tears, settled_page(c.map, n, r)));
         return Told::Judged(clock.since(stamp).judged_by(limit));
     }
     Told::Refused(4)
@@ -101,6 +110,7 @@ fn age_in(
 // The age of a record, of n: refused with 22, 23 or 4, in this order, or judged.
 pub fn age_of(
     store: &[u8],
+    tears: bool,
     n: usize,
     joint: bool,
     number: u8,
@@ -108,14 +118,14 @@ pub fn age_of(
     limit: age::Limit,
 ) -> Told
     requires { ⌜ Known n × (joint ≡ true → n ≡ 16) ⌝ }
-    ensures { λ t. ⌜ ((g : Geometry) → Layout g n → g .joint ≡ joint → toldAs t ≡ ageOf (atomic g) (now (store .entry)) number (clock .0) (limit .0)) ⌝ }
+    ensures { λ t. ⌜ ((g : Geometry) → Layout g n → g .joint ≡ joint → toldAs t ≡ ageOf (formIn tears g) (now (store .entry)) number (clock .0) (limit .0)) ⌝ }
 {
-    if store.len() != 32 * (1 + (n + n)) {
+    if store.len() != lengths::store_size(tears, n) {
         return Told::Refused(22);
     }
     let named = numbers::RecordNumber::checked(number, n as u8);
     match named {
-        numbers::RecordNamed::Number(r) => age_in(store, n, joint, r, clock, limit),
+        numbers::RecordNamed::Number(r) => age_in(store, tears, n, joint, r, clock, limit),
         numbers::RecordNamed::NoSuchRecord => Told::Refused(23),
     }
 }
@@ -143,6 +153,7 @@ pub fn leave(judged: age::Judged, age: &mut i64) -> u8
 // Tells the age of a record, of n: 0 live, 1 ahead, 2 stale, with the age in minutes left at `age`; or refused with 22, 23 or 4, and `age` stays.
 pub fn tell(
     store: &[u8],
+    tears: bool,
     n: usize,
     joint: bool,
     number: u8,
@@ -154,10 +165,11 @@ pub fn tell(
     ensures { λ r.
         let before = now (store .entry) in
         ⌜ ((g : Geometry) → Layout g n → g .joint ≡ joint
-        → (r ≡ ageNumber (ageOf (atomic g) before number clock limit)) × (now (age .exit) ≡ ageLeft (ageOf (atomic g) before number clock limit) (now (age .entry)))) ⌝ }
+        → (r ≡ ageNumber (ageOf (formIn tears g) before number clock limit)) × (now (age .exit) ≡ ageLeft (ageOf (formIn tears g) before number clock limit) (now (age .entry)))) ⌝ }
 {
     let told = age_of(
         store,
+        tears,
         n,
         joint,
         number,

@@ -76,6 +76,10 @@ module _ (g : Geometry) where
   unfolding changes changed changedIn
   changes-length v = those-length (records g) (changed v)
 
+  -- versions that change nothing
+  pub no-changes : (v : ℕ → Option Page) → changedIn g v ≡ 0 → changes v ≡ []
+  no-changes v e = nil-of (changes v) (changes-length v ∙ e)
+
   pub sound-versions : (v : ℕ → Option Page) → Paged v → (Writable g) (pageIn v) (changes v)
   unfolding Writable changes changed pageIn else isSome
   sound-versions v paged q e = (changes-below v q e, go (v q) refl (those-only (records g) (changed v) q e))
@@ -135,7 +139,7 @@ module _ (g : Geometry) where
   planned s r = s (intention r)
 
   -- the names depend on the commit page alone
-  inForce-same : (s c : Pages) → c 0 ≡ s 0 → inForce c ≡ inForce s
+  pub inForce-same : (s c : Pages) → c 0 ≡ s 0 → inForce c ≡ inForce s
   unfolding inForce isNamed names
   inForce-same s c e = ap (λ p. those (records g) (names g p)) e
 
@@ -275,10 +279,6 @@ module _ (g : Geometry) where
         counts : namedIn c ≡ namedIn s
         counts = sym (inForce-length c) ∙ ap length lists ∙ inForce-length s
 
-    -- versions that change nothing: no page write
-    no-changes : (v : ℕ → Option Page) → changedIn g v ≡ 0 → changes v ≡ []
-    no-changes v e = nil-of (changes v) (changes-length v ∙ e)
-
     no-version : (v : ℕ → Option Page) → changedIn g v ≡ 0 → Ranged g v → (r : ℕ) → isSome (v r) ≡ false
     unfolding changes changed mem
     no-version v e ranged r = refute (isSome (v r)) (λ h. clash (those-all (records g) (changed v) r (ranged r h) h) (ap (mem r) (no-changes v e)))
@@ -317,11 +317,11 @@ module _ (g : Geometry) where
           (λ e. free-unmoved (commitAt g s v k .store) s (clear-held k ∙ emptied-unprepared s e) (emptied-unprepared s e))
           (λ e. same-unmoved (commit-idle s v k e))
 
-    pub agree-commit : (s c : Pages) (v w : ℕ → Option Page) (k : ℕ) → isClear g (atomicPages g) s v ≡ true → Ranged g v → Agree s c
+    pub agree-commit : (s c : Pages) (v w : ℕ → Option Page) (k : ℕ) → isClear g (atomicPages g) s v ≡ true → isClear g (atomicPages g) c w ≡ true → Ranged g v → Agree s c
         → ((r : ℕ) → isSome (w r) ≡ isSome (v r)) → (stored (changedIn g v) (commitAt g s v k .made) ≡ true → (r : ℕ) → w r ≡ v r)
         → Agree (commitAt g s v k .store) (commitAt g c w k .store) × (commitAt g c w k .made ≡ commitAt g s v k .made) × (commitAt g c w k .crashed ≡ commitAt g s v k .crashed)
-    unfolding Agree emptied changes changed changedIn isClear
-    agree-commit s c v w k clear ranged A shape same-pages = (
+    unfolding Agree changes changed changedIn
+    agree-commit s c v w k clear clear′ ranged A shape same-pages = (
       (commit-page c w k ∙ ap₂ (λ (p : ℕ → Bool) (x : Page). committedMark g k (mapOf g p) (those (records g) p) x) shapes (A .0) ∙ sym (commit-page s v k), λ r. go r (is? (stored (changedIn g v) (commitAt g s v k .made)))),
       made-same,
       commit-crashed c w k ∙ ap (λ n. under k (commitDue n)) counts ∙ sym (commit-crashed s v k),
@@ -335,9 +335,6 @@ module _ (g : Geometry) where
 
         made-same : commitAt g c w k .made ≡ commitAt g s v k .made
         made-same = commit-made c w k ∙ ap (λ n. madeOf k (commitDue n)) counts ∙ sym (commit-made s v k)
-
-        clear′ : isClear g (atomicPages g) c w ≡ true
-        clear′ = ap₂ (λ (p : Page) (n : ℕ). isEmptied (readCommit g p) || same n 0) (A .0) counts ∙ clear
 
         stores : stored (changedIn g w) (commitAt g c w k .made) ≡ stored (changedIn g v) (commitAt g s v k .made)
         stores = ap₂ stored counts made-same

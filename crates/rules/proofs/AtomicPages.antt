@@ -1,9 +1,9 @@
 -- The laws of the stable store hold of atomic pages, in every proper geometry.
-use mathlib.Core.Path.{refl, ap}
+use mathlib.Core.Path.{_≡_, refl, ap}
 use mathlib.Core.Bool.{not, _&&_}
 use native.Mathlib.Omega.{arith}
 use Rattle.rules.specs.Geometry.{Geometry, Proper, pageCount}
-use Rattle.rules.specs.Store.{Pages, home, readCommit, isDamaged, isEmptied, damaged, emptied, readPrepared, isPrepared, identityIn}
+use Rattle.rules.specs.Store.{Pages, home, readCommit, isDamaged, damaged, emptied, readPrepared, isPrepared, identityIn}
 use Rattle.rules.specs.Form.{atomicPages}
 use Rattle.rules.proofs.Medium.{MediumLaws}
 use Rattle.rules.proofs.Cuts.{recover-settled, home-settled}
@@ -12,7 +12,7 @@ use Rattle.rules.proofs.Pages.{Sized, flat-pagesOf, pagesOf-flat, pages
 use Rattle.rules.proofs.AtomicCommits.{commit-sized, commit-crash, recover-sized, unidentified, pending-below, emptied-unprepared, commit-kept, commit-lost, commit-whole, recover-whole, recover-keeps, Agree, agree-recover, clear-kept, clear-lost, clear-whole, clear-unmoved, agree-commit, recover-calm, recover-unmoved, home-calm}
 use Rattle.rules.proofs.AtomicPrepares.{prepare-sized, prepare-idle, prepare-keeps, prepare-calm, prepare-taken, prepare-unmoved, agree-prepare}
 use Rattle.rules.proofs.AtomicDecides.{decide-sized, decide-first, decide-ended, decide-settled, decide-whole, agree-shape, agree-decide}
-use Rattle.rules.proofs.Uncut.{commits-uncut, recovers-uncut, prepares-uncut, decides-uncut, pending-some}
+use Rattle.rules.proofs.Uncut.{untorn, commits-uncut, recovers-uncut, prepares-uncut, decides-uncut, pending-some}
 
 module _ (g : Geometry) where
   module _ (proper : Proper g) where
@@ -50,6 +50,7 @@ module _ (g : Geometry) where
       decide-whole = decide-whole g proper;
       decide-shaped = λ s d k S. decide-sized g proper s d k S;
       prepared-some = pending-some g proper;
+      joint-untorn = untorn g proper;
       commit-uncut = commits-uncut g proper;
       recover-uncut = recovers-uncut g proper;
       prepare-uncut = prepares-uncut g proper;
@@ -57,11 +58,10 @@ module _ (g : Geometry) where
       Agree = Agree g proper;
       agree-refl = λ s. (refl, λ r. refl);
       agree-settled = λ s c A r. A .1 r;
-      agree-emptied = λ s c A. ap (λ p. isEmptied (readCommit g p)) (A .0);
       agree-damaged = λ s c A. ap (λ p. isDamaged (readCommit g p) && not (isPrepared (readPrepared g p))) (A .0);
       agree-prepared = λ s c A. ap (λ p. identityIn (readPrepared g p)) (A .0);
       agree-pending = λ s c A r. agree-shape g proper s c (A .0) r;
-      agree-commit = λ s c v w k e n A h f. agree-commit g proper s c v w k e n A h f;
+      agree-commit = agree-commit g proper;
       agree-recover = λ s c k A. agree-recover g proper s c k A;
       agree-prepare = agree-prepare g proper;
       agree-decide = agree-decide g proper;
@@ -75,3 +75,8 @@ module _ (g : Geometry) where
     pub sized-shaped : (s : Pages) → Sized (pageCount g) s → atomic-laws .Shaped s
     unfolding atomic-laws
     sized-shaped s S = S
+
+    -- stores that agree have the same commit page
+    pub agree-first : (s c : Pages) → atomic-laws .Agree s c → c 0 ≡ s 0
+    unfolding atomic-laws Agree
+    agree-first s c A = A .0

@@ -11,7 +11,7 @@ use Rattle.laws.proofs.Tests.{same?, Same, is, isnt, same-refl, ne-false, under
 use Rattle.laws.proofs.Booleans.{or-right}
 use Rattle.laws.proofs.Those.{count-none}
 use Rattle.rules.specs.Geometry.{Geometry, Proper, records, pageCount}
-use Rattle.rules.specs.Store.{Page, Pages, mapOf, readCommit, isEmptied, emptied, Prepared, preparedPage, readPrepared, identityIn, pending, settled}
+use Rattle.rules.specs.Store.{Page, Pages, mapOf, emptied, Prepared, preparedPage, readPrepared, identityIn, pending, settled}
 use Rattle.rules.specs.State.{mem}
 use Rattle.rules.specs.Versions.{isSome, else}
 use Rattle.rules.specs.Commit.{cutAt, pageIn, prepareWrites, prepareAt}
@@ -178,10 +178,10 @@ module _ (g : Geometry) where
           go (part a b S) = S .at-mark ∙ rw (← (changes-length g) v, lt-under 0 (length (changes g v)) a, not-lt-under (length (changes g v)) k b)
           go (whole a b S) = S .at-mark ∙ rw (← (changes-length g) v, lt-under 0 (length (changes g v)) a, lt-under (length (changes g v)) k b)
 
-    pub agree-prepare : (s c : Pages) (v w : ℕ → Option Page) (i k : ℕ) → isClear g (atomicPages g) s v ≡ true → g .joint ≡ true → i < 256 → (Agree g proper) s c → ((r : ℕ) → isSome (w r) ≡ isSome (v r))
+    pub agree-prepare : (s c : Pages) (v w : ℕ → Option Page) (i k : ℕ) → isClear g (atomicPages g) s v ≡ true → isClear g (atomicPages g) c w ≡ true → g .joint ≡ true → i < 256 → (Agree g proper) s c → ((r : ℕ) → isSome (w r) ≡ isSome (v r))
         → (Agree g proper) (prepareAt g s v i k .store) (prepareAt g c w i k .store) × (prepareAt g c w i k .made ≡ prepareAt g s v i k .made) × (prepareAt g c w i k .crashed ≡ prepareAt g s v i k .crashed)
     unfolding Agree changed changedIn isClear emptied
-    agree-prepare s c v w i k clear on short A shape = (
+    agree-prepare s c v w i k clear clear′ on short A shape = (
       (
         prepare-page c w i k
             ∙ ap₂ (λ (t : ℕ → Bool) (x : Page). cond (under 0 (count (records g) t) && under (count (records g) t) k) (preparedPage g (record { map = mapOf g t; identity = i })) x) shapes (A .0)
@@ -197,6 +197,3 @@ module _ (g : Geometry) where
 
         counts : changedIn g w ≡ changedIn g v
         counts = ap (count (records g)) shapes
-
-        clear′ : isClear g (atomicPages g) c w ≡ true
-        clear′ = ap₂ (λ (p : Page) (n : ℕ). isEmptied (readCommit g p) || same n 0) (A .0) counts ∙ clear

@@ -16,14 +16,17 @@ use Rattle.laws.proofs.Booleans.{refute}
 use Rattle.rules.specs.Geometry.{Geometry, Proper, pageCount, workSize, wordSize, longest, open-geometry}
 use Rattle.rules.specs.State.{down}
 use Rattle.rules.specs.Form.{Form, atomic}
+use Rattle.rules.specs.Pairs.{inPairs}
 use Rattle.rules.specs.Step.{StateOf, firstOf}
 use Rattle.rules.specs.Run.{Result, Played, words, answerBytes, play, eventsIn, runRefusals}
 use Rattle.rules.specs.Portion.{Lent, allEvents, allZero, Fits, AllFit, wordsIn, Portion, portionAll, portion, added, chain, chainFrom, next, Takes, As-whole}
-use Rattle.rules.specs.Editions.{geometry1, edition1}
+use Rattle.rules.specs.Editions.{geometry1, edition1, geometryPairs, editionPairs}
 use Rattle.rules.proofs.Medium.{MediumLaws}
 use Rattle.rules.proofs.Pages.{flat-length}
-use Rattle.rules.proofs.Editions.{proper1}
+use Rattle.rules.proofs.Editions.{proper1, proper-pairs}
 use Rattle.rules.proofs.AtomicPages.{atomic-laws, shaped-sized}
+use Rattle.rules.proofs.PairBytes.{pairs-length}
+use Rattle.rules.proofs.PairedPages.{paired-laws, shaped-pairs}
 use Rattle.rules.proofs.Portions.{Carried, carried-start, sound-portion, chain-whole, run-portion, answers-all, sound-played}
 
 -- the words of bytes that begin with n whole words
@@ -185,3 +188,17 @@ portions-whole-edition1 = portions-whole edition1 (atomic-laws geometry1 proper1
   where
     positive1 : 0 < wordSize geometry1
     positive1 = le-by-compare 1 4 tt
+
+-- pairs have theirs
+pub paired-spelled : (g : Geometry) (proper : Proper g) (tears : g .tears ≡ true) → Spelled (inPairs g) (paired-laws g proper tears)
+paired-spelled g proper tears d S = pairs-length (pageCount g) d (shaped-pairs g proper tears d S)
+
+-- of the form whose pages tear
+pub portions-whole-pairs : (sound : StateOf editionPairs → Bool) → Takes editionPairs sound → (store : List ℕ) (ls : List Lent) (work answers : List ℕ)
+    → length store ≡ editionPairs .medium .size → AllFit editionPairs ls → Fits editionPairs (record { events = allEvents ls; work = work; answers = answers })
+    → As-whole editionPairs sound store ls work answers
+unfolding open-geometry IsLe
+portions-whole-pairs = portions-whole editionPairs (paired-laws geometryPairs proper-pairs refl) (paired-spelled geometryPairs proper-pairs refl) positive
+  where
+    positive : 0 < wordSize geometryPairs
+    positive = le-by-compare 1 4 tt

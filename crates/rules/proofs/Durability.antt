@@ -1,9 +1,9 @@
--- What the stable store promises, for readers: a commit settles all its versions or none wherever it is cut, recovery cut any number of times
--- changes no settled record, neither damages the commit page, and how many page writes each takes.
+-- What the stable store promises, for readers. Of every medium: a commit settles all its versions or none wherever it is cut, and recovery cut any number of
+-- times changes no settled record. Of atomic pages: neither damages the commit page, and how many page writes each takes.
 use mathlib.Core.Path.{_≡_, refl, sym, _∙_, ap}
 use mathlib.Core.Bool.{true, false, cond, true≢false}
 use mathlib.Core.List.{List, [], _∷_}
-use mathlib.Core.Logic.{_≢_, _⊎_, inl, inr}
+use mathlib.Core.Logic.{_≢_}
 use mathlib.Core.Option.{Option, some}
 use Prim.Native.Nat.{ℕ, zero, suc, _+_, _*_, _<_}
 use native.Mathlib.Omega.{arith}
@@ -12,10 +12,10 @@ use Rattle.laws.specs.Counting.{count}
 use Rattle.laws.proofs.Tests.{ne-false, Is, is?, yes′, no′, under-lt}
 use Rattle.laws.proofs.Booleans.{or-left}
 use Rattle.rules.specs.Geometry.{Geometry, Proper, records}
-use Rattle.rules.specs.Store.{Page, Pages, damaged, emptied, Prepared, readPrepared, isReserved, settled}
+use Rattle.rules.specs.Store.{Page, Pages, damaged, Prepared, readPrepared, isReserved}
 use Rattle.rules.specs.Versions.{else}
 use Rattle.rules.specs.Commit.{Cut, commitAt, recoverAt, prepareAt, decideAt}
-use Rattle.rules.specs.Form.{atomicPages}
+use Rattle.rules.specs.Form.{Medium, atomicPages}
 use Rattle.rules.proofs.Medium.{changedIn, stored, Ranged, isClear, MediumLaws}
 use Rattle.rules.proofs.Map.{mapOf-lt}
 use Rattle.rules.proofs.Cuts.{commitDue, recoverDue, broken, commit-readable, recover-readable}
@@ -23,7 +23,6 @@ use Rattle.rules.proofs.AtomicCommits.{madeOf, namedIn, commit-made, co
 use Rattle.rules.proofs.Prepares.{prepareDue, ruled, ruled-count, commits-first, commits-then, aborts-first, aborts-then}
 use Rattle.rules.proofs.AtomicPrepares.{prepare-made, prepare-crashed}
 use Rattle.rules.proofs.Uncut.{reservedIn, some-reserved}
-use Rattle.rules.proofs.AtomicPages.{atomic-laws}
 
 -- made of a list of writes that was cut, or wasn't
 cut-made : (k due : ℕ) → under k due ≡ true → (madeOf k due ≡ k) × (k < due)
@@ -34,12 +33,31 @@ whole-made : (k due : ℕ) → under k due ≡ false → madeOf k due ≡ due
 unfolding madeOf
 whole-made k due e = rw e
 
-module _ (g : Geometry) where
-  -- recoveries one after another, each cut at its count
-  unfoldable pub recoveries : Pages → List ℕ → Pages
-  recoveries s [] = s
-  recoveries s (k ∷ ks) = recoveries (recoverAt g s k .store) ks
+-- recoveries one after another, each cut at its place
+unfoldable pub recoveries : (m : Medium) → m .Store → List ℕ → m .Store
+recoveries m s [] = s
+recoveries m s (k ∷ ks) = recoveries m (m .recover s k .store) ks
 
+module _ {g : Geometry} {m : Medium} (laws : MediumLaws g m) where
+  -- recoveries, however many and wherever each is cut, change no settled record
+  pub recoveries-keep : (s : m .Store) (ks : List ℕ) (r : ℕ) → m .settled (recoveries m s ks) r ≡ m .settled s r
+  unfolding recoveries
+  recoveries-keep s [] r = refl
+  recoveries-keep s (k ∷ ks) r = recoveries-keep (m .recover s k .store) ks r ∙ laws .recover-settled s k r
+
+  -- A commit settles all its versions or none, wherever it is cut, and so it stays through any recoveries: all, where as many page writes were made as the
+  -- intention pages and the commit record take.
+  pub commit-all-or-none : (s : m .Store) (v : ℕ → Option Page) (k : ℕ) (ks : List ℕ) → m .emptied s ≡ true → Ranged g v → (r : ℕ)
+      → m .settled (recoveries m (m .commit s v k .store) ks) r ≡ cond (stored (changedIn g v) (m .commit s v k .made)) (else (v r) (m .settled s r)) (m .settled s r)
+  unfolding isClear
+  commit-all-or-none s v k ks empty ranged r = recoveries-keep (m .commit s v k .store) ks r ∙ go (is? (stored (changedIn g v) (m .commit s v k .made)))
+    where
+      go : Is (stored (changedIn g v) (m .commit s v k .made))
+          → m .settled (m .commit s v k .store) r ≡ cond (stored (changedIn g v) (m .commit s v k .made)) (else (v r) (m .settled s r)) (m .settled s r)
+      go (yes′ q) = rw q (laws .commit-kept s v k r (or-left (m .emptied s) _ empty) ranged q)
+      go (no′ q) = rw q (laws .commit-lost s v k r (or-left (m .emptied s) _ empty) q)
+
+module _ (g : Geometry) where
   -- a commit that changes n records and is not cut takes 2n + 2 page writes, or none for no record
   pub commit-due : (s : Pages) (v : ℕ → Option Page) (k : ℕ) → commitAt g s v k .crashed ≡ false
       → commitAt g s v k .made ≡ cond (same (changedIn g v) 0) 0 (2 * changedIn g v + 2)
@@ -96,32 +114,17 @@ module _ (g : Geometry) where
       abort-decision-due zero e = absurd (true≢false (sym (ap (λ (c : Cut Pages). c .crashed) (aborts-first g proper s p here)) ∙ e))
       abort-decision-due (suc k) e = ap (λ (c : Cut Pages). c .made) (aborts-then g proper s p here k)
 
-    laws : MediumLaws g (atomicPages g)
-    laws = atomic-laws g proper
+    -- a recovery leaves a commit page that can be read, wherever it is cut, and so do many
+    pub recover-sound : (s : Pages) (k : ℕ) → damaged g s ≡ false → damaged g (recoverAt g s k .store) ≡ false
+    unfolding damaged broken
+    recover-sound s k e = ap (broken g) (recover-page g s k) ∙ recover-readable g proper k _ (s 0) e
 
-    -- recoveries, however many and wherever each is cut, change no settled record
-    pub recoveries-keep : (s : Pages) (ks : List ℕ) (r : ℕ) → settled g (recoveries s ks) r ≡ settled g s r
+    pub recoveries-sound : (s : Pages) (ks : List ℕ) → damaged g s ≡ false → damaged g (recoveries (atomicPages g) s ks) ≡ false
     unfolding recoveries
-    recoveries-keep s [] r = refl
-    recoveries-keep s (k ∷ ks) r = recoveries-keep (recoverAt g s k .store) ks r ∙ laws .recover-settled s k r
-
-    pub recoveries-sound : (s : Pages) (ks : List ℕ) → damaged g s ≡ false → damaged g (recoveries s ks) ≡ false
-    unfolding recoveries damaged broken
     recoveries-sound s [] e = e
-    recoveries-sound s (k ∷ ks) e = recoveries-sound (recoverAt g s k .store) ks (ap (broken g) (recover-page g s k) ∙ recover-readable g proper k _ (s 0) e)
+    recoveries-sound s (k ∷ ks) e = recoveries-sound (recoverAt g s k .store) ks (recover-sound s k e)
 
     -- a commit leaves a commit page that can be read, wherever it is cut
     pub commit-sound : (s : Pages) (v : ℕ → Option Page) (k : ℕ) → damaged g s ≡ false → damaged g (commitAt g s v k .store) ≡ false
     unfolding damaged broken
     commit-sound s v k e = ap (broken g) (commit-page g s v k) ∙ commit-readable g proper k _ (mapOf-lt g _) _ (s 0) e
-
-    -- a commit settles all its versions or none, wherever it is cut, and so it stays through any recoveries
-    pub commit-all-or-none : (s : Pages) (v : ℕ → Option Page) (k : ℕ) (ks : List ℕ) → emptied g s ≡ true → Ranged g v
-        → ((r : ℕ) → settled g (recoveries (commitAt g s v k .store) ks) r ≡ else (v r) (settled g s r)) ⊎ ((r : ℕ) → settled g (recoveries (commitAt g s v k .store) ks) r ≡ settled g s r)
-    unfolding isClear
-    commit-all-or-none s v k ks empty ranged = go (is? (stored (changedIn g v) (commitAt g s v k .made)))
-      where
-        go : Is (stored (changedIn g v) (commitAt g s v k .made))
-            → ((r : ℕ) → settled g (recoveries (commitAt g s v k .store) ks) r ≡ else (v r) (settled g s r)) ⊎ ((r : ℕ) → settled g (recoveries (commitAt g s v k .store) ks) r ≡ settled g s r)
-        go (yes′ q) = inl λ r. recoveries-keep (commitAt g s v k .store) ks r ∙ laws .commit-kept s v k r (or-left (emptied g s) _ empty) ranged q
-        go (no′ q) = inr λ r. recoveries-keep (commitAt g s v k .store) ks r ∙ laws .commit-lost s v k r (or-left (emptied g s) _ empty) q

@@ -1,4 +1,4 @@
--- The geometries that there are satisfy what the formats ask; edition 2 has no prepare, decide or query.
+-- The geometries that there are satisfy what the formats ask; edition 2 and the form whose pages tear have no prepare, decide or query.
 use native.Mathlib.Bridge.{le-by-compare, IsLe}
 use mathlib.Core.Path.{_≡_, refl}
 use mathlib.Core.Bool.{false≢true}
@@ -7,7 +7,7 @@ use Prim.Native.Nat.{ℕ, _<_}
 use Rattle.rules.specs.Geometry.{Proper, open-geometry}
 use Rattle.rules.specs.Store.{Page, Pages, readCommit, readPrepared, isDamaged, damaged}
 use Rattle.rules.specs.Event.{fields, decode}
-use Rattle.rules.specs.Editions.{geometry1, geometry2}
+use Rattle.rules.specs.Editions.{geometry1, geometry2, geometryPairs}
 use Rattle.rules.proofs.Plain.{no-kind, none-prepared, plain-damaged}
 
 pub proper1 : Proper geometry1
@@ -17,6 +17,7 @@ proper1 = record {
   ones-fit = le-by-compare 17 32 tt;
   page-fits = le-by-compare 29 256 tt;
   joint-fits = λ e. le-by-compare 29 32 tt;
+  torn-plain = λ e. absurd (false≢true e);
   word-whole = refl;
   count-wide = le-by-compare 35 64 tt;
 }
@@ -28,16 +29,35 @@ proper2 = record {
   ones-fit = le-by-compare 65 128 tt;
   page-fits = le-by-compare 79 256 tt;
   joint-fits = λ e. absurd (false≢true e);
+  torn-plain = λ e. absurd (false≢true e);
   word-whole = refl;
   count-wide = le-by-compare 131 256 tt;
+}
+
+pub proper-pairs : Proper geometryPairs
+unfolding open-geometry IsLe
+proper-pairs = record {
+  edition-fits = le-by-compare 2 16 tt;
+  ones-fit = le-by-compare 17 32 tt;
+  page-fits = le-by-compare 29 256 tt;
+  joint-fits = λ e. absurd (false≢true e);
+  torn-plain = λ e. refl;
+  word-whole = refl;
+  count-wide = le-by-compare 35 64 tt;
 }
 
 -- kinds 9 to 11 are bad, and a page in state 3 is damaged: no such page is read as prepared, and any page that has no map is damaged
 pub no-kind2 : (w : ℕ) → 8 < fields geometry2 w .kind → decode geometry2 w ≡ none
 no-kind2 = no-kind geometry2 refl
 
+pub no-kind-pairs : (w : ℕ) → 8 < fields geometryPairs w .kind → decode geometryPairs w ≡ none
+no-kind-pairs = no-kind geometryPairs refl
+
 pub none-prepared2 : (page : Page) → readPrepared geometry2 page ≡ none
 none-prepared2 = none-prepared geometry2 refl
+
+pub none-prepared-pairs : (page : Page) → readPrepared geometryPairs page ≡ none
+none-prepared-pairs = none-prepared geometryPairs refl
 
 pub damaged2 : (s : Pages) → damaged geometry2 s ≡ isDamaged (readCommit geometry2 (s 0))
 damaged2 = plain-damaged geometry2 refl

@@ -2,34 +2,34 @@
 use mathlib.Core.Path.{_≡_, refl, sym, _∙_, ap, subst, subst⁻¹}
 use mathlib.Core.Bool.{Bool, true, false, cond, _&&_, _||_, false≢true}
 use mathlib.Core.Option.{Option, none, some}
-use Prim.Native.Nat.{ℕ, zero, suc, _*_, _^_, _<_}
+use Prim.Native.Nat.{ℕ, zero, suc, _*_, _%_, _^_, _<_}
 use native.Mathlib.Omega.{arith}
 use lib.Pow.{pow-pos}
 use Rattle.laws.specs.Tests.{same, under, open-tests}
 use Rattle.laws.proofs.Tests.{same-eq, same-refl, under-lt, lt-under}
 use Rattle.laws.proofs.Booleans.{both}
-use Rattle.rules.specs.Geometry.{Geometry, Proper, records, wordSize, pageSize}
+use Rattle.rules.specs.Geometry.{Geometry, Proper, records, wordSize, pageSize, cutOf, cutCount, cutWay, wayLimit}
 use Rattle.rules.specs.Event.{Access, toWrite, toRead, Event, begin, lock, write, read, commit, abort, crash, recover, prepare, decide, query, Fields, fields, wellFormed, accessOf, accessValue, reportOf, reportValue, decisionOf, decisionOffset, eventOf, decode, encode, fits, open-event}
 use Rattle.rules.proofs.JointKinds.{decide-offset}
 use Rattle.rules.proofs.Words.{of, Bounded, wordOf, fields-bounded, fields-word, word-fields, word-small}
 
 -- the event that fields stand for
 judged : Geometry → Fields → Option Event
-judged g f = cond (wellFormed g f) (eventOf f) none
+judged g f = cond (wellFormed g f) (eventOf g f) none
 
 -- the fields of an event
-unfoldable pub fieldsOf : Event → Fields
-fieldsOf (begin t) = record { kind = 1; transaction = t; rec = 0; offset = 0; count = 0; value = 0; spare = 0 }
-fieldsOf (lock t r a) = record { kind = 2; transaction = t; rec = r; offset = 0; count = 0; value = accessValue a; spare = 0 }
-fieldsOf (write t r o v) = record { kind = 3; transaction = t; rec = r; offset = o; count = 0; value = v; spare = 0 }
-fieldsOf (read t r o) = record { kind = 4; transaction = t; rec = r; offset = o; count = 0; value = 0; spare = 0 }
-fieldsOf (commit t k) = record { kind = 5; transaction = t; rec = 0; offset = 0; count = k; value = 0; spare = 0 }
-fieldsOf (abort t w) = record { kind = 6; transaction = t; rec = 0; offset = 0; count = 0; value = reportValue w; spare = 0 }
-fieldsOf crash = record { kind = 7; transaction = 0; rec = 0; offset = 0; count = 0; value = 0; spare = 0 }
-fieldsOf (recover k) = record { kind = 8; transaction = 0; rec = 0; offset = 0; count = k; value = 0; spare = 0 }
-fieldsOf (prepare t k i) = record { kind = 9; transaction = t; rec = 0; offset = 0; count = k; value = i; spare = 0 }
-fieldsOf (decide d k i) = record { kind = 10; transaction = 0; rec = 0; offset = decisionOffset d; count = k; value = i; spare = 0 }
-fieldsOf (query i) = record { kind = 11; transaction = 0; rec = 0; offset = 0; count = 0; value = i; spare = 0 }
+unfoldable pub fieldsOf : Geometry → Event → Fields
+fieldsOf g (begin t) = record { kind = 1; transaction = t; rec = 0; offset = 0; count = 0; value = 0; spare = 0 }
+fieldsOf g (lock t r a) = record { kind = 2; transaction = t; rec = r; offset = 0; count = 0; value = accessValue a; spare = 0 }
+fieldsOf g (write t r o v) = record { kind = 3; transaction = t; rec = r; offset = o; count = 0; value = v; spare = 0 }
+fieldsOf g (read t r o) = record { kind = 4; transaction = t; rec = r; offset = o; count = 0; value = 0; spare = 0 }
+fieldsOf g (commit t k) = record { kind = 5; transaction = t; rec = 0; offset = 0; count = cutCount (g .tears) k; value = cutWay (g .tears) k; spare = 0 }
+fieldsOf g (abort t w) = record { kind = 6; transaction = t; rec = 0; offset = 0; count = 0; value = reportValue w; spare = 0 }
+fieldsOf g crash = record { kind = 7; transaction = 0; rec = 0; offset = 0; count = 0; value = 0; spare = 0 }
+fieldsOf g (recover k) = record { kind = 8; transaction = 0; rec = 0; offset = 0; count = cutCount (g .tears) k; value = cutWay (g .tears) k; spare = 0 }
+fieldsOf g (prepare t k i) = record { kind = 9; transaction = t; rec = 0; offset = 0; count = k; value = i; spare = 0 }
+fieldsOf g (decide d k i) = record { kind = 10; transaction = 0; rec = 0; offset = decisionOffset d; count = k; value = i; spare = 0 }
+fieldsOf g (query i) = record { kind = 11; transaction = 0; rec = 0; offset = 0; count = 0; value = i; spare = 0 }
 
 -- the event is one that there is
 allowed : Geometry → Event → Bool
@@ -57,24 +57,45 @@ zero-small = refl
 
 -- the kinds from 9 on, where they are
 module _ (g : Geometry) (on : g .joint ≡ true) where
-  judged-prepare : (t k i : ℕ) → under i 256 ≡ true → judged g (fieldsOf (prepare t k i)) ≡ some (prepare t k i)
+  judged-prepare : (t k i : ℕ) → under i 256 ≡ true → judged g (fieldsOf g (prepare t k i)) ≡ some (prepare t k i)
   unfolding judged fieldsOf open-event
   judged-prepare t k i e = rw (on, same-refl 0, e, zero-small)
 
-  judged-decide : (d : Bool) (k i : ℕ) → under i 256 ≡ true → judged g (fieldsOf (decide d k i)) ≡ some (decide d k i)
+  judged-decide : (d : Bool) (k i : ℕ) → under i 256 ≡ true → judged g (fieldsOf g (decide d k i)) ≡ some (decide d k i)
   unfolding judged fieldsOf open-event
   judged-decide true k i e = rw (on, same-refl 0, e, offset-small true)
   judged-decide false k i e = rw (on, same-refl 0, e, offset-small false)
 
-  judged-query : (i : ℕ) → under i 256 ≡ true → judged g (fieldsOf (query i)) ≡ some (query i)
+  judged-query : (i : ℕ) → under i 256 ≡ true → judged g (fieldsOf g (query i)) ≡ some (query i)
   unfolding judged fieldsOf open-event
   judged-query i e = rw (on, same-refl 0, e, zero-small)
+
+-- a cut's way is within its limit, and its count and way make it up again
+way-in : (b : Bool) (k : ℕ) → under (cutWay b k) (suc (wayLimit b)) ≡ true
+way-in false k = zero-small
+way-in true k = lt-under (k % 4) 4 (omega arith)
+
+way-used : (b : Bool) (k : ℕ) → (b || same (cutWay b k) 0) ≡ true
+way-used false k = same-refl 0
+way-used true k = refl
+
+cut-again : (b : Bool) (k : ℕ) → cutOf b (cutCount b k) (cutWay b k) ≡ k
+cut-again false k = refl
+cut-again true k = omega arith
+
+judged-commit : (g : Geometry) (t k : ℕ) → judged g (fieldsOf g (commit t k)) ≡ some (commit t k)
+unfolding judged fieldsOf open-event
+judged-commit g t k = rw (same-refl 0, way-used (g .tears) k, way-in (g .tears) k, zero-small) (ap (λ (c : ℕ). some (commit t c)) (cut-again (g .tears) k))
+
+judged-recover : (g : Geometry) (k : ℕ) → judged g (fieldsOf g (recover k)) ≡ some (recover k)
+unfolding judged fieldsOf open-event
+judged-recover g k = rw (same-refl 0, way-used (g .tears) k, way-in (g .tears) k, zero-small) (ap (λ (c : ℕ). some (recover c)) (cut-again (g .tears) k))
 
 joined : (a b : Bool) → a ≡ true → b ≡ true → (a && b) ≡ true
 joined true b p q = q
 joined false b p q = absurd (false≢true p)
 
-judged-fieldsOf : (g : Geometry) (e : Event) → fits g e ≡ true → judged g (fieldsOf e) ≡ some e
+judged-fieldsOf : (g : Geometry) (e : Event) → fits g e ≡ true → judged g (fieldsOf g e) ≡ some e
 unfolding judged fieldsOf open-event open-tests
 judged-fieldsOf g (begin t) h = refl
 judged-fieldsOf g (lock t r toWrite) h = refl
@@ -83,11 +104,11 @@ judged-fieldsOf g (write t r o v) h =
     let a = both (under t 32 && under r (records g) && under o pageSize) (under v 256) h in
     ap (λ (b : Bool). cond b (some (write t r o v)) none) (joined (under v 256) (under o 32) (a .1) (both (under t 32 && under r (records g)) (under o pageSize) (a .0) .1))
 judged-fieldsOf g (read t r o) h = ap (λ (b : Bool). cond b (some (read t r o)) none) (both (under t 32 && under r (records g)) (under o pageSize) h .1)
-judged-fieldsOf g (commit t k) h = refl
+judged-fieldsOf g (commit t k) h = judged-commit g t k
 judged-fieldsOf g (abort t true) h = refl
 judged-fieldsOf g (abort t false) h = refl
 judged-fieldsOf g crash h = refl
-judged-fieldsOf g (recover k) h = refl
+judged-fieldsOf g (recover k) h = judged-recover g k
 judged-fieldsOf g (prepare t k i) h = let a = both (under t 32 && under k (2 ^ g .cutBits) && under i 256) (g .joint) h in judged-prepare g (a .1) t k i (both (under t 32 && under k (2 ^ g .cutBits)) (under i 256) (a .0) .1)
 judged-fieldsOf g (decide d k i) h = let a = both (under k (2 ^ g .cutBits) && under i 256) (g .joint) h in judged-decide g (a .1) d k i (both (under k (2 ^ g .cutBits)) (under i 256) (a .0) .1)
 judged-fieldsOf g (query i) h = let a = both (under i 256) (g .joint) h in judged-query g (a .1) i (a .0)
@@ -180,6 +201,11 @@ decision-offset zero h = refl
 decision-offset (suc zero) h = refl
 decision-offset (suc (suc n)) h = absurd (omega arith)
 
+-- and count and value of a cut those that it was made of
+cut-back : (b : Bool) (c v : ℕ) → v < suc (wayLimit b) → (c ≡ cutCount b (cutOf b c v)) × (cond b v 0 ≡ cutWay b (cutOf b c v))
+cut-back false c v h = (refl, refl)
+cut-back true c v h = (omega arith, omega arith)
+
 -- by kind: what stands for an event is a choice by a test
 abbrev is-of : Geometry → (k : ℕ) (t r o c v s : ℕ) (e : Event) → Type 0
 is-of g k t r o c v s e = judged g (of k t r o c v s) ≡ some e
@@ -189,47 +215,51 @@ no-event p = let z : _≡_ {A = ℕ} 0 1 = cc in omega arith
 
 -- the fields are the event's, and there is such an event
 abbrev Stands : Geometry → Fields → Event → Type 0
-Stands g f e = (f ≡ fieldsOf e) × (allowed g e ≡ true)
+Stands g f e = (f ≡ fieldsOf g e) × (allowed g e ≡ true)
 
 judged-is : (g : Geometry) (k t r o c v s : ℕ) (e : Event) → Kind k → judged g (of k t r o c v s) ≡ some e → Stands g (of k t r o c v s) e
 unfolding judged fieldsOf open-event allowed
 judged-is g k t r o c v s e (kind0 q) h = absurd (no-event (subst (λ k. is-of g k t r o c v s e) q h))
 judged-is g k t r o c v s e (kind1 q) h =
     let p = chosen _ (begin t) e (subst (λ k. is-of g k t r o c v s e) q h) in
-    let d = cleared t r o c v s 1 1 true true false false false false q (p .0) in (d .is-cleared ∙ ap fieldsOf (p .1), sym (ap (allowed g) (p .1)))
+    let d = cleared t r o c v s 1 1 true true false false false false q (p .0) in (d .is-cleared ∙ ap (fieldsOf g) (p .1), sym (ap (allowed g) (p .1)))
 judged-is g k t r o c v s e (kind2 q) h =
     let p = chosen _ (lock t r (accessOf v)) e (subst (λ k. is-of g k t r o c v s e) q h) in
     let d = cleared t r o c v s 2 1 true true true false false true q (p .0) in
-    (d .is-cleared ∙ ap (λ (x : ℕ). of 2 t r 0 0 x 0) (access-value v (d .value-in)) ∙ ap fieldsOf (p .1), sym (ap (allowed g) (p .1)))
+    (d .is-cleared ∙ ap (λ (x : ℕ). of 2 t r 0 0 x 0) (access-value v (d .value-in)) ∙ ap (fieldsOf g) (p .1), sym (ap (allowed g) (p .1)))
 judged-is g k t r o c v s e (kind3 q) h =
     let p = chosen _ (write t r o v) e (subst (λ k. is-of g k t r o c v s e) q h) in
-    let d = cleared t r o c v s 256 32 true true true true false true q (p .0) in (d .is-cleared ∙ ap fieldsOf (p .1), sym (ap (allowed g) (p .1)))
+    let d = cleared t r o c v s 256 32 true true true true false true q (p .0) in (d .is-cleared ∙ ap (fieldsOf g) (p .1), sym (ap (allowed g) (p .1)))
 judged-is g k t r o c v s e (kind4 q) h =
     let p = chosen _ (read t r o) e (subst (λ k. is-of g k t r o c v s e) q h) in
-    let d = cleared t r o c v s 1 32 true true true true false false q (p .0) in (d .is-cleared ∙ ap fieldsOf (p .1), sym (ap (allowed g) (p .1)))
+    let d = cleared t r o c v s 1 32 true true true true false false q (p .0) in (d .is-cleared ∙ ap (fieldsOf g) (p .1), sym (ap (allowed g) (p .1)))
 judged-is g k t r o c v s e (kind5 q) h =
-    let p = chosen _ (commit t c) e (subst (λ k. is-of g k t r o c v s e) q h) in
-    let d = cleared t r o c v s 1 1 true true false false true false q (p .0) in (d .is-cleared ∙ ap fieldsOf (p .1), sym (ap (allowed g) (p .1)))
+    let p = chosen _ (commit t (cutOf (g .tears) c v)) e (subst (λ k. is-of g k t r o c v s e) q h) in
+    let d = cleared t r o c v s (suc (wayLimit (g .tears))) 1 true true false false true (g .tears) q (p .0) in
+    let x = cut-back (g .tears) c v (d .value-in) in
+    (d .is-cleared ∙ (λ i. of 5 t 0 0 (x .0 i) (x .1 i) 0) ∙ ap (fieldsOf g) (p .1), sym (ap (allowed g) (p .1)))
 judged-is g k t r o c v s e (kind6 q) h =
     let p = chosen _ (abort t (reportOf v)) e (subst (λ k. is-of g k t r o c v s e) q h) in
     let d = cleared t r o c v s 2 1 true true false false false true q (p .0) in
-    (d .is-cleared ∙ ap (λ (x : ℕ). of 6 t 0 0 0 x 0) (report-value v (d .value-in)) ∙ ap fieldsOf (p .1), sym (ap (allowed g) (p .1)))
+    (d .is-cleared ∙ ap (λ (x : ℕ). of 6 t 0 0 0 x 0) (report-value v (d .value-in)) ∙ ap (fieldsOf g) (p .1), sym (ap (allowed g) (p .1)))
 judged-is g k t r o c v s e (kind7 q) h =
     let p = chosen _ crash e (subst (λ k. is-of g k t r o c v s e) q h) in
-    let d = cleared t r o c v s 1 1 true false false false false false q (p .0) in (d .is-cleared ∙ ap fieldsOf (p .1), sym (ap (allowed g) (p .1)))
+    let d = cleared t r o c v s 1 1 true false false false false false q (p .0) in (d .is-cleared ∙ ap (fieldsOf g) (p .1), sym (ap (allowed g) (p .1)))
 judged-is g k t r o c v s e (kind8 q) h =
-    let p = chosen _ (recover c) e (subst (λ k. is-of g k t r o c v s e) q h) in
-    let d = cleared t r o c v s 1 1 true false false false true false q (p .0) in (d .is-cleared ∙ ap fieldsOf (p .1), sym (ap (allowed g) (p .1)))
+    let p = chosen _ (recover (cutOf (g .tears) c v)) e (subst (λ k. is-of g k t r o c v s e) q h) in
+    let d = cleared t r o c v s (suc (wayLimit (g .tears))) 1 true false false false true (g .tears) q (p .0) in
+    let x = cut-back (g .tears) c v (d .value-in) in
+    (d .is-cleared ∙ (λ i. of 8 0 0 0 (x .0 i) (x .1 i) 0) ∙ ap (fieldsOf g) (p .1), sym (ap (allowed g) (p .1)))
 judged-is g k t r o c v s e (kind9 q) h =
     let p = chosen _ (prepare t c v) e (subst (λ k. is-of g k t r o c v s e) q h) in
-    let d = cleared t r o c v s 256 1 (g .joint) true false false true true q (p .0) in (d .is-cleared ∙ ap fieldsOf (p .1), sym (ap (allowed g) (p .1)) ∙ d .known)
+    let d = cleared t r o c v s 256 1 (g .joint) true false false true true q (p .0) in (d .is-cleared ∙ ap (fieldsOf g) (p .1), sym (ap (allowed g) (p .1)) ∙ d .known)
 judged-is g k t r o c v s e (kind10 q) h =
     let p = chosen _ (decide (decisionOf o) c v) e (subst (λ k. is-of g k t r o c v s e) q h) in
     let d = cleared t r o c v s 256 2 (g .joint) false false true true true q (p .0) in
-    (d .is-cleared ∙ ap (λ (x : ℕ). of 10 0 0 x c v 0) (decision-offset o (decide-offset g (of 10 t r o c v s) refl (p .0))) ∙ ap fieldsOf (p .1), sym (ap (allowed g) (p .1)) ∙ d .known)
+    (d .is-cleared ∙ ap (λ (x : ℕ). of 10 0 0 x c v 0) (decision-offset o (decide-offset g (of 10 t r o c v s) refl (p .0))) ∙ ap (fieldsOf g) (p .1), sym (ap (allowed g) (p .1)) ∙ d .known)
 judged-is g k t r o c v s e (kind11 q) h =
     let p = chosen _ (query v) e (subst (λ k. is-of g k t r o c v s e) q h) in
-    let d = cleared t r o c v s 256 1 (g .joint) false false false false true q (p .0) in (d .is-cleared ∙ ap fieldsOf (p .1), sym (ap (allowed g) (p .1)) ∙ d .known)
+    let d = cleared t r o c v s 256 1 (g .joint) false false false false true q (p .0) in (d .is-cleared ∙ ap (fieldsOf g) (p .1), sym (ap (allowed g) (p .1)) ∙ d .known)
 judged-is g k t r o c v s e (other n q) h = absurd (no-event (subst (λ k. is-of g k t r o c v s e) q h))
 
 access-small : (a : Access) → accessValue a < 256
@@ -247,8 +277,12 @@ unfolding decisionOffset
 decision-small true = omega arith
 decision-small false = omega arith
 
+way-small : (b : Bool) (k : ℕ) → cutWay b k < 256
+way-small true k = omega arith
+way-small false k = omega arith
+
 -- an event fits exactly if its fields do
-fits-bounded : (g : Geometry) (e : Event) → fits g e ≡ true → Bounded g (fieldsOf e)
+fits-bounded : (g : Geometry) (e : Event) → fits g e ≡ true → Bounded g (fieldsOf g e)
 unfolding fieldsOf fits records
 fits-bounded g (begin t) h = record { kind-fits = omega arith; transaction-fits = under-lt t 32 h; rec-fits = pow-pos (g .recordBits); offset-fits = omega arith; count-fits = pow-pos (g .cutBits); value-fits = omega arith }
 fits-bounded g (lock t r access) h =
@@ -265,10 +299,10 @@ fits-bounded g (read t r o) h =
     record { kind-fits = omega arith; transaction-fits = under-lt t 32 (d .0); rec-fits = under-lt r _ (d .1); offset-fits = under-lt o 32 (b .1); count-fits = pow-pos (g .cutBits); value-fits = omega arith }
 fits-bounded g (commit t k) h =
     let a = both (under t 32) _ h in
-    record { kind-fits = omega arith; transaction-fits = under-lt t 32 (a .0); rec-fits = pow-pos (g .recordBits); offset-fits = omega arith; count-fits = under-lt k _ (a .1); value-fits = omega arith }
+    record { kind-fits = omega arith; transaction-fits = under-lt t 32 (a .0); rec-fits = pow-pos (g .recordBits); offset-fits = omega arith; count-fits = under-lt (cutCount (g .tears) k) _ (a .1); value-fits = way-small (g .tears) k }
 fits-bounded g (abort t w) h = record { kind-fits = omega arith; transaction-fits = under-lt t 32 h; rec-fits = pow-pos (g .recordBits); offset-fits = omega arith; count-fits = pow-pos (g .cutBits); value-fits = report-small w }
 fits-bounded g crash h = record { kind-fits = omega arith; transaction-fits = omega arith; rec-fits = pow-pos (g .recordBits); offset-fits = omega arith; count-fits = pow-pos (g .cutBits); value-fits = omega arith }
-fits-bounded g (recover k) h = record { kind-fits = omega arith; transaction-fits = omega arith; rec-fits = pow-pos (g .recordBits); offset-fits = omega arith; count-fits = under-lt k _ h; value-fits = omega arith }
+fits-bounded g (recover k) h = record { kind-fits = omega arith; transaction-fits = omega arith; rec-fits = pow-pos (g .recordBits); offset-fits = omega arith; count-fits = under-lt (cutCount (g .tears) k) _ h; value-fits = way-small (g .tears) k }
 fits-bounded g (prepare t k i) h =
     let a = both _ (under i 256) (both _ (g .joint) h .0) in
     let b = both (under t 32) _ (a .0) in
@@ -279,21 +313,21 @@ fits-bounded g (decide d k i) h =
 fits-bounded g (query i) h =
     record { kind-fits = omega arith; transaction-fits = omega arith; rec-fits = pow-pos (g .recordBits); offset-fits = omega arith; count-fits = pow-pos (g .cutBits); value-fits = under-lt i 256 (both (under i 256) _ h .0) }
 
-bounded-fits : (g : Geometry) (e : Event) → Bounded g (fieldsOf e) → allowed g e ≡ true → fits g e ≡ true
+bounded-fits : (g : Geometry) (e : Event) → Bounded g (fieldsOf g e) → allowed g e ≡ true → fits g e ≡ true
 unfolding fieldsOf fits records allowed
 bounded-fits g (begin t) B a = lt-under t 32 (B .transaction-fits)
 bounded-fits g (lock t r access) B a = rw (lt-under t 32 (B .transaction-fits)) (lt-under r _ (B .rec-fits))
 bounded-fits g (write t r o v) B a = rw (lt-under t 32 (B .transaction-fits), lt-under r _ (B .rec-fits), lt-under o 32 (B .offset-fits)) (lt-under v 256 (B .value-fits))
 bounded-fits g (read t r o) B a = rw (lt-under t 32 (B .transaction-fits), lt-under r _ (B .rec-fits)) (lt-under o 32 (B .offset-fits))
-bounded-fits g (commit t k) B a = rw (lt-under t 32 (B .transaction-fits)) (lt-under k _ (B .count-fits))
+bounded-fits g (commit t k) B a = rw (lt-under t 32 (B .transaction-fits)) (lt-under (cutCount (g .tears) k) _ (B .count-fits))
 bounded-fits g (abort t w) B a = lt-under t 32 (B .transaction-fits)
 bounded-fits g crash B a = refl
-bounded-fits g (recover k) B a = lt-under k _ (B .count-fits)
+bounded-fits g (recover k) B a = lt-under (cutCount (g .tears) k) _ (B .count-fits)
 bounded-fits g (prepare t k i) B a = rw (lt-under t 32 (B .transaction-fits), lt-under k _ (B .count-fits), lt-under i 256 (B .value-fits)) a
 bounded-fits g (decide d k i) B a = rw (lt-under k _ (B .count-fits), lt-under i 256 (B .value-fits)) a
 bounded-fits g (query i) B a = rw (lt-under i 256 (B .value-fits)) a
 
-encode-is : (g : Geometry) (e : Event) → encode g e ≡ wordOf g (fieldsOf e)
+encode-is : (g : Geometry) (e : Event) → encode g e ≡ wordOf g (fieldsOf g e)
 unfolding encode wordOf fieldsOf
 encode-is g (begin t) = refl
 encode-is g (lock t r a) = refl
@@ -312,7 +346,7 @@ module _ (g : Geometry) where
   unfolding decode judged
   decode-judged w = refl
 
-  no-spare : (e : Event) → fieldsOf e .spare ≡ 0
+  no-spare : (e : Event) → fieldsOf g e .spare ≡ 0
   unfolding fieldsOf
   no-spare (begin t) = refl
   no-spare (lock t r a) = refl
@@ -332,14 +366,14 @@ module _ (g : Geometry) where
       let f = fields g w in
       judged-is g (f .kind) (f .transaction) (f .rec) (f .offset) (f .count) (f .value) (f .spare) e (kind? (f .kind)) (sym (decode-judged w) ∙ h)
 
-  pub decode-fields : (w : ℕ) (e : Event) → decode g w ≡ some e → fields g w ≡ fieldsOf e
+  pub decode-fields : (w : ℕ) (e : Event) → decode g w ≡ some e → fields g w ≡ fieldsOf g e
   decode-fields w e h = stands w e h .0
 
   -- an event that fits is decoded from its word
   pub decode-encode : (e : Event) → fits g e ≡ true → decode g (encode g e) ≡ some e
   decode-encode e h =
       decode-judged (encode g e)
-      ∙ ap (judged g) (ap (fields g) (encode-is g e) ∙ fields-word g (fieldsOf e) (fits-bounded g e h) (no-spare e))
+      ∙ ap (judged g) (ap (fields g) (encode-is g e) ∙ fields-word g (fieldsOf g e) (fits-bounded g e h) (no-spare e))
       ∙ judged-fieldsOf g e h
 
   -- whatever the word: an event that it decodes to fits
@@ -354,4 +388,4 @@ module _ (g : Geometry) where
 
   -- the word of an event that fits has the word's size
   pub encode-small : Proper g → (e : Event) → fits g e ≡ true → encode g e < 2 ^ (8 * wordSize g)
-  encode-small proper e h = subst⁻¹ (λ w. w < 2 ^ (8 * wordSize g)) (encode-is g e) (word-small g proper (fieldsOf e) (fits-bounded g e h))
+  encode-small proper e h = subst⁻¹ (λ w. w < 2 ^ (8 * wordSize g)) (encode-is g e) (word-small g proper (fieldsOf g e) (fits-bounded g e h))

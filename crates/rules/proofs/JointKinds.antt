@@ -26,7 +26,7 @@ others g x =
     (u .count || same (x .count) 0) &&
     (u .value || same (x .value) 0) &&
     same (x .spare) 0 &&
-    under (x .value) (suc (limitOf (x .kind)))
+    under (x .value) (suc (limitOf g (x .kind)))
 
 pub decide-offset : (g : Geometry) (x : Fields) → x .kind ≡ 10 → wellFormed g x ≡ true → x .offset < 2
 unfolding wellFormed offsetLimitOf offsetLimits

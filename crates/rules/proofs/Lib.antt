@@ -38,6 +38,12 @@ pub mod AtomicPrepares
 pub mod AtomicDecides
 pub mod Uncut
 pub mod AtomicPages
+pub mod Cells
+pub mod Pairs
+pub mod PairBytes
+pub mod PairCuts
+pub mod PairedPages
+pub mod PairsKept
 pub mod Words
 pub mod Event
 pub mod Durability

@@ -84,25 +84,27 @@ pub record MediumLaws (g : Geometry) (m : Medium) : Type 1 where
   pub decide-shaped : (s : m .Store) (d : Bool) (k : ℕ) → Shaped s → Shaped (m .decide s d k .store)
   -- what is prepared changed some record
   pub prepared-some : (s : m .Store) (i : ℕ) → m .prepared s ≡ some i → any (records g) (λ r. isSome (m .pending s r)) ≡ true
+  -- where a transaction can be prepared no page tears
+  pub joint-untorn : g .joint ≡ true → g .tears ≡ false
   -- with the greatest count that a word can hold, no page writes are cut
   pub commit-uncut : (s : m .Store) (v : ℕ → Option Page) → m .commit s v (uncut g) .crashed ≡ false
   pub recover-uncut : (s : m .Store) → m .recover s (uncut g) .crashed ≡ false
   pub prepare-uncut : (s : m .Store) (v : ℕ → Option Page) (i : ℕ) → m .prepare s v i (uncut g) .crashed ≡ false
   pub decide-uncut : (s : m .Store) (d : Bool) (i : ℕ) → m .prepared s ≡ some i → m .decide s d (uncut g) .crashed ≡ false
-  -- two stores with the same settled records and the same commit page
+  -- Two stores with the same settled records and the same commit page. (They need not both be emptied: of pairs that show the same, those of one store may be
+  -- good and alike where those of the other aren't.)
   pub Agree : m .Store → m .Store → Type 0
   pub agree-refl : (s : m .Store) → Agree s s
   pub agree-settled : (s c : m .Store) → Agree s c → (r : ℕ) → m .settled c r ≡ m .settled s r
-  pub agree-emptied : (s c : m .Store) → Agree s c → m .emptied c ≡ m .emptied s
   pub agree-damaged : (s c : m .Store) → Agree s c → m .damaged c ≡ m .damaged s
   pub agree-prepared : (s c : m .Store) → Agree s c → m .prepared c ≡ m .prepared s
   pub agree-pending : (s c : m .Store) → Agree s c → (r : ℕ) → isSome (m .pending c r) ≡ isSome (m .pending s r)
-  pub agree-commit : (s c : m .Store) (v w : ℕ → Option Page) (k : ℕ) → isClear g m s v ≡ true → Ranged g v → Agree s c
+  pub agree-commit : (s c : m .Store) (v w : ℕ → Option Page) (k : ℕ) → isClear g m s v ≡ true → isClear g m c w ≡ true → Ranged g v → Agree s c
       → ((r : ℕ) → isSome (w r) ≡ isSome (v r)) → (stored (changedIn g v) (m .commit s v k .made) ≡ true → (r : ℕ) → w r ≡ v r)
       → Agree (m .commit s v k .store) (m .commit c w k .store) × (m .commit c w k .made ≡ m .commit s v k .made) × (m .commit c w k .crashed ≡ m .commit s v k .crashed)
   pub agree-recover : (s c : m .Store) (k : ℕ) → Agree s c
       → Agree (m .recover s k .store) (m .recover c k .store) × (m .recover c k .made ≡ m .recover s k .made) × (m .recover c k .crashed ≡ m .recover s k .crashed)
-  pub agree-prepare : (s c : m .Store) (v w : ℕ → Option Page) (i k : ℕ) → isClear g m s v ≡ true → g .joint ≡ true → i < 256 → Agree s c → ((r : ℕ) → isSome (w r) ≡ isSome (v r))
+  pub agree-prepare : (s c : m .Store) (v w : ℕ → Option Page) (i k : ℕ) → isClear g m s v ≡ true → isClear g m c w ≡ true → g .joint ≡ true → i < 256 → Agree s c → ((r : ℕ) → isSome (w r) ≡ isSome (v r))
       → Agree (m .prepare s v i k .store) (m .prepare c w i k .store) × (m .prepare c w i k .made ≡ m .prepare s v i k .made) × (m .prepare c w i k .crashed ≡ m .prepare s v i k .crashed)
   pub agree-decide : (s c : m .Store) (d : Bool) (k i : ℕ) → m .prepared s ≡ some i → Agree s c → (0 < m .decide s d k .made → d ≡ true → (r : ℕ) → m .pending c r ≡ m .pending s r)
       → Agree (m .decide s d k .store) (m .decide c d k .store) × (m .decide c d k .made ≡ m .decide s d k .made) × (m .decide c d k .crashed ≡ m .decide s d k .crashed)

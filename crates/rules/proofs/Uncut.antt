@@ -3,15 +3,16 @@ use mathlib.Core.Path.{_≡_, refl, sym, ap, _∙_}
 use mathlib.Core.Bool.{Bool, true, false, cond, true≢false}
 use mathlib.Core.Logic.{_≢_}
 use mathlib.Core.Option.{Option, none, some}
-use Prim.Native.Nat.{ℕ, suc, _+_, _-_, _*_, _^_, _≤_, _<_}
+use Prim.Native.Nat.{ℕ, suc, _+_, _-_, _*_, _^_, _≤_}
 use native.Mathlib.Omega.{arith}
 use lib.Pow.{ones-lt, le-ones}
 use Rattle.laws.specs.Tests.{same, under}
 use Rattle.laws.specs.Counting.{any, count}
 use Rattle.laws.proofs.Tests.{same?, Same, is, isnt, Is, is?, yes′, no′, lt-under}
+use Rattle.laws.proofs.Booleans.{refute, clash}
 use Rattle.laws.proofs.Those.{count-le, count-none, count-zero}
 use Rattle.laws.proofs.Counting.{any-false}
-use Rattle.rules.specs.Geometry.{Geometry, Proper, records, uncut}
+use Rattle.rules.specs.Geometry.{Geometry, Proper, records, cutOf, cutCount, uncut}
 use Rattle.rules.specs.Store.{Page, Pages, intention, isNamed, Prepared, readPrepared, identityIn, preparedMap, isReserved, pending}
 use Rattle.rules.specs.Versions.{isSome}
 use Rattle.rules.specs.Commit.{Cut, commitAt, recoverAt, prepareAt, decideAt}
@@ -27,12 +28,37 @@ use Rattle.rules.proofs.Prepares.{prepareDue, ruled, commits-then, abor
 unfoldable pub reservedIn : Geometry → Pages → ℕ
 reservedIn g s = count (records g) (isReserved g s)
 
--- a word can hold that count
-pub uncut-fits : (g : Geometry) → under (uncut g) (2 ^ g .cutBits) ≡ true
+-- the count that it tells is the greatest of a word
+pub uncut-count : (g : Geometry) → cutCount (g .tears) (uncut g) ≡ 2 ^ g .cutBits - 1
 unfolding uncut
-uncut-fits g = lt-under (uncut g) (2 ^ g .cutBits) (ones-lt (g .cutBits))
+uncut-count g = go (g .tears) (2 ^ g .cutBits - 1)
+  where
+    go : (b : Bool) (n : ℕ) → cutCount b (cutOf b n 0) ≡ n
+    go false n = refl
+    go true n = omega arith
+
+-- a word can hold it
+pub uncut-fits : (g : Geometry) → under (cutCount (g .tears) (uncut g)) (2 ^ g .cutBits) ≡ true
+uncut-fits g = rw (uncut-count g) (lt-under (2 ^ g .cutBits - 1) (2 ^ g .cutBits) (ones-lt (g .cutBits)))
+
+-- where no page tears it is that count
+pub uncut-alone : (g : Geometry) → g .tears ≡ false → under (uncut g) (2 ^ g .cutBits) ≡ true
+unfolding uncut
+uncut-alone g still = rw still (lt-under (2 ^ g .cutBits - 1) (2 ^ g .cutBits) (ones-lt (g .cutBits)))
+
+-- and it is no less
+pub uncut-least : (g : Geometry) → 2 ^ g .cutBits - 1 ≤ uncut g
+unfolding uncut
+uncut-least g = go (g .tears) (2 ^ g .cutBits - 1)
+  where
+    go : (b : Bool) (n : ℕ) → n ≤ cutOf b n 0
+    go false n = omega arith
+    go true n = omega arith
 
 module _ (g : Geometry) (proper : Proper g) where
+  pub untorn : g .joint ≡ true → g .tears ≡ false
+  untorn on = refute (g .tears) (λ e. clash on (proper .torn-plain e))
+
   -- a transaction that is prepared changed some record
   pub some-reserved : (s : Pages) (p : Prepared) → readPrepared g (s 0) ≡ some p → reservedIn g s ≢ 0
   unfolding reservedIn isReserved preparedMap
@@ -40,39 +66,56 @@ module _ (g : Geometry) (proper : Proper g) where
       let S = prepared-is g (s 0) p here .1 in
       S .some-record (names-none g (p .map) (S .map-fits) (λ r h. rw (lt-under r (records g) h, here) at (count-zero (records g) (isReserved g s) e r h)))
 
-  most : 2 * records g + 2 ≤ uncut g
-  unfolding uncut
+  most : 2 * records g + 2 ≤ 2 ^ g .cutBits - 1
   most = le-ones (g .cutBits) (proper .count-wide)
 
   -- page writes for some of the records, none for none: a count has room for them and one more
-  few : (n due : ℕ) → n ≤ records g → due ≤ 2 * n + 1 → cond (same n 0) 0 due ≤ uncut g - 1
+  few : (n due : ℕ) → n ≤ records g → due ≤ 2 * n + 1 → suc (cond (same n 0) 0 due) ≤ 2 ^ g .cutBits - 1
   few n due h k = go (same? n 0)
     where
-      bound : (r u : ℕ) → n ≤ r → 2 * r + 2 ≤ u → due ≤ u - 1
-      bound r u p q = omega (arith, k, p, q)
+      bound : (m r u : ℕ) → m ≤ 2 * n + 1 → n ≤ r → 2 * r + 2 ≤ u → suc m ≤ u
+      bound m r u a p q = omega (arith, a, p, q)
 
-      go : Same n 0 → cond (same n 0) 0 due ≤ uncut g - 1
-      go (is q e _) = rw e (omega arith)
-      go (isnt q e _) = rw e (bound (records g) (uncut g) h most)
+      go : Same n 0 → suc (cond (same n 0) 0 due) ≤ 2 ^ g .cutBits - 1
+      go (is q e _) = rw e (bound 0 (records g) (2 ^ g .cutBits - 1) (omega arith) h most)
+      go (isnt q e _) = rw e (bound due (records g) (2 ^ g .cutBits - 1) k h most)
 
-  few-writes : (n : ℕ) → n ≤ records g → commitDue n ≤ uncut g
+  few-writes : (n : ℕ) → n ≤ records g → commitDue n ≤ 2 ^ g .cutBits - 1
   unfolding commitDue
   few-writes n h = go (same? n 0)
     where
-      go : Same n 0 → cond (same n 0) 0 (2 * n + 2) ≤ uncut g
+      go : Same n 0 → cond (same n 0) 0 (2 * n + 2) ≤ 2 ^ g .cutBits - 1
       go (is q e _) = rw e (omega arith)
-      go (isnt q e _) = let m : 2 * records g + 2 ≤ uncut g = most in rw e (omega (arith, h, m))
+      go (isnt q e _) = let m : 2 * records g + 2 ≤ 2 ^ g .cutBits - 1 = most in rw e (omega (arith, h, m))
 
-  few-copies : (d : Pages) → recoverDue (namedIn g d) ≤ uncut g - 1
+  few-copies : (d : Pages) → suc (recoverDue (namedIn g d)) ≤ 2 ^ g .cutBits - 1
   unfolding recoverDue namedIn
   few-copies d = let n : ℕ = count (records g) (isNamed g d) in few n (n + 1) (count-le (records g) (isNamed g d)) (omega arith)
 
-  few-pages : (v : ℕ → Option Page) → prepareDue (changedIn g v) ≤ uncut g - 1
+  few-pages : (v : ℕ → Option Page) → suc (prepareDue (changedIn g v)) ≤ 2 ^ g .cutBits - 1
   unfolding prepareDue changedIn
   few-pages v = let n : ℕ = count (records g) (λ r. isSome (v r)) in few n (n + 1) (count-le (records g) (λ r. isSome (v r))) (omega arith)
 
-  room : (n : ℕ) → n ≤ uncut g - 1 → n ≤ uncut g
-  room n h = omega (arith, h)
+  less : (n u : ℕ) → suc n ≤ u → n ≤ u
+  less n u h = omega (arith, h)
+
+  -- the greatest count of a word leaves room for all page writes
+  pub commit-room : (v : ℕ → Option Page) → commitDue (changedIn g v) ≤ 2 ^ g .cutBits - 1
+  unfolding changedIn
+  commit-room v = few-writes _ (count-le (records g) (λ r. isSome (v r)))
+
+  pub recover-room : (d : Pages) → recoverDue (namedIn g d) ≤ 2 ^ g .cutBits - 1
+  recover-room d = less (recoverDue (namedIn g d)) _ (few-copies d)
+
+  pub prepare-room : (v : ℕ → Option Page) → prepareDue (changedIn g v) ≤ 2 ^ g .cutBits - 1
+  prepare-room v = less (prepareDue (changedIn g v)) _ (few-pages v)
+
+  -- and so does the cut there
+  room : (n : ℕ) → n ≤ 2 ^ g .cutBits - 1 → n ≤ uncut g
+  room n h = let b : 2 ^ g .cutBits - 1 ≤ uncut g = uncut-least g in over n (2 ^ g .cutBits - 1) (uncut g) h b
+    where
+      over : (a b c : ℕ) → a ≤ b → b ≤ c → a ≤ c
+      over a b c p q = omega (arith, p, q)
 
   -- the page of what is prepared
   by-page : {A : Type 0} (d : Pages) (i : ℕ) → identityIn (readPrepared g (d 0)) ≡ some i → ((p : Prepared) → readPrepared g (d 0) ≡ some p → A) → A
@@ -84,17 +127,26 @@ module _ (g : Geometry) (proper : Proper g) where
 
   -- a count of one more
   one-more : suc (uncut g - 1) ≡ uncut g
-  one-more = let n : 2 * records g + 2 ≤ uncut g = most in more (uncut g) (omega (arith, n))
+  one-more = more (uncut g) (room 1 (any-room (records g) (2 ^ g .cutBits - 1) most))
     where
-      more : (k : ℕ) → 0 < k → suc (k - 1) ≡ k
+      any-room : (r u : ℕ) → 2 * r + 2 ≤ u → 1 ≤ u
+      any-room r u h = omega (arith, h)
+
+      more : (k : ℕ) → 1 ≤ k → suc (k - 1) ≡ k
       more k h = omega (arith, h)
+
+  fewer : (n : ℕ) → suc n ≤ 2 ^ g .cutBits - 1 → n ≤ uncut g - 1
+  fewer n h = let k : suc n ≤ uncut g = room (suc n) h in before n (uncut g) k
+    where
+      before : (a b : ℕ) → suc a ≤ b → a ≤ b - 1
+      before a b p = omega (arith, p)
 
   decides : (b : Bool) (d : Pages) (p : Prepared) → readPrepared g (d 0) ≡ some p → decideAt g d b (uncut g) .crashed ≡ false
   decides true d p here =
       ap (λ (k : ℕ). decideAt g d true k .crashed) (sym one-more)
       ∙ ap (λ (c : Cut Pages). c .crashed) (commits-then g proper d p here (uncut g - 1))
       ∙ recover-crashed g (ruled g proper d p here) (uncut g - 1)
-      ∙ not-lt-under (uncut g - 1) (recoverDue (namedIn g (ruled g proper d p here))) (few-copies (ruled g proper d p here))
+      ∙ not-lt-under (uncut g - 1) (recoverDue (namedIn g (ruled g proper d p here))) (fewer _ (few-copies (ruled g proper d p here)))
   decides false d p here =
       ap (λ (k : ℕ). decideAt g d false k .crashed) (sym one-more) ∙ ap (λ (c : Cut Pages). c .crashed) (aborts-then g proper d p here (uncut g - 1))
 
@@ -114,13 +166,13 @@ module _ (g : Geometry) (proper : Proper g) where
           (unfold reservedIn in count-none (records g) (isReserved g d) (λ r lt. sym (is-reserved r) ∙ any-false (records g) (λ r. isSome (pending g d r)) r q lt)))
 
   pub commits-uncut : (d : Pages) (v : ℕ → Option Page) → commitAt g d v (uncut g) .crashed ≡ false
-  commits-uncut d v = commit-crashed g d v (uncut g) ∙ not-lt-under (uncut g) (commitDue (changedIn g v)) (unfold changedIn in few-writes _ (count-le (records g) (λ r. isSome (v r))))
+  commits-uncut d v = commit-crashed g d v (uncut g) ∙ not-lt-under (uncut g) (commitDue (changedIn g v)) (room _ (commit-room v))
 
   pub recovers-uncut : (d : Pages) → recoverAt g d (uncut g) .crashed ≡ false
-  recovers-uncut d = recover-crashed g d (uncut g) ∙ not-lt-under (uncut g) (recoverDue (namedIn g d)) (room _ (few-copies d))
+  recovers-uncut d = recover-crashed g d (uncut g) ∙ not-lt-under (uncut g) (recoverDue (namedIn g d)) (room _ (recover-room d))
 
   pub prepares-uncut : (d : Pages) (v : ℕ → Option Page) (i : ℕ) → prepareAt g d v i (uncut g) .crashed ≡ false
-  prepares-uncut d v i = prepare-crashed g proper d v i (uncut g) ∙ not-lt-under (uncut g) (prepareDue (changedIn g v)) (room _ (few-pages v))
+  prepares-uncut d v i = prepare-crashed g proper d v i (uncut g) ∙ not-lt-under (uncut g) (prepareDue (changedIn g v)) (room _ (prepare-room v))
 
   pub decides-uncut : (d : Pages) (b : Bool) (i : ℕ) → identityIn (readPrepared g (d 0)) ≡ some i → decideAt g d b (uncut g) .crashed ≡ false
   decides-uncut d b i e = by-page d i e (λ p here. decides b d p here)

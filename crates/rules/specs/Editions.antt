@@ -4,10 +4,11 @@ use mathlib.Core.Bool.{Bool, true, false}
 use Prim.Native.Nat.{ℕ, _*_}
 use Rattle.rules.specs.Geometry.{Geometry, pageSize, records}
 use Rattle.rules.specs.Form.{Form, atomic}
+use Rattle.rules.specs.Pairs.{inPairs}
 
 -- sixteen records, event words of four bytes, a store of 33 pages
 abbrev pub geometry1 : Geometry
-geometry1 = record { edition = 1; recordBits = 4; cutBits = 6; spareBits = 0; onesBits = 5; depthLimit = 16; joint = true }
+geometry1 = record { edition = 1; recordBits = 4; cutBits = 6; spareBits = 0; onesBits = 5; depthLimit = 16; joint = true; tears = false }
 
 abbrev pub edition1 : Form
 edition1 = atomic geometry1
@@ -15,10 +16,27 @@ edition1 = atomic geometry1
 -- Document 02, L7: sixty-four records, event words of eight bytes (the six fields at 4, 5, 6, 5, 8 and 8 bits, then 28 zero bits), a store of 129 pages. "L5's
 -- form and edition 2 keep kinds 9 to 11 bad and state 3 damaged" (L9).
 abbrev pub geometry2 : Geometry
-geometry2 = record { edition = 2; recordBits = 6; cutBits = 8; spareBits = 28; onesBits = 7; depthLimit = 16; joint = false }
+geometry2 = record { edition = 2; recordBits = 6; cutBits = 8; spareBits = 28; onesBits = 7; depthLimit = 16; joint = false; tears = false }
 
 abbrev pub edition2 : Form
 edition2 = atomic geometry2
+
+-- Document 02, L5: edition 1's numbers on pages that can tear, each kept as a pair of copies, a store of 2,178 bytes. "L5's form and edition 2 keep kinds 9 to
+-- 11 bad and state 3 damaged" (L9).
+abbrev pub geometryPairs : Geometry
+geometryPairs = record {
+  edition = geometry1 .edition;
+  recordBits = geometry1 .recordBits;
+  cutBits = geometry1 .cutBits;
+  spareBits = geometry1 .spareBits;
+  onesBits = geometry1 .onesBits;
+  depthLimit = geometry1 .depthLimit;
+  joint = false;
+  tears = true;
+}
+
+abbrev pub editionPairs : Form
+editionPairs = inPairs geometryPairs
 
 -- The editions by name. (A form holds a type, so that a contract can't speak of all forms; it can speak of all of these.)
 pub data Edition : Type 0 where

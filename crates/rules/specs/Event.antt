@@ -5,7 +5,7 @@ use mathlib.Core.List.{List, [], _∷_}
 use mathlib.Core.Option.{Option, none, some}
 use lib.ListN.{getD}
 use Rattle.laws.specs.Tests.{same, under}
-use Rattle.rules.specs.Geometry.{Geometry, records, pageSize}
+use Rattle.rules.specs.Geometry.{Geometry, records, pageSize, cutOf, cutCount, cutWay, wayLimit}
 
 -- what a lock is asked for: to write, or to read beside others
 pub data Access : Type 0 where
@@ -20,16 +20,16 @@ pub data Event : Type 0 where
   write : ℕ → ℕ → ℕ → ℕ → Event
   -- at an offset
   read : ℕ → ℕ → ℕ → Event
-  -- with the count of page writes after which a crash comes
+  -- with the place of a crash among its page writes: after how many it comes, and where pages tear, how the next is torn (`cutOf`)
   commit : ℕ → ℕ → Event
   -- with a report to the parent, or without
   abort : ℕ → Bool → Event
   crash : Event
-  -- with such a count
+  -- with such a place
   recover : ℕ → Event
-  -- with such a count, for the decision on this identity
+  -- with such a place, for the decision on this identity
   prepare : ℕ → ℕ → ℕ → Event
-  -- the decision, commit (true) or abort, with such a count, on this identity
+  -- the decision, commit (true) or abort, with such a place, on this identity
   decide : Bool → ℕ → ℕ → Event
   -- whether this identity is prepared
   query : ℕ → Event
@@ -67,7 +67,8 @@ fields g w =
       spare = field 0 (g .spareBits) w;
     }
 
--- The fields that a kind of event uses, after its name; no other kind is known, and 9 to 11 only where transactions can be prepared.
+-- The fields that a kind of event uses, after its name; no other kind is known, and 9 to 11 only where transactions can be prepared. Where pages tear "a cut
+-- commit or recover gains value 1, 2 or 3 for the next write" (L5).
 pub record Uses : Type 0 where
   pub known : Bool
   pub transaction : Bool
@@ -89,10 +90,10 @@ uses g =
     row true true true false false true ∷  -- 2 lock
     row true true true true false true ∷  -- 3 write
     row true true true true false false ∷  -- 4 read
-    row true true false false true false ∷  -- 5 commit
+    row true true false false true (g .tears) ∷  -- 5 commit
     row true true false false false true ∷  -- 6 abort
     row true false false false false false ∷  -- 7 crash
-    row true false false false true false ∷  -- 8 recover
+    row true false false false true (g .tears) ∷  -- 8 recover
     row (g .joint) true false false true true ∷  -- 9 prepare
     row (g .joint) false false true true true ∷  -- 10 decide
     row (g .joint) false false false false true ∷  -- 11 query
@@ -101,25 +102,25 @@ uses g =
 unfoldable pub usesOf : Geometry → ℕ → Uses
 usesOf g kind = getD (uses g) kind noKind
 
--- the greatest value that a kind of event takes
-unfoldable pub limits : List ℕ
-limits =
+-- the greatest value that a kind of event takes: where pages tear, of a commit or a recover "value 0 is between writes, above 3 is refusal 1" (L5)
+unfoldable pub limits : Geometry → List ℕ
+limits g =
     0 ∷  -- 0
     0 ∷  -- 1 begin
     1 ∷  -- 2 lock
     255 ∷  -- 3 write
     0 ∷  -- 4 read
-    0 ∷  -- 5 commit
+    wayLimit (g .tears) ∷  -- 5 commit
     1 ∷  -- 6 abort
     0 ∷  -- 7 crash
-    0 ∷  -- 8 recover
+    wayLimit (g .tears) ∷  -- 8 recover
     255 ∷  -- 9 prepare
     255 ∷  -- 10 decide
     255 ∷  -- 11 query
     []
 
-unfoldable pub limitOf : ℕ → ℕ
-limitOf kind = getD limits kind 0
+unfoldable pub limitOf : Geometry → ℕ → ℕ
+limitOf g kind = getD (limits g) kind 0
 
 -- the greatest offset that a kind of event takes: a decide says 1 for commit, 0 for abort
 unfoldable pub offsetLimits : List ℕ
@@ -139,7 +140,7 @@ wellFormed g f =
     (u .count || same (f .count) 0) &&
     (u .value || same (f .value) 0) &&
     same (f .spare) 0 &&
-    under (f .value) (suc (limitOf (f .kind))) &&
+    under (f .value) (suc (limitOf g (f .kind))) &&
     under (f .offset) (suc (offsetLimitOf (f .kind)))
 
 -- the value 0 of a lock asks for it to write, 1 to read
@@ -169,27 +170,31 @@ unfoldable pub decisionOffset : Bool → ℕ
 decisionOffset false = 0
 decisionOffset true = 1
 
--- the event of a kind, with its fields
-unfoldable pub eventOf : Fields → Option Event
-eventOf f =
+-- the event of a kind, with its fields and the place k of a crash
+unfoldable pub eventAt : Fields → ℕ → Option Event
+eventAt f k =
     getD (
     none ∷
     some (begin (f .transaction)) ∷
     some (lock (f .transaction) (f .rec) (accessOf (f .value))) ∷
     some (write (f .transaction) (f .rec) (f .offset) (f .value)) ∷
     some (read (f .transaction) (f .rec) (f .offset)) ∷
-    some (commit (f .transaction) (f .count)) ∷
+    some (commit (f .transaction) k) ∷
     some (abort (f .transaction) (reportOf (f .value))) ∷
     some crash ∷
-    some (recover (f .count)) ∷
+    some (recover k) ∷
     some (prepare (f .transaction) (f .count) (f .value)) ∷
     some (decide (decisionOf (f .offset)) (f .count) (f .value)) ∷
     some (query (f .value)) ∷
     []) (f .kind) none
 
+-- where pages tear, that place is told by count and value
+unfoldable pub eventOf : Geometry → Fields → Option Event
+eventOf g f = eventAt f (cutOf (g .tears) (f .count) (f .value))
+
 -- the event that a word stands for; a bad event is none
 unfoldable pub decode : Geometry → ℕ → Option Event
-decode g w = let f = fields g w in cond (wellFormed g f) (eventOf f) none
+decode g w = let f = fields g w in cond (wellFormed g f) (eventOf g f) none
 
 unfoldable pub word : Geometry → ℕ → ℕ → ℕ → ℕ → ℕ → ℕ → ℕ
 word g kind transaction rec offset count value =
@@ -200,10 +205,10 @@ encode g (begin t) = word g 1 t 0 0 0 0
 encode g (lock t r a) = word g 2 t r 0 0 (accessValue a)
 encode g (write t r o v) = word g 3 t r o 0 v
 encode g (read t r o) = word g 4 t r o 0 0
-encode g (commit t k) = word g 5 t 0 0 k 0
+encode g (commit t k) = word g 5 t 0 0 (cutCount (g .tears) k) (cutWay (g .tears) k)
 encode g (abort t w) = word g 6 t 0 0 0 (reportValue w)
 encode g crash = word g 7 0 0 0 0 0
-encode g (recover k) = word g 8 0 0 0 k 0
+encode g (recover k) = word g 8 0 0 0 (cutCount (g .tears) k) (cutWay (g .tears) k)
 encode g (prepare t k i) = word g 9 t 0 0 k i
 encode g (decide d k i) = word g 10 0 0 (decisionOffset d) k i
 encode g (query i) = word g 11 0 0 0 0 i
@@ -214,15 +219,15 @@ fits g (begin t) = under t 32
 fits g (lock t r a) = under t 32 && under r (records g)
 fits g (write t r o v) = under t 32 && under r (records g) && under o pageSize && under v 256
 fits g (read t r o) = under t 32 && under r (records g) && under o pageSize
-fits g (commit t k) = under t 32 && under k (2 ^ g .cutBits)
+fits g (commit t k) = under t 32 && under (cutCount (g .tears) k) (2 ^ g .cutBits)
 fits g (abort t w) = under t 32
 fits g crash = true
-fits g (recover k) = under k (2 ^ g .cutBits)
+fits g (recover k) = under (cutCount (g .tears) k) (2 ^ g .cutBits)
 fits g (prepare t k i) = under t 32 && under k (2 ^ g .cutBits) && under i 256 && g .joint
 fits g (decide d k i) = under k (2 ^ g .cutBits) && under i 256 && g .joint
 fits g (query i) = under i 256 && g .joint
 
 -- opens the definitions of this module: for what is proved by computing
 unfoldable pub open-event : Unit {0}
-unfolding field fields row noKind uses usesOf limits limitOf offsetLimits offsetLimitOf wellFormed accessOf accessValue reportOf reportValue decisionOf decisionOffset eventOf decode word encode fits
+unfolding field fields row noKind uses usesOf limits limitOf offsetLimits offsetLimitOf wellFormed accessOf accessValue reportOf reportValue decisionOf decisionOffset eventAt eventOf decode word encode fits
 open-event = tt

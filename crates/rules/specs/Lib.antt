@@ -7,6 +7,7 @@ pub mod Locks
 pub mod Versions
 pub mod Commit
 pub mod Form
+pub mod Pairs
 pub mod Step
 pub mod Run
 pub mod Age

@@ -1,12 +1,13 @@
 -- What a run leaves that is refused or played; demand 3 of it, and that it can be played one transaction at a time.
 use mathlib.Core.Path.{_≡_, refl, sym, ap, _∙_}
+use mathlib.Core.Bool.{Bool}
 use mathlib.Core.List.{List, _++_}
 use mathlib.Core.Logic.{_≢_}
 use mathlib.Core.Option.{Option, none, some}
 use Prim.Native.Nat.{ℕ, _*_}
 use lib.ListN.{length, drop}
 use Rattle.rules.specs.Geometry.{Geometry, records, wordSize}
-use Rattle.rules.specs.Form.{Form, atomic}
+use Rattle.rules.specs.Form.{Form}
 use Rattle.rules.specs.Step.{firstOf, StateOf}
 use Rattle.rules.specs.State.{down}
 use Rattle.rules.specs.Run.{runRefusals, runAll, runBy, run, eventsIn, words, play, answerBytes}
@@ -15,41 +16,41 @@ use Rattle.history.specs.Demand3.{Demand-3, Demand-3-holds, Plays}
 use Rattle.serial.specs.OneAtATime.{One-run-at-a-time, One-run-at-a-time-holds}
 use Rattle.state.specs.Whole.{Arrays, view}
 use Rattle.state.specs.Portion.{played, Portion}
-use Rattle.lengths.specs.Lengths.{lengthsRefused, refusalNumber}
+use Rattle.lengths.specs.Lengths.{formIn, lengthsRefused, refusalNumber}
 use Rattle.lengths.proofs.Lengths.{by-lengths, lengths-of}
 use Rattle.running.specs.Running.{Ran}
 
--- a geometry in the numbers that the code gets: so many records, so many bytes a word
-module _ (n s : ℕ) (g : Geometry) (many : records g ≡ n) (wide : wordSize g ≡ s) (deep : g .depthLimit ≡ depths) where
+-- a form in the numbers that the code gets: whether pages tear, so many records, so many bytes a word
+module _ (tears : Bool) (n s : ℕ) (g : Geometry) (many : records g ≡ n) (wide : wordSize g ≡ s) (deep : g .depthLimit ≡ depths) where
   -- a refused run
-  pub run-refused : (store events work answers : List ℕ) (a : ℕ) → a ≡ refusalNumber (lengthsRefused n s (length store) (length events) (length work) (length answers)) → a ≢ 0
-      → Ran (atomic g) store events work answers a store work answers
+  pub run-refused : (store events work answers : List ℕ) (a : ℕ) → a ≡ refusalNumber (lengthsRefused tears n s (length store) (length events) (length work) (length answers)) → a ≢ 0
+      → Ran (formIn tears g) store events work answers a store work answers
   unfolding run runBy refusalNumber
   run-refused store events work answers a e h =
-      go (lengthsRefused n s (length store) (length events) (length work) (length answers)) (by-lengths n s g many wide deep store events work answers) e
+      go (lengthsRefused tears n s (length store) (length events) (length work) (length answers)) (by-lengths tears n s g many wide deep store events work answers) e
     where
-      go : (o : Option ℕ) → firstOf (runRefusals (atomic g) store events work answers) ≡ o → a ≡ refusalNumber o → Ran (atomic g) store events work answers a store work answers
+      go : (o : Option ℕ) → firstOf (runRefusals (formIn tears g) store events work answers) ≡ o → a ≡ refusalNumber o → Ran (formIn tears g) store events work answers a store work answers
       go none q z = absurd (h z)
       go (some m) q z = record {
-        answered = z ∙ sym (ap (λ (o : Option ℕ). runBy (atomic g) store events answers o .answer) q);
-        stored = ap (λ (o : Option ℕ). runBy (atomic g) store events answers o .store) (sym q);
-        told = ap (λ (o : Option ℕ). runBy (atomic g) store events answers o .answers) (sym q);
+        answered = z ∙ sym (ap (λ (o : Option ℕ). runBy (formIn tears g) store events answers o .answer) q);
+        stored = ap (λ (o : Option ℕ). runBy (formIn tears g) store events answers o .store) (sym q);
+        told = ap (λ (o : Option ℕ). runBy (formIn tears g) store events answers o .answers) (sym q);
         untouched = λ k. refl;
         long = refl;
       }
 
   -- a run that is played
   pub run-played : (store events work answers store′ work′ answers′ : List ℕ)
-      → refusalNumber (lengthsRefused n s (length store) (length events) (length work) (length answers)) ≡ 0
-      → (store′ ≡ runAll (atomic g) store events answers .store) × (answers′ ≡ runAll (atomic g) store events answers .answers) → length work′ ≡ length work
-      → Ran (atomic g) store events work answers 0 store′ work′ answers′
+      → refusalNumber (lengthsRefused tears n s (length store) (length events) (length work) (length answers)) ≡ 0
+      → (store′ ≡ runAll (formIn tears g) store events answers .store) × (answers′ ≡ runAll (formIn tears g) store events answers .answers) → length work′ ≡ length work
+      → Ran (formIn tears g) store events work answers 0 store′ work′ answers′
   unfolding run runBy runAll
   run-played store events work answers store′ work′ answers′ z p l =
-      let o = by-lengths n s g many wide deep store events work answers ∙ lengths-of n s _ _ _ _ z .none-is in
+      let o = by-lengths tears n s g many wide deep store events work answers ∙ lengths-of tears n s _ _ _ _ z .none-is in
       record {
-        answered = ap (λ (x : Option ℕ). runBy (atomic g) store events answers x .answer) (sym o);
-        stored = p .0 ∙ ap (λ (x : Option ℕ). runBy (atomic g) store events answers x .store) (sym o);
-        told = p .1 ∙ ap (λ (x : Option ℕ). runBy (atomic g) store events answers x .answers) (sym o);
+        answered = ap (λ (x : Option ℕ). runBy (formIn tears g) store events answers x .answer) (sym o);
+        stored = p .0 ∙ ap (λ (x : Option ℕ). runBy (formIn tears g) store events answers x .store) (sym o);
+        told = p .1 ∙ ap (λ (x : Option ℕ). runBy (formIn tears g) store events answers x .answers) (sym o);
         untouched = λ k. absurd (k refl);
         long = l;
       }

@@ -4,7 +4,7 @@ use Rattle.rules.specs.Editions.{geometry1}
 use borrow.Author.Needs.{needs}
 use mathlib.Core.Logic.{inl}
 use mathlib.Core.Path.{_∙_, refl}
-use mathlib.Core.Bool.{true}
+use mathlib.Core.Bool.{true, false}
 use mathlib.Core.List.{[]}
 use native.Mathlib.Omega.{arith}
 use Rattle.laws.specs.Tests.{same}
@@ -13,12 +13,11 @@ use Rattle.rules.specs.Editions.{edition1}
 use Rattle.history.specs.Demand3.{settledIn}
 use Rattle.audit.specs.Plain.{changesBy}
 use Rattle.bearers.specs.Tables.{tables, ledgerOf}
-use Rattle.commit.proofs.Phases.{within}
-use Rattle.commit.proofs.Plans.{commit-none}
+use Rattle.counted.proofs.Phases.{within, phase-page}
+use Rattle.commit.proofs.Plans.{commit-none, by-commit}
 use Rattle.auditpages.specs.Changed.{changedPage}
 use Rattle.auditpages.proofs.Ledgers.{linked}
 use Rattle.auditpages.proofs.Halves.{halves-leave}
-use Rattle.auditpages.proofs.Marks.{marked}
 use Rattle.auditpages.proofs.Versions.{ones-are, versions-are, small-map}
 use Rattle.auditpages.proofs.commit_writes.Statement.{statement}
 use Rattle.auditpages.proofs.commit_writes.Tie as tie
@@ -30,7 +29,7 @@ ones-requires : tie.Need-ones-requires
 ones-requires c κs = search needs
 
 returns : tie.Need-returns
-returns c = λ bearer begun t bears. let a = c .before .before .before .before .before .before .args in let l = ledgerOf (tables (a .owner .now) (a .parent .now) (a .fate .now) bearer begun true) (a .events .now) (a .n) in let K = linked (a .owner .now) (a .parent .now) (a .fate .now) bearer (a .events .now) begun (a .n) true in let m = c .before .before .changed-map .ensures .0 l K in let map = c .before .before .changed-map .result in let are = versions-are (a .start .now) (a .owner .now) (a .parent .now) (a .fate .now) bearer (a .events .now) begun (a .n) t (a .me) map bears m in let v = changesBy edition1 (settledIn edition1 (a .start .now)) (l .story) t in let new = changedPage l (a .start .now) (a .owner .now) (a .events .now) (a .n) (a .me) in let small = c .before .before .changed-map .ensures .1 in let ones = c .before .ones .ensures .0 geometry1 (small-map map small) ∙ ones-are (a .start .now) (a .owner .now) (a .parent .now) (a .fate .now) bearer (a .events .now) begun (a .n) t (a .me) map bears m in (commit-none geometry1 16 (layout1 .many) map v new are (pagesOf (a .store .now)) (a .k) (c .if1 .taken), ones)
+returns c = λ bearer begun t bears. let a = c .before .before .before .before .before .before .args in let l = ledgerOf (tables (a .owner .now) (a .parent .now) (a .fate .now) bearer begun true) (a .events .now) (a .n) in let K = linked (a .owner .now) (a .parent .now) (a .fate .now) bearer (a .events .now) begun (a .n) true in let m = c .before .before .changed-map .ensures .0 l K in let map = c .before .before .changed-map .result in let are = versions-are (a .start .now) (a .owner .now) (a .parent .now) (a .fate .now) bearer (a .events .now) begun (a .n) t (a .me) map bears m in let v = changesBy edition1 (settledIn edition1 (a .start .now)) (l .story) t in let new = changedPage l (a .start .now) (a .owner .now) (a .events .now) (a .n) (a .me) in let small = c .before .before .changed-map .ensures .1 in let ones = c .before .ones .ensures .0 geometry1 (small-map map small) ∙ ones-are (a .start .now) (a .owner .now) (a .parent .now) (a .fate .now) bearer (a .events .now) begun (a .n) t (a .me) map bears m in (by-commit false geometry1 (a .store .now) (a .store .now) v (a .k) 0 _ (commit-none geometry1 16 (layout1 .many) map v new are false (pagesOf (a .store .now)) (a .k) (c .if1 .taken)), ones)
 
 write-intentions-requires : tie.Need-write-intentions-requires
 write-intentions-requires c κs = let p = c .before .before .before .before .before .before .before .pre in (p .0, p .1, p .2, p .3, p .4, p .5, p .6, p .7, c .before .before .before .changed-map .ensures .1)
@@ -52,7 +51,7 @@ same-length c = search needs depth 9
 
 returns-2 : tie.Need-returns-2
 unfolding same
-returns-2 c = λ bearer begun t bears. let a = c .before .before .before .before .before .before .before .before .before .before .before .before .before .before .before .before .before .before .before .args in let l = ledgerOf (tables (a .owner .now) (a .parent .now) (a .fate .now) bearer begun true) (a .events .now) (a .n) in let K = linked (a .owner .now) (a .parent .now) (a .fate .now) bearer (a .events .now) begun (a .n) true in let m = c .before .before .before .before .before .before .before .before .before .before .before .before .before .before .before .changed-map .ensures .0 l K in let map = c .before .before .before .before .before .before .before .before .before .before .before .before .before .before .before .changed-map .result in let are = versions-are (a .start .now) (a .owner .now) (a .parent .now) (a .fate .now) bearer (a .events .now) begun (a .n) t (a .me) map bears m in let v = changesBy edition1 (settledIn edition1 (a .start .now)) (l .story) t in let new = changedPage l (a .start .now) (a .owner .now) (a .events .now) (a .n) (a .me) in let small = c .before .before .before .before .before .before .before .before .before .before .before .before .before .before .before .changed-map .ensures .1 in let ones = c .before .before .before .before .before .before .before .before .before .before .before .before .before .before .ones .ensures .0 geometry1 (small-map map small) ∙ ones-are (a .start .now) (a .owner .now) (a .parent .now) (a .fate .now) bearer (a .events .now) begun (a .n) t (a .me) map bears m in (halves-leave map v new are small (c .before .before .before .before .before .before .before .before .before .before .before .before .before .if1 .left) (c .before .before .before .before .before .before .before .before .before .before .before .write-intentions .ensures l K) (c .before .before .before .before .before .before .before .write-records .ensures l K) (marked (c .before .before .before .commit-page .ensures geometry1 layout1) (c .before .before .write-one .ensures)), ones)
+returns-2 c = λ bearer begun t bears. let a = c .before .before .before .before .before .before .before .before .before .before .before .before .before .before .before .before .before .before .before .args in let l = ledgerOf (tables (a .owner .now) (a .parent .now) (a .fate .now) bearer begun true) (a .events .now) (a .n) in let K = linked (a .owner .now) (a .parent .now) (a .fate .now) bearer (a .events .now) begun (a .n) true in let m = c .before .before .before .before .before .before .before .before .before .before .before .before .before .before .before .changed-map .ensures .0 l K in let map = c .before .before .before .before .before .before .before .before .before .before .before .before .before .before .before .changed-map .result in let are = versions-are (a .start .now) (a .owner .now) (a .parent .now) (a .fate .now) bearer (a .events .now) begun (a .n) t (a .me) map bears m in let v = changesBy edition1 (settledIn edition1 (a .start .now)) (l .story) t in let new = changedPage l (a .start .now) (a .owner .now) (a .events .now) (a .n) (a .me) in let small = c .before .before .before .before .before .before .before .before .before .before .before .before .before .before .before .changed-map .ensures .1 in let ones = c .before .before .before .before .before .before .before .before .before .before .before .before .before .before .ones .ensures .0 geometry1 (small-map map small) ∙ ones-are (a .start .now) (a .owner .now) (a .parent .now) (a .fate .now) bearer (a .events .now) begun (a .n) t (a .me) map bears m in (halves-leave map v new are small (c .before .before .before .before .before .before .before .before .before .before .before .before .before .if1 .left) (c .before .before .before .before .before .before .before .before .before .before .before .write-intentions .ensures l K) (c .before .before .before .before .before .before .before .write-records .ensures l K) (phase-page (c .before .before .before .commit-page .ensures geometry1 layout1) (c .before .before .write-one .ensures)), ones)
 
 pub commit-writes-spec : {M : Type 1} → statement M
 commit-writes-spec =

@@ -5,7 +5,7 @@ use native.Mathlib.Omega.{arith}
 use Rattle.laws.specs.Functions.{updated}
 use Rattle.rules.specs.Store.{Page, pagesOf, named}
 use Rattle.rules.specs.Editions.{geometry1}
-use Rattle.commit.proofs.Sweeps.{row-made, row-not, some-left}
+use Rattle.auditpages.proofs.Rows.{row-written, row-left, some-left}
 use Rattle.commitpage.proofs.Places.{layout1}
 use borrow.Author.Needs.{needs}
 use Rattle.auditpages.proofs.recover_record.Statement.{statement}
@@ -33,10 +33,10 @@ same-length : tie.Need-same-length
 same-length c = search needs
 
 returns : tie.Need-returns
-returns c = let a = c .before .before .before .before .before .before .before .before .before .args in row-made (named geometry1 (a .map)) 17 (λ j. pagesOf (a .store .now) (1 + j)) (a .r) (a .left) _ (sym (c .before .before .before .before .before .before .before .names .ensures geometry1 (layout1 .many))) (c .before .before .before .before .before .before .if1 .taken) (c .before .before .put-page .ensures ∙ ap (λ (p : Page). updated (17 + a .r) p (pagesOf (a .store .now))) (c .before .before .before .before .get-page .ensures))
+returns c = let a = c .before .before .before .before .before .before .before .before .before .args in row-written (named geometry1 (a .map)) 17 (λ j. pagesOf (a .store .now) (1 + j)) (a .r) (a .left) _ (sym (c .before .before .before .before .before .before .before .names .ensures geometry1 (layout1 .many))) (c .before .before .before .before .before .before .if1 .taken) (c .before .before .put-page .ensures ∙ ap (λ (p : Page). updated (17 + a .r) p (pagesOf (a .store .now))) (c .before .before .before .before .get-page .ensures))
 
 returns-2 : tie.Need-returns-2
-returns-2 c = let a = c .before .before .before .args in row-not (named geometry1 (a .map)) 17 (λ j. pagesOf (a .store .now) (1 + j)) (a .r) (a .left) _ (sym (c .before .names .ensures geometry1 (layout1 .many))) (c .if1 .left)
+returns-2 c = let a = c .before .before .before .args in row-left (named geometry1 (a .map)) 17 (λ j. pagesOf (a .store .now) (1 + j)) (a .r) (a .left) _ (sym (c .before .names .ensures geometry1 (layout1 .many))) (c .if1 .left)
 
 pub recover-record-spec : {M : Type 1} → statement M
 recover-record-spec =

@@ -1,5 +1,6 @@
 -- `recover_writes` has the two phases of a recovery; over an empty commit page it writes nothing. The loop's invariant: the page writes of the records
 -- below r are made as far as the count allows, and the pages up to the last intention page are as they were.
+use mathlib.Core.Bool.{false}
 use Rattle.commitpage.proofs.Places.{layout1}
 use borrow.Author.Needs.{needs}
 use mathlib.Core.Logic.{inl}
@@ -11,23 +12,23 @@ use Rattle.laws.specs.Tests.{same}
 use Rattle.laws.specs.Counting.{those}
 use Rattle.rules.specs.Store.{pagesOf, named}
 use Rattle.rules.specs.Editions.{geometry1}
-use Rattle.commit.specs.Phase.{Phase, sweep, copies}
-use Rattle.commit.proofs.Phases.{phase-none}
+use Rattle.counted.specs.Phase.{Phase}
+use Rattle.commit.specs.Phase.{sweep, copies}
+use Rattle.counted.proofs.Phases.{phase-none, as-spent, phase-page}
 use Rattle.commit.proofs.Sweeps.{Kept, kept-none, kept-then, kept-row, home-more}
-use Rattle.commit.proofs.Plans.{recover-none, recover-leaves}
-use Rattle.auditpages.proofs.Marks.{marked}
+use Rattle.commit.proofs.Plans.{recover-none, recover-leaves, by-recovery}
 use Rattle.auditpages.proofs.recover_writes.Statement.{statement}
 use Rattle.auditpages.proofs.recover_writes.Tie as tie
 
 abbrev Inv-loop : tie.InvT-loop
 Inv-loop store₀ map k rest₀ r₀ store rest r =
-    (r ≤ 16) × (length store ≡ 1056) × Kept 17 (pagesOf store₀) (pagesOf store) × Phase k (sweep (named geometry1 map) (copies 17 (λ j. pagesOf store₀ (1 + j))) r) (pagesOf store₀) (pagesOf store) rest
+    (r ≤ 16) × (length store ≡ 1056) × Kept false 17 (pagesOf store₀) (pagesOf store) × Phase false k (sweep (named geometry1 map) (copies 17 (λ j. pagesOf store₀ (1 + j))) r) (pagesOf store₀) (pagesOf store) rest
 
 abbrev μ-loop : tie.MeasureT-loop
 μ-loop store₀ map k rest₀ r₀ store rest r = 16 - r
 
 returns : tie.Need-returns Inv-loop μ-loop
-returns c = let a = c .before .before .args in recover-none geometry1 16 (layout1 .many) (a .map) (a .k) (pagesOf (a .store .now)) (c .before .before .pre .1) (c .if1 .taken)
+returns c = let a = c .before .before .args in by-recovery false geometry1 (a .store .now) (a .store .now) (a .k) 0 _ (recover-none geometry1 16 (layout1 .many) false (a .map) (a .k) (pagesOf (a .store .now)) (c .before .before .pre .1) refl (c .if1 .taken))
 
 loop-holds : tie.Need-loop-holds Inv-loop μ-loop
 unfolding sweep those
@@ -59,7 +60,7 @@ same-length c = search needs
 
 returns-2 : tie.Need-returns-2 Inv-loop μ-loop
 unfolding same
-returns-2 c = let a = c .before .before .before .before .before .before .before .before .before .args in let e : c .before .before .before .before .before .before .loop .r ≡ 16 = omega arith in recover-leaves geometry1 16 (layout1 .many) (a .map) (a .k) (pagesOf (a .store .now)) (c .before .before .before .before .before .before .before .before .before .pre .1) (c .before .before .before .before .before .before .before .if1 .left) (rw e at (c .before .before .before .before .before .before .loop .inv .3)) (marked (c .before .before .before .commit-page .ensures geometry1 layout1) (c .before .before .write-one .ensures))
+returns-2 c = let a = c .before .before .before .before .before .before .before .before .before .args in let e : c .before .before .before .before .before .before .loop .r ≡ 16 = omega arith in by-recovery false geometry1 (a .store .now) (c .before .before .write-one .last .0) (a .k) _ _ (as-spent (c .before .before .before .before .before .before .loop .rest) (recover-leaves geometry1 16 (layout1 .many) false (a .map) (a .k) (pagesOf (a .store .now)) (c .before .before .before .before .before .before .before .before .before .pre .1) refl (c .before .before .before .before .before .before .before .if1 .left) (rw e at (c .before .before .before .before .before .before .loop .inv .3)) (phase-page (c .before .before .before .commit-page .ensures geometry1 layout1) (c .before .before .write-one .ensures))))
 
 pub recover-writes-spec : {M : Type 1} → statement M
 recover-writes-spec =

@@ -4,8 +4,7 @@ use mathlib.Core.Path.{refl}
 use Rattle.commitpage.proofs.Places.{layout1}
 use Rattle.rules.specs.Editions.{geometry1}
 use borrow.Author.Needs.{needs}
-use Rattle.commit.proofs.Phases.{phase-then}
-use Rattle.auditpages.proofs.Marks.{marked}
+use Rattle.counted.proofs.Phases.{phase-then, phase-page}
 use Rattle.auditpages.proofs.write_intentions.Statement.{statement}
 use Rattle.auditpages.proofs.write_intentions.Tie as tie
 
@@ -22,7 +21,7 @@ same-length : tie.Need-same-length
 same-length c = search needs
 
 returns : tie.Need-returns
-returns c = λ l K. phase-then (c .before .before .before .before .before .before .before .write-records .ensures l K) (marked (c .before .before .before .commit-page .ensures geometry1 layout1) (c .before .before .write-one .ensures))
+returns c = λ l K. phase-then (c .before .before .before .before .before .before .before .write-records .ensures l K) (phase-page (c .before .before .before .commit-page .ensures geometry1 layout1) (c .before .before .write-one .ensures))
 
 pub write-intentions-spec : {M : Type 1} → statement M
 write-intentions-spec = tie.close (tie.spec write-records-requires commit-page-requires write-one-requires same-length returns)

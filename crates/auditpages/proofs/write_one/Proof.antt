@@ -1,6 +1,6 @@
 -- `write_one` is one page write: made where something is left of the count, else the count is spent.
 use native.Mathlib.Omega.{arith}
-use Rattle.commit.proofs.Phases.{phase-one, phase-spent}
+use Rattle.counted.proofs.Phases.{phase-one, phase-spent}
 use borrow.Author.Needs.{needs}
 use Rattle.auditpages.proofs.write_one.Statement.{statement}
 use Rattle.auditpages.proofs.write_one.Tie as tie

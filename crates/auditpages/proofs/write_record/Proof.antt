@@ -5,7 +5,7 @@ use native.Mathlib.Omega.{arith}
 use Rattle.laws.specs.Functions.{updated}
 use Rattle.rules.specs.Store.{Page, pagesOf, named}
 use Rattle.rules.specs.Editions.{geometry1}
-use Rattle.commit.proofs.Sweeps.{row-made, row-not, some-left}
+use Rattle.auditpages.proofs.Rows.{row-written, row-left, some-left}
 use Rattle.history.specs.History.{overlaid}
 use Rattle.scans.specs.Scans.{writesUpTo, showsTo}
 use Rattle.auditpages.specs.Changed.{changedPage}
@@ -37,10 +37,10 @@ same-length c = search needs
 
 returns : tie.Need-returns
 unfolding changedPage
-returns c = λ l K. let a = c .before .before .before .before .before .before .before .before .before .before .before .args in row-made (named geometry1 (a .map)) (a .first) (changedPage l (a .start .now) (a .owner .now) (a .events .now) (a .n) (a .me)) (a .r) (a .left) _ (sym (c .before .before .before .before .before .before .before .names .ensures geometry1 (layout1 .many))) (c .before .before .before .before .before .before .if1 .taken) (c .before .before .put-page .ensures ∙ ap (λ (p : Page). updated (a .first + a .r) p (pagesOf (a .store .now))) (c .before .before .before .before .page-of .ensures l K ∙ ap (overlaid (showsTo l (a .me)) (a .r) (writesUpTo (a .owner .now) (a .events .now) (a .n))) (c .before .before .before .before .before .settled-page .ensures)))
+returns c = λ l K. let a = c .before .before .before .before .before .before .before .before .before .before .before .args in row-written (named geometry1 (a .map)) (a .first) (changedPage l (a .start .now) (a .owner .now) (a .events .now) (a .n) (a .me)) (a .r) (a .left) _ (sym (c .before .before .before .before .before .before .before .names .ensures geometry1 (layout1 .many))) (c .before .before .before .before .before .before .if1 .taken) (c .before .before .put-page .ensures ∙ ap (λ (p : Page). updated (a .first + a .r) p (pagesOf (a .store .now))) (c .before .before .before .before .page-of .ensures l K ∙ ap (overlaid (showsTo l (a .me)) (a .r) (writesUpTo (a .owner .now) (a .events .now) (a .n))) (c .before .before .before .before .before .settled-page .ensures)))
 
 returns-2 : tie.Need-returns-2
-returns-2 c = λ l K. let a = c .before .before .before .before .before .args in row-not (named geometry1 (a .map)) (a .first) (changedPage l (a .start .now) (a .owner .now) (a .events .now) (a .n) (a .me)) (a .r) (a .left) _ (sym (c .before .names .ensures geometry1 (layout1 .many))) (c .if1 .left)
+returns-2 c = λ l K. let a = c .before .before .before .before .before .args in row-left (named geometry1 (a .map)) (a .first) (changedPage l (a .start .now) (a .owner .now) (a .events .now) (a .n) (a .me)) (a .r) (a .left) _ (sym (c .before .names .ensures geometry1 (layout1 .many))) (c .if1 .left)
 
 pub write-record-spec : {M : Type 1} → statement M
 write-record-spec =

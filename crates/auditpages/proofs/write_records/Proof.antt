@@ -1,4 +1,5 @@
 -- `write_records` sweeps over the sixteen records. The loop's invariant: the page writes of the records below r are made as far as the count allows.
+use mathlib.Core.Bool.{false}
 use borrow.Author.Needs.{needs}
 use mathlib.Core.Path.{_≡_}
 use Prim.Native.Nat.{_-_, _≤_}
@@ -9,8 +10,9 @@ use Rattle.rules.specs.Store.{pagesOf, named}
 use Rattle.rules.specs.Editions.{geometry1}
 use Rattle.audit.specs.Plain.{Ledger}
 use Rattle.links.specs.Links.{Linked}
-use Rattle.commit.specs.Phase.{Phase, sweep, copies}
-use Rattle.commit.proofs.Phases.{phase-none}
+use Rattle.counted.specs.Phase.{Phase}
+use Rattle.commit.specs.Phase.{sweep, copies}
+use Rattle.counted.proofs.Phases.{phase-none}
 use Rattle.commit.proofs.Sweeps.{phase-more}
 use Rattle.auditpages.specs.Changed.{changedPage}
 use Rattle.auditpages.proofs.write_records.Statement.{statement}
@@ -18,7 +20,7 @@ use Rattle.auditpages.proofs.write_records.Tie as tie
 
 abbrev Inv-loop : tie.InvT-loop
 Inv-loop store₀ start table events owner parent fate n me map first left rest₀ r₀ store rest r =
-    (r ≤ 16) × (length store ≡ 1056) × ((l : Ledger) → Linked l parent fate → Phase left (sweep (named geometry1 map) (copies first (changedPage l start owner events n me)) r) (pagesOf store₀) (pagesOf store) rest)
+    (r ≤ 16) × (length store ≡ 1056) × ((l : Ledger) → Linked l parent fate → Phase false left (sweep (named geometry1 map) (copies first (changedPage l start owner events n me)) r) (pagesOf store₀) (pagesOf store) rest)
 
 abbrev μ-loop : tie.MeasureT-loop
 μ-loop store₀ start table events owner parent fate n me map first left rest₀ r₀ store rest r = 16 - r

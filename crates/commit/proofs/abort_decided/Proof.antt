@@ -1,8 +1,8 @@
 -- `abort_decided` is one page write.
+use borrow.Author.Needs.{needs}
 use lib.Pow.{pow-pos}
 use Rattle.laws.specs.Tests.{same}
 use Rattle.commit.proofs.Prepares.{struck-leaves}
-use borrow.Author.Needs.{needs}
 use Rattle.commit.proofs.abort_decided.Statement.{statement}
 use Rattle.commit.proofs.abort_decided.Tie as tie
 
@@ -20,10 +20,4 @@ unfolding same
 returns c = λ g L. struck-leaves g (c .before .before .mark .ensures .0 g L)
 
 pub abort-decided-spec : {M : Type 1} → statement M
-abort-decided-spec =
-    tie.close
-    (tie.spec
-    mark-requires
-    sub-t7
-    same-length
-    returns)
+abort-decided-spec = tie.close (tie.spec mark-requires sub-t7 same-length returns)

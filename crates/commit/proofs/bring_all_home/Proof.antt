@@ -7,21 +7,23 @@ use native.Mathlib.Omega.{arith}
 use lib.ListN.{length}
 use Rattle.laws.specs.Counting.{those}
 use Rattle.rules.specs.Geometry.{Geometry, records}
-use Rattle.rules.specs.Store.{pagesOf, named}
-use Rattle.commit.specs.Phase.{Phase, sweep, copies}
-use Rattle.commit.proofs.Phases.{phase-none}
+use Rattle.rules.specs.Store.{named}
+use Rattle.counted.specs.Phase.{Phase, storeOf, strideOf, shownIn}
+use Rattle.commit.specs.Phase.{sweep, copies}
+use Rattle.counted.proofs.Phases.{phase-none}
 use Rattle.commit.proofs.Sweeps.{Kept, kept-none, kept-then, kept-row, home-more}
 use Rattle.commit.proofs.bring_all_home.Statement.{statement}
 use Rattle.commit.proofs.bring_all_home.Tie as tie
 
 abbrev Inv-loop : tie.InvT-loop
-Inv-loop store₀ map n left rest₀ r₀ end store rest r =
-    (r ≤ n) × (length store ≡ 32 * (1 + (n + n))) × (rest ≤ left)
+Inv-loop store₀ map n tears left rest₀ r₀ end store rest r =
+    (r ≤ n) × (length store ≡ strideOf tears * (1 + (n + n))) × (rest ≤ left)
     × ((g : Geometry) → records g ≡ n
-    → Kept (1 + n) (pagesOf store₀) (pagesOf store) × Phase left (sweep (named g map) (copies (1 + n) (λ j. pagesOf store₀ (1 + j))) r) (pagesOf store₀) (pagesOf store) rest)
+    → Kept tears (1 + n) (storeOf tears store₀) (storeOf tears store)
+    × Phase tears left (sweep (named g map) (copies (1 + n) (λ j. shownIn tears (storeOf tears store₀) (1 + j))) r) (storeOf tears store₀) (storeOf tears store) rest)
 
 abbrev μ-loop : tie.MeasureT-loop
-μ-loop store₀ map n left rest₀ r₀ end store rest r = n - r
+μ-loop store₀ map n tears left rest₀ r₀ end store rest r = n - r
 
 cast-r-end : tie.Need-cast-r-end Inv-loop μ-loop
 cast-r-end c = search needs
@@ -47,7 +49,7 @@ loop-again c =
       search needs,
       omega arith,
       λ g m. (
-        kept-then (at .inv .3 g m .0) (kept-row (1 + a .n) (λ j. pagesOf (at .store) (1 + j)) (at .r) (at .rest) (named g (a .map)) (c .before .before .bring-home .ensures .0 g m)),
+        kept-then (at .inv .3 g m .0) (kept-row (1 + a .n) (λ j. shownIn (a .tears) (storeOf (a .tears) (at .store)) (1 + j)) (at .r) (at .rest) (named g (a .map)) (c .before .before .bring-home .ensures .0 g m)),
         home-more (named g (a .map)) (1 + a .n) (at .r) (a .left) (omega arith) (at .inv .3 g m .1) (at .inv .3 g m .0) (c .before .before .bring-home .ensures .0 g m),
       ),
     )
@@ -60,8 +62,8 @@ returns c =
     let at = c .before .loop in
     let a = c .before .before .before .args in
     let e : at .r ≡ a .n = omega arith in
-    let s = pagesOf (a .store .now) in
-    (λ g m. subst (λ (k : ℕ). Phase (a .left) (sweep (named g (a .map)) (copies (1 + a .n) (λ j. s (1 + j))) k) s (pagesOf (at .store)) (at .rest)) e (at .inv .3 g m .1), at .inv .2)
+    let s = storeOf (a .tears) (a .store .now) in
+    (λ g m. subst (λ (k : ℕ). Phase (a .tears) (a .left) (sweep (named g (a .map)) (copies (1 + a .n) (λ j. shownIn (a .tears) s (1 + j))) k) s (storeOf (a .tears) (at .store)) (at .rest)) e (at .inv .3 g m .1), at .inv .2)
 
 pub bring-all-home-spec : {M : Type 1} → statement M
 bring-all-home-spec =

@@ -1,10 +1,13 @@
--- `bring_home` is the page write of one record's home page: made where the map names the record and something is left of the count.
+-- `bring_home` is the page write of one record's home page, where the map names the record.
 use borrow.Author.Needs.{needs}
-use mathlib.Core.Path.{sym}
+use mathlib.Core.Path.{sym, _∙_}
 use Prim.Native.Nat.{_+_}
 use native.Mathlib.Omega.{arith}
-use Rattle.rules.specs.Store.{pagesOf, named}
-use Rattle.commit.proofs.Sweeps.{row-made, row-not, some-left}
+use Rattle.rules.specs.Store.{named}
+use Rattle.counted.specs.Phase.{storeOf, shownIn}
+use Rattle.counted.proofs.Phases.{phase-page}
+use Rattle.commit.proofs.Room.{room}
+use Rattle.commit.proofs.Sweeps.{row-made, row-not}
 use Rattle.commit.proofs.bring_home.Statement.{statement}
 use Rattle.commit.proofs.bring_home.Tie as tie
 
@@ -14,40 +17,45 @@ cast-names c = search needs
 names-requires : tie.Need-names-requires
 names-requires c κs = search needs
 
-add-copy-page : tie.Need-add-copy-page
-add-copy-page c = search needs
+add-get-page : tie.Need-add-get-page
+add-get-page c = search needs
 
-add-copy-page-2 : tie.Need-add-copy-page-2
-add-copy-page-2 c = search needs
+get-page-requires : tie.Need-get-page-requires
+get-page-requires c κs =
+    let a = c .before .before .before .before .args in
+    (omega arith, room (a .n) (a .store .now) (a .tears) (1 + a .r) (omega arith) (c .before .before .before .before .pre .2))
 
-add-copy-page-3 : tie.Need-add-copy-page-3
-add-copy-page-3 c = search needs
+add-write-counted : tie.Need-add-write-counted
+add-write-counted c = search needs
 
-copy-page-requires : tie.Need-copy-page-requires
-copy-page-requires c κs = search needs
+add-write-counted-2 : tie.Need-add-write-counted-2
+add-write-counted-2 c = search needs
 
-sub-result : tie.Need-sub-result
-sub-result c =
-    let h = some-left (c .before .before .before .before .before .names .result) (c .before .before .before .before .before .before .before .args .left) (c .before .before .before .before .if1 .taken) in
-    omega arith
+write-counted-requires : tie.Need-write-counted-requires
+write-counted-requires c κs =
+    let a = c .before .before .before .before .before .before .args in
+    (omega arith, room (a .n) (a .store .now) (a .tears) (1 + a .n + a .r) (omega arith) (c .before .before .before .before .before .before .pre .2))
 
 same-length : tie.Need-same-length
 same-length c = search needs
 
 returns : tie.Need-returns
 returns c =
-    let a = c .before .before .before .before .before .before .before .args in (
+    let a = c .before .before .before .before .before .before .before .before .before .args in (
       λ g m.
-          row-made (named g (a .map)) (1 + a .n) (λ j. pagesOf (a .store .now) (1 + j)) (a .r) (a .left) _
-          (sym (c .before .before .before .before .before .names .ensures g m)) (c .before .before .before .before .if1 .taken)
-          (c .before .before .copy-page .ensures),
-      omega arith,
+          row-made (named g (a .map)) (1 + a .n) (λ j. shownIn (a .tears) (storeOf (a .tears) (a .store .now)) (1 + j)) (a .r) (a .left)
+          (sym (c .before .before .before .before .before .before .before .names .ensures g m) ∙ c .before .before .before .before .before .before .if1 .taken) (phase-page (c .before .before .before .before .get-page .ensures) (c .before .before .write-counted .ensures .0)),
+      c .before .before .write-counted .ensures .1,
     )
 
 returns-2 : tie.Need-returns-2
 returns-2 c =
-    let a = c .before .before .before .args in
-    (λ g m. row-not (named g (a .map)) (1 + a .n) (λ j. pagesOf (a .store .now) (1 + j)) (a .r) (a .left) _ (sym (c .before .names .ensures g m)) (c .if1 .left), omega arith)
+    let a = c .before .before .before .args in (
+      λ g m.
+          row-not (named g (a .map)) (1 + a .n) (λ j. shownIn (a .tears) (storeOf (a .tears) (a .store .now)) (1 + j)) (a .r) (a .left)
+          (sym (c .before .names .ensures g m) ∙ c .if1 .left),
+      omega arith,
+    )
 
 pub bring-home-spec : {M : Type 1} → statement M
 bring-home-spec =
@@ -55,11 +63,11 @@ bring-home-spec =
     (tie.spec
     cast-names
     names-requires
-    add-copy-page
-    add-copy-page-2
-    add-copy-page-3
-    copy-page-requires
-    sub-result
+    add-get-page
+    get-page-requires
+    add-write-counted
+    add-write-counted-2
+    write-counted-requires
     same-length
     returns
     returns-2)

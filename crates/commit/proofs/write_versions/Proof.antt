@@ -6,20 +6,21 @@ use native.Mathlib.Omega.{arith}
 use lib.ListN.{length}
 use Rattle.laws.specs.Counting.{those}
 use Rattle.rules.specs.Geometry.{Geometry, records}
-use Rattle.rules.specs.Store.{pagesOf, named}
-use Rattle.commit.specs.Phase.{Phase, sweep, copies, topSlot}
-use Rattle.commit.proofs.Phases.{phase-none}
+use Rattle.rules.specs.Store.{named}
+use Rattle.counted.specs.Phase.{Phase, storeOf, strideOf}
+use Rattle.commit.specs.Phase.{sweep, copies, topSlot}
+use Rattle.counted.proofs.Phases.{phase-none}
 use Rattle.commit.proofs.Sweeps.{phase-more}
 use Rattle.commit.proofs.write_versions.Statement.{statement}
 use Rattle.commit.proofs.write_versions.Tie as tie
 
 abbrev Inv-loop : tie.InvT-loop
-Inv-loop store₀ work map n first left rest₀ r₀ end store rest r =
-    (r ≤ n) × (length store ≡ 32 * (1 + (n + n))) × (rest ≤ left)
-    × ((g : Geometry) → records g ≡ n → Phase left (sweep (named g map) (copies first (topSlot work)) r) (pagesOf store₀) (pagesOf store) rest)
+Inv-loop store₀ work map n tears first left rest₀ r₀ end store rest r =
+    (r ≤ n) × (length store ≡ strideOf tears * (1 + (n + n))) × (rest ≤ left)
+    × ((g : Geometry) → records g ≡ n → Phase tears left (sweep (named g map) (copies first (topSlot work)) r) (storeOf tears store₀) (storeOf tears store) rest)
 
 abbrev μ-loop : tie.MeasureT-loop
-μ-loop store₀ work map n first left rest₀ r₀ end store rest r = n - r
+μ-loop store₀ work map n tears first left rest₀ r₀ end store rest r = n - r
 
 cast-r-end : tie.Need-cast-r-end Inv-loop μ-loop
 cast-r-end c = search needs
@@ -55,7 +56,7 @@ returns c =
     let at = c .before .loop in
     let a = c .before .before .before .before .args in
     let e : at .r ≡ a .n = omega arith in
-    (λ g m. subst (λ (k : ℕ). Phase (a .left) (sweep (named g (a .map)) (copies (a .first) (topSlot (a .work .now))) k) (pagesOf (a .store .now)) (pagesOf (at .store)) (at .rest)) e (at .inv .3 g m), at .inv .2)
+    (λ g m. subst (λ (k : ℕ). Phase (a .tears) (a .left) (sweep (named g (a .map)) (copies (a .first) (topSlot (a .work .now))) k) (storeOf (a .tears) (a .store .now)) (storeOf (a .tears) (at .store)) (at .rest)) e (at .inv .3 g m), at .inv .2)
 
 pub write-versions-spec : {M : Type 1} → statement M
 write-versions-spec =

@@ -1,4 +1,5 @@
 -- The store that is laid is the fresh one.
+use mathlib.Core.Bool.{false}
 use mathlib.Core.Path.{_≡_, refl, subst}
 use mathlib.Core.Logic.{inl}
 use mathlib.Core.List.{List}
@@ -29,7 +30,7 @@ is-state-requires c κs = search needs
 returns : tie.Need-returns
 returns c =
     let e = c .before .before .before .before .before .args .e in
-    subst (λ (s : List ℕ). Decides (c .is-state .result) (Intact edition1 (whole e (replicate workBytes 0) s) × (e .spare ≡ replicate 3 0))) (laid-all geometry1 16 (layout1 .many) (c .before .before .before .lay .ensures geometry1 layout1))
+    subst (λ (s : List ℕ). Decides (c .is-state .result) (Intact edition1 (whole e (replicate workBytes 0) s) × (e .spare ≡ replicate 3 0))) (laid-all false geometry1 16 (layout1 .many) (c .before .before .before .lay .ensures geometry1 layout1))
     (c .is-state .ensures (replicate workBytes 0) (length-replicate {A = ℕ} workBytes 0))
 
 pub is-state-aside-spec : {M : Type 1} → statement M

@@ -1,6 +1,7 @@
 -- The lengths decide, then the gate; where both pass, the engine's portion is the rules'.
 use borrow.Author.Needs.{needs}
 use native.Mathlib.Omega.{arith}
+use mathlib.Core.Bool.{false}
 use mathlib.Core.Path.{sym, _∙_}
 use Rattle.lent.specs.Portions.{kept}
 use Rattle.lengths.proofs.Lengths.{lengths-of}
@@ -26,13 +27,13 @@ returns c =
 
 -- src/lib.rt:258:8
 is-state-requires : tie.Need-is-state-requires
-is-state-requires c κs = lengths-of 16 4 _ _ _ _ (sym (c .before .before .refusal .ensures) ∙ c .before .if1 .left) .store
+is-state-requires c κs = lengths-of false 16 4 _ _ _ _ (sym (c .before .before .refusal .ensures) ∙ c .before .if1 .left) .store
 
 -- src/lib.rt:259:13
 portion-requires : tie.Need-portion-requires
 portion-requires c κs =
     let a = c .before .before .before .before .before .before .before .before .before .before .before .before .args in
-    let l = lengths-of 16 4 _ _ _ _ (sym (c .before .before .before .before .before .before .before .refusal .ensures) ∙ c .before .before .before .before .before .before .if1 .left) in
+    let l = lengths-of false 16 4 _ _ _ _ (sym (c .before .before .before .before .before .before .before .refusal .ensures) ∙ c .before .before .before .before .before .before .if1 .left) in
     (c .before .before .before .before .is-state .ensures (a .work .now) (l .work) .yes (c .before .before .before .if2 .taken) .0, l .short, l .room)
 
 -- src/lib.rt:260:9
@@ -52,7 +53,7 @@ returns-2 : tie.Need-returns-2
 returns-2 c =
     let a = c .before .before .before .before .before .before .before .before .before .before .before .before .before .before .before .before .before .before .before .args in
     let fits = sym (c .before .before .before .before .before .before .before .before .before .before .before .before .before .before .refusal .ensures) ∙ c .before .before .before .before .before .before .before .before .before .before .before .before .before .if1 .left in
-    let l = lengths-of 16 4 _ _ _ _ fits in
+    let l = lengths-of false 16 4 _ _ _ _ fits in
     state-played (kept (a .e) (a .work .now) (a .store .now)) (a .events .now) (a .answers .now) fits _ (c .before .before .before .before .before .before .before .before .before .before .before .is-state .ensures (a .work .now) (l .work)) (c .before .before .before .before .before .before .before .before .before .before .if2 .taken)
     (kept (c .before .before .before .before .before .before .portion .result) _ _) _ (c .before .before .before .before .before .before .portion .ensures .0) (c .before .before .before .before .before .before .portion .ensures .1)
 
@@ -69,7 +70,7 @@ returns-3 : tie.Need-returns-3
 returns-3 c =
     let a = c .before .before .before .before .before .before .before .before .before .before .args in
     let fits = sym (c .before .before .before .before .before .refusal .ensures) ∙ c .before .before .before .before .if1 .left in
-    let l = lengths-of 16 4 _ _ _ _ fits in
+    let l = lengths-of false 16 4 _ _ _ _ fits in
     refused-as (a .e) (a .work .now) (a .store .now) (a .events .now) (a .answers .now) _ 25 (c .refused2 .ensures)
     (state-refused (kept (a .e) (a .work .now) (a .store .now)) (a .events .now) (a .answers .now) fits _ (c .before .before .is-state .ensures (a .work .now) (l .work)) (c .before .if2 .left))
 

@@ -1,5 +1,6 @@
 -- The lengths decide; where they are right a portion from the start is the run.
 use borrow.Author.Needs.{needs}
+use mathlib.Core.Bool.{false}
 use mathlib.Core.Path.{refl, sym, _∙_}
 use native.Mathlib.Omega.{arith}
 use Rattle.lengths.proofs.Lengths.{lengths-of}
@@ -19,7 +20,7 @@ refusal-requires c κs = (omega arith, omega arith, omega arith)
 returns : tie.Need-returns
 returns c =
     let a = c .before .before .before .before .before .before .args in
-    signed (run-refused 16 4 geometry1 (layout1 .many) bytes1 refl (a .store .now) (a .events .now) (a .work .now) (a .answers .now) (c .before .refusal .result) (c .before .refusal .ensures) (c .if1 .taken))
+    signed (run-refused false 16 4 geometry1 (layout1 .many) bytes1 refl (a .store .now) (a .events .now) (a .work .now) (a .answers .now) (c .before .refusal .result) (c .before .refusal .ensures) (c .if1 .taken))
 
 -- src/lib.rt:189:21
 start-requires : tie.Need-start-requires
@@ -29,7 +30,7 @@ start-requires c κs = search needs
 portion-requires : tie.Need-portion-requires
 portion-requires c κs =
     let a = c .before .before .before .before .before .before .before .before .before .before .args in
-    let l = lengths-of 16 4 _ _ _ _ (sym (c .before .before .before .before .before .refusal .ensures) ∙ c .before .before .before .before .if1 .left) in
+    let l = lengths-of false 16 4 _ _ _ _ (sym (c .before .before .before .before .before .refusal .ensures) ∙ c .before .before .before .before .if1 .left) in
     (c .before .before .before .start .ensures (a .work .now) (a .store .now) (l .work) (l .store) .0, l .short, l .room)
 
 -- src/lib.rt:176:1
@@ -49,10 +50,10 @@ returns-2 : tie.Need-returns-2
 returns-2 c =
     let a = c .before .before .before .before .before .before .before .before .before .before .before .before .before .before .before .before .before .args in
     let none = sym (c .before .before .before .before .before .before .before .before .before .before .before .before .refusal .ensures) ∙ c .before .before .before .before .before .before .before .before .before .before .before .if1 .left in
-    let l = lengths-of 16 4 _ _ _ _ none in
+    let l = lengths-of false 16 4 _ _ _ _ none in
     let begun = c .before .before .before .before .before .before .before .before .before .before .start .ensures (a .work .now) (a .store .now) (l .work) (l .store) in
     let left = from-start edition1 (a .store .now) (a .events .now) (a .answers .now) _ _ _ (begun .1) (c .before .before .before .before .before .before .portion .ensures .0) in
-    signed (run-played 16 4 geometry1 (layout1 .many) bytes1 refl (a .store .now) (a .events .now) (a .work .now) (a .answers .now) _ _ _ none left (search needs))
+    signed (run-played false 16 4 geometry1 (layout1 .many) bytes1 refl (a .store .now) (a .events .now) (a .work .now) (a .answers .now) _ _ _ none left (search needs))
 
 pub nekahuiro-run-spec : {M : Type 1} → statement M
 nekahuiro-run-spec =

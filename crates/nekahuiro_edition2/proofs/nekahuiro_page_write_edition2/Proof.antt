@@ -2,7 +2,7 @@
 -- that it leaves.
 use borrow.Author.Needs.{needs}
 use mathlib.Core.Path.{_≡_, refl, sym, ap, _∙_}
-use mathlib.Core.Bool.{true≢false}
+use mathlib.Core.Bool.{false, true≢false}
 use mathlib.Core.Logic.{inr}
 use native.Mathlib.Omega.{arith}
 use lib.ListN.{length}
@@ -34,7 +34,7 @@ returns-2 c =
     event-refused (a .store .now) (a .events .now) (a .work .now) (a .answers .now) (a .event .now) (a .index) (a .write .now) (sym (c .before .before .before .refusal .ensures) ∙ c .before .before .if1 .left) (c .before .question .result) (c .before .question .ensures) (c .if2 .taken)
 
 from-start-requires : tie.Need-from-start-requires
-from-start-requires c κs = let l = lengths-of 64 8 _ _ _ _ (sym (c .before .before .before .before .before .before .refusal .ensures) ∙ c .before .before .before .before .before .if1 .left) in (l .store, l .work, l .short, l .room)
+from-start-requires c κs = let l = lengths-of false 64 8 _ _ _ _ (sym (c .before .before .before .before .before .before .refusal .ensures) ∙ c .before .before .before .before .before .if1 .left) in (l .store, l .work, l .short, l .room)
 
 table-requires : tie.Need-table-requires
 table-requires c κs = search needs
@@ -74,7 +74,7 @@ returns-3 c =
     let fits = sym (c .before .before .before .before .before .before .before .before .before .before .before .before .before .before .before .before .before .before .before .before .before .before .before .before .before .before .before .before .before .refusal .ensures) ∙ c .before .before .before .before .before .before .before .before .before .before .before .before .before .before .before .before .before .before .before .before .before .before .before .before .before .before .before .before .if1 .left in
     let asked = sym (c .before .before .before .before .before .before .before .before .before .before .before .before .before .before .before .before .before .before .before .before .before .before .before .before .before .before .before .question .ensures) ∙ c .before .before .before .before .before .before .before .before .before .before .before .before .before .before .before .before .before .before .before .before .before .before .before .before .before .before .if2 .left in
     let E = c .before .before .before .before .before .before .before .before .before .before .before .before .before .before .before .before .before .before .before .before .before .before .from-start .ensures in
-    list-asked (a .store .now) (a .events .now) (a .work .now) (a .answers .now) (a .event .now) (a .index) (a .write .now) fits asked (E .before) _ _ (E .begun) (E .leads) (E .leads .intact .form .works ∙ sym (lengths-of 64 8 _ _ _ _ fits .work)) _
+    list-asked (a .store .now) (a .events .now) (a .work .now) (a .answers .now) (a .event .now) (a .index) (a .write .now) fits asked (E .before) _ _ (E .begun) (E .leads) (E .leads .intact .form .works ∙ sym (lengths-of false 64 8 _ _ _ _ fits .work)) _
     (ap (decode geometry2) (sym (c .before .before .before .before .before .before .before .before .before .before .before .word-at .ensures ∙ word-is 8 (a .event .now) (question-of 64 8 _ _ _ _ asked .event))) ∙ c .before .before .before .before .of-word .ensures .0) _ _
     (c .before .before .page-write .ensures second (E .line) (E .held) (E .retained) (record { many = layout2 .many; two-phase = refl }) (E .leads .intact))
 

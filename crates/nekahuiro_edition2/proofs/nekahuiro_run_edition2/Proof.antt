@@ -1,5 +1,6 @@
 -- The lengths decide; where they are right a portion from the start is the run.
 use borrow.Author.Needs.{needs}
+use mathlib.Core.Bool.{false}
 use mathlib.Core.Path.{_≡_, refl, sym, _∙_}
 use mathlib.Core.List.{List}
 use Prim.Native.Nat.{ℕ}
@@ -28,10 +29,10 @@ refusal-requires c κs = (omega arith, omega arith, omega arith)
 returns : tie.Need-returns
 returns c =
     let a = c .before .before .before .before .before .before .args in
-    signed (run-refused 64 8 geometry2 (layout2 .many) bytes2 refl (a .store .now) (a .events .now) (a .work .now) (a .answers .now) (c .before .refusal .result) (c .before .refusal .ensures) (c .if1 .taken))
+    signed (run-refused false 64 8 geometry2 (layout2 .many) bytes2 refl (a .store .now) (a .events .now) (a .work .now) (a .answers .now) (c .before .refusal .result) (c .before .refusal .ensures) (c .if1 .taken))
 
 from-start-requires : tie.Need-from-start-requires
-from-start-requires c κs = let l = lengths-of 64 8 _ _ _ _ (sym (c .before .before .before .before .refusal .ensures) ∙ c .before .before .before .if1 .left) in (l .store, l .work, l .short, l .room)
+from-start-requires c κs = let l = lengths-of false 64 8 _ _ _ _ (sym (c .before .before .before .before .refusal .ensures) ∙ c .before .before .before .if1 .left) in (l .store, l .work, l .short, l .room)
 
 same-length : tie.Need-same-length
 same-length c = search needs
@@ -48,7 +49,7 @@ returns-2 c =
     let none = sym (c .before .before .before .before .before .before .before .before .before .before .before .refusal .ensures) ∙ c .before .before .before .before .before .before .before .before .before .before .if1 .left in
     let E = c .before .before .before .before .before .before .from-start .ensures in
     let left = from-start edition2 (a .store .now) (a .events .now) (a .answers .now) _ _ _ (E .begun) (E .leads) in
-    signed (run-played 64 8 geometry2 (layout2 .many) bytes2 refl (a .store .now) (a .events .now) (a .work .now) (a .answers .now) _ _ _ none left (search needs))
+    signed (run-played false 64 8 geometry2 (layout2 .many) bytes2 refl (a .store .now) (a .events .now) (a .work .now) (a .answers .now) _ _ _ none left (search needs))
 
 pub nekahuiro-run-edition2-spec : {M : Type 1} → statement M
 nekahuiro-run-edition2-spec =

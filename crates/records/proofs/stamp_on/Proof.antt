@@ -1,21 +1,24 @@
 -- A page begins with its first four bytes.
+use mathlib.Core.Path.{ap, _∙_}
+use mathlib.Core.List.{List}
+use Prim.Native.Nat.{ℕ}
+use lib.ListN.{take}
+use Rattle.laws.specs.Bytes.{number}
 use borrow.Author.Needs.{needs}
-use mathlib.Core.Path.{_∙_}
-use Rattle.records.proofs.Ages.{stamp-is}
 use Rattle.records.proofs.stamp_on.Statement.{statement}
 use Rattle.records.proofs.stamp_on.Tie as tie
 
--- src/lib.rt:66:34
-mul-word-at : tie.Need-mul-word-at
-mul-word-at c = search needs
+get-page-requires : tie.Need-get-page-requires
+get-page-requires c κs = search needs
 
--- src/lib.rt:66:5
+slice-aggregate-word-at : tie.Need-slice-aggregate-word-at
+slice-aggregate-word-at c = search needs
+
 word-at-requires : tie.Need-word-at-requires
 word-at-requires c κs = search needs
 
--- src/lib.rt:62:1
 returns : tie.Need-returns
-returns c = c .word-at .ensures ∙ stamp-is (c .before .before .args .store .now) (c .before .before .args .p)
+returns c = c .word-at .ensures ∙ ap (λ (p : List ℕ). number (take 4 p)) (c .before .before .get-page .ensures)
 
 pub stamp-on-spec : {M : Type 1} → statement M
-stamp-on-spec = tie.close (tie.spec mul-word-at word-at-requires returns)
+stamp-on-spec = tie.close (tie.spec get-page-requires slice-aggregate-word-at word-at-requires returns)

@@ -2,7 +2,7 @@
 use borrow.Author.Needs.{needs}
 use mathlib.Core.Path.{ap₂, _∙_}
 use Rattle.rules.specs.Age.{ageOf}
-use Rattle.rules.specs.Form.{atomic}
+use Rattle.lengths.specs.Lengths.{formIn}
 use Rattle.records.proofs.Ages.{answered-judged, answered-refused}
 use Rattle.records.proofs.tell.Statement.{statement}
 use Rattle.records.proofs.tell.Tie as tie
@@ -29,14 +29,14 @@ returns : tie.Need-returns
 returns c = λ g L j.
     let told = c .before .before .before .before .before .age-of in
     answered-judged _ _ _ (told .result) (c .before .before .before .told .given .0 .0) (c .leave .result) (c .before .before .before .told .given .1)
-    (told .ensures g L j ∙ ap₂ (ageOf (atomic g) _ _) (c .before .before .before .before .before .before .before .new .ensures) (c .before .before .before .before .before .before .new2 .ensures))
+    (told .ensures g L j ∙ ap₂ (ageOf (formIn (c .before .before .before .before .before .before .before .before .before .args .tears) g) _ _) (c .before .before .before .before .before .before .before .new .ensures) (c .before .before .before .before .before .before .new2 .ensures))
     (c .leave .ensures)
 
 returns-2 : tie.Need-returns-2
 returns-2 c = λ g L j.
     let told = c .before .before .before .age-of in
     answered-refused _ _ (told .result) (c .before .told2 .given .0 .0) (c .before .told2 .given .1)
-    (told .ensures g L j ∙ ap₂ (ageOf (atomic g) _ _) (c .before .before .before .before .before .new .ensures) (c .before .before .before .before .new2 .ensures))
+    (told .ensures g L j ∙ ap₂ (ageOf (formIn (c .before .before .before .before .before .before .before .args .tears) g) _ _) (c .before .before .before .before .before .new .ensures) (c .before .before .before .before .new2 .ensures))
 
 pub tell-spec : {M : Type 1} → statement M
 tell-spec =

@@ -2,6 +2,7 @@
 use native.Mathlib.Omega.{arith}
 use Rattle.rules.specs.Event.{field, fields}
 use Rattle.rules.specs.Editions.{geometry2}
+use Rattle.rules.proofs.Editions.{proper2}
 use Rattle.event.specs.Flags.{flags2}
 use Rattle.event.proofs.Words.{right2, passes, fails}
 use borrow.Author.Needs.{needs}
@@ -37,11 +38,11 @@ element-copy-out-uses c = search needs
 
 returns : tie.Need-returns
 unfolding fields field
-returns c = passes geometry2 flags2 right2 (c .before .before .before .args .w) _ _ (omega arith) (c .before .before .before .pre) (c .before .before .narrow .ensures) (c .if1 .taken)
+returns c = passes geometry2 flags2 right2 proper2 (c .before .before .before .args .w) _ _ (omega arith) (c .before .before .before .pre) (c .before .before .narrow .ensures) (c .if1 .taken)
 
 returns-2 : tie.Need-returns-2
 unfolding fields field
-returns-2 c = fails geometry2 flags2 right2 (c .before .before .before .args .w) _ _ (omega arith) (c .before .before .before .pre) (c .before .before .narrow .ensures) (c .if1 .left)
+returns-2 c = fails geometry2 flags2 right2 proper2 (c .before .before .before .args .w) _ _ (omega arith) (c .before .before .before .pre) (c .before .before .narrow .ensures) (c .if1 .left)
 
 pub of-word-spec : {M : Type 1} → statement M
 of-word-spec =

@@ -1,0 +1,3 @@
+-- The arguments of this crate.
+pub mod Copies
+pub mod Calm

@@ -1,0 +1,6 @@
+-- A device whose writes tear follows the rules.
+pub mod Copies
+pub mod Device
+pub mod Claims
+pub mod Mending
+pub mod Example

@@ -1,0 +1,2 @@
+-- The arguments of this crate.
+pub mod PairLayout

@@ -1,0 +1,42 @@
+// Open operations of the form whose pages can tear (document 02, L5): a fresh store, and the age of a record. Any bytes may come in; each refuses or does what
+// the rules say, with sixteen records, and every page kept as a pair of copies.
+ghost use mathlib.Core.Path.{_≡_};
+ghost use Rattle.rules.specs.Run.{layFresh};
+ghost use Rattle.rules.specs.Age.{ageOf};
+ghost use Rattle.rules.specs.Editions.{editionPairs};
+ghost use Rattle.records.specs.Ages.{ageNumber, ageLeft};
+
+const RECORDS: usize = 16;
+
+// Pages tear.
+const TEARS: bool = true;
+
+// No transaction can be prepared.
+const JOINT: bool = false;
+
+// Lays down a fresh store, every pair good and alike: 0, or 22 where it hasn't the size of a store of pairs, and then writes nothing.
+#[no_mangle]
+pub extern "C" fn nekahuiro_fresh_pairs(store: &mut [u8]) -> u8
+    ensures { λ r.
+        let before = now (store .entry) in
+        ⌜ (r ≡ layFresh editionPairs before .answer) × (now (store .exit) ≡ layFresh editionPairs before .store) ⌝ }
+{
+    records::lay_fresh(store, TEARS, RECORDS)
+}
+
+// Tells the age of a record, through the first good copy of each page: 0 live, 1 ahead, 2 stale, with the age in minutes left at `age`; or refused with 22, 23
+// or 4, and `age` stays. It is 4 where any page has no good copy, or the commit page is damaged. The store is only read: nothing is mended.
+#[no_mangle]
+pub extern "C" fn nekahuiro_age_pairs(
+    store: &[u8],
+    number: u8,
+    clock: u32,
+    limit: u32,
+    age: &mut i64,
+) -> u8
+    ensures { λ r.
+        let told = ageOf editionPairs (now (store .entry)) number clock limit in
+        ⌜ (r ≡ ageNumber told) × (now (age .exit) ≡ ageLeft told (now (age .entry))) ⌝ }
+{
+    records::tell(store, TEARS, RECORDS, JOINT, number, clock, limit, age)
+}

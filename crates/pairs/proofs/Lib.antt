@@ -1,0 +1,3 @@
+-- The crate's laws
+pub mod Copies
+pub mod Shown
