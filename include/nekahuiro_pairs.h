@@ -4,8 +4,7 @@
  * libnekahuiro.a, if functions of nekahuiro.h are called too: one program may have both. What a caller owes
  * to every function is said there, and what its numbers mean. Below stands only what differs.
  *
- * So far there are a fresh store and the age of a record. Lists of events can't be played on such a store yet,
- * neither whole nor in portions.
+ * So far there are a run, a fresh store and the age of a record. Lists of events can't be played in portions yet.
  */
 #ifndef NEKAHUIRO_PAIRS_H
 #define NEKAHUIRO_PAIRS_H
@@ -43,6 +42,15 @@ uint8_t nekahuiro_fresh_pairs(uint8_t *store, size_t store_size);
  * is damaged. The store is only read: a torn page stays as it is. */
 uint8_t nekahuiro_age_pairs(const uint8_t *store, size_t store_size, uint8_t record,
                             uint32_t clock, uint32_t limit, int64_t *age);
+
+/* Runs a list of events, as nekahuiro_run does, in edition 1's words. The value of a commit or a recover says how
+ * the page write after those that its count allows is torn: 0, not at all; 1, its first copy is left bad; 2, its
+ * first copy is new and the second bad; 3, its first copy is new and the second old. In cases 2 and 3 that write
+ * counts as made. A value above 3 is refused with 1, and so are kinds 9 to 11. A recovery mends every page from
+ * its first good copy; it is refused with 4, and nothing is mended, where any of the 33 pages has no good copy or
+ * page 0 is damaged. Answers 0, or 22, 24, 20 or 21, tried in this order and with nothing touched. */
+uint8_t nekahuiro_run_pairs(uint8_t *store, size_t store_size, const uint8_t *events, size_t events_size,
+                            uint8_t *work, size_t work_size, uint8_t *answers, size_t answers_size);
 
 #ifdef __cplusplus
 }

@@ -1,12 +1,18 @@
-// Open operations of the form whose pages can tear (document 02, L5): a fresh store, and the age of a record. Any bytes may come in; each refuses or does what
+// Open operations of the form whose pages can tear (document 02, L5): a run, a fresh store, and the age of a record. Any bytes may come in; each refuses or does what
 // the rules say, with sixteen records, and every page kept as a pair of copies.
 ghost use mathlib.Core.Path.{_≡_};
 ghost use Rattle.rules.specs.Run.{layFresh};
 ghost use Rattle.rules.specs.Age.{ageOf};
 ghost use Rattle.rules.specs.Editions.{editionPairs};
+ghost use Rattle.history.specs.Demand3.{Demand-3};
+ghost use Rattle.serial.specs.OneAtATime.{One-run-at-a-time};
 ghost use Rattle.records.specs.Ages.{ageNumber, ageLeft};
+ghost use Rattle.running.specs.Running.{Ran};
 
 const RECORDS: usize = 16;
+
+// The bytes of an event word.
+const WORD: usize = 4;
 
 // Pages tear.
 const TEARS: bool = true;
@@ -39,4 +45,35 @@ pub extern "C" fn nekahuiro_age_pairs(
         ⌜ (r ≡ ageNumber told) × (now (age .exit) ≡ ageLeft told (now (age .entry))) ⌝ }
 {
     records::tell(store, TEARS, RECORDS, JOINT, number, clock, limit, age)
+}
+
+// Runs a list of events on a store, with an answer of two bytes for each; the value of a commit or a recover says how the next page write is torn where it is
+// cut. 0, or a refusal's number: 22, 24, 20 or 21, in this order, and then touches no buffer. Of a run that is played demand 3 holds, and that it can be played
+// one transaction at a time: both speak of `run editionPairs`, which is what this function leaves.
+#[no_mangle]
+pub extern "C" fn nekahuiro_run_pairs(
+    store: &mut [u8],
+    events: &[u8],
+    work: &mut [u8],
+    answers: &mut [u8],
+) -> u8
+    ensures { λ r.
+        ⌜ Ran editionPairs (now (store .entry)) (now (events .entry)) (now (work .entry)) (now (answers .entry)) r (now (store .exit)) (now (work .exit)) (now (answers .exit)) ⌝ }
+    ensures { λ r. ⌜ (r ≡ 0 → Demand-3 editionPairs (now (store .entry)) (now (events .entry)) (now (work .entry)) (now (answers .entry))) ⌝ }
+    ensures { λ r. ⌜ (r ≡ 0 → One-run-at-a-time editionPairs (now (store .entry)) (now (events .entry)) (now (work .entry)) (now (answers .entry))) ⌝ }
+{
+    let n = lengths::refusal(
+        TEARS,
+        RECORDS,
+        WORD,
+        store.len(),
+        events.len(),
+        work.len(),
+        answers.len(),
+    );
+    if n != 0 {
+        return n;
+    }
+    portions_pairs::portion(portions_pairs::start(), store, events, work, answers);
+    0
 }

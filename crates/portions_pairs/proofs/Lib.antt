@@ -1,2 +1,2 @@
 -- The arguments of this crate.
-pub mod PairLayout
+pub mod PairWords
