@@ -145,7 +145,7 @@ module _ {fate bearer : List ℕ} {begun : ℕ} (S : Matched fate bearer begun) 
   pub one-passes : passedIn (set fate me new) ≡ updated me (passedOf new) (passedIn fate)
   one-passes = passes-set fate me new inside
 
-module _ (start : ℕ → Page) (owner parent fate bearer events store : List ℕ) (begun n t me k : ℕ) (R : Ready (tables owner parent fate bearer begun true) events n t me)
+module _ (start : ℕ → Page) (owner parent fate bearer events store : List ℕ) (begun n t me k : ℕ) (R : Ready (tables owner parent fate bearer begun true) t me)
     (B : Before events n (some (commit t k)) (tables owner parent fate bearer begun true)) (room : begun < 4097)
     (alone : isParent (ledgerOf (tables owner parent fate bearer begun true) events n .story) me ≡ false) where
   abbrev b : Tables

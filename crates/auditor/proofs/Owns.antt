@@ -20,8 +20,8 @@ use Rattle.rules.specs.Editions.{geometry1, edition1}
 use Rattle.history.specs.History.{told, effectOf, effect, after, overlaid}
 use Rattle.history.specs.Claims.{seenBy}
 use Rattle.audit.specs.Plain.{Ledger, borne, isParent, blocks, locksOf, learned, passedBy, grantsBy, upBy, readBy, dueRefusals, dueDone, dueTo, dueBy, due}
-use Rattle.links.specs.Links.{entryAt}
-use Rattle.scans.specs.Scans.{modeTest, withGrant, withWrite, grantsTo, writesUpTo, showsTo}
+use Rattle.links.specs.Links.{entryAt, showsTo}
+use Rattle.scans.specs.Scans.{modeTest, withGrant, withWrite, grantsTo, writesUpTo}
 use Rattle.bearers.specs.Tables.{Tables, tables, ledgerOf}
 use Rattle.bearers.proofs.Change.{entry-set}
 use Rattle.auditor.specs.Step.{Consistent, Audited, Before, Ready}
@@ -48,7 +48,7 @@ module _ (start : ℕ → Page) (owner parent fate bearer events store : List �
   abbrev l : Ledger
   l = ledgerOf b events n
 
-  module _ (R : Ready b events n t me) (alone : isParent (l .story) me ≡ false) where
+  module _ (R : Ready b t me) (alone : isParent (l .story) me ≡ false) where
     bears : l .story .bearer t ≡ me
     unfolding ledgerOf tables entryAt
     bears = R .bears

@@ -85,7 +85,7 @@ module _ (start : ℕ → Page) (owner parent fate bearer events store : List �
     unknown-is (suc (suc (suc (suc (suc (suc (suc k))))))) q h g B = absurd (omega (arith, g))
 
   -- a live child
-  module _ (x : Fields) (me : ℕ) (R : Ready (B′ true) events n (x .transaction) me) (child : isParent (ledgerOf (B′ true) events n .story) me ≡ true) where
+  module _ (x : Fields) (me : ℕ) (R : Ready (B′ true) (x .transaction) me) (child : isParent (ledgerOf (B′ true) events n .story) me ≡ true) where
     abbrev l : Ledger
     l = ledgerOf (B′ true) events n
 

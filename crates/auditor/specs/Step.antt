@@ -1,7 +1,7 @@
 -- One event of an audit: the answer that is due by the tables, and the tables after it.
 use Prim.Native.Nat.{ℕ, suc, _≤_}
 use mathlib.Core.Path.{_≡_}
-use mathlib.Core.Bool.{true}
+use mathlib.Core.Bool.{true, false}
 use mathlib.Core.List.{List}
 use mathlib.Core.Logic.{_≢_}
 use mathlib.Core.Option.{Option}
@@ -11,7 +11,7 @@ use Rattle.rules.specs.Store.{Page, pagesOf}
 use Rattle.rules.specs.Event.{Event}
 use Rattle.rules.specs.Step.{numberOf, valueOf}
 use Rattle.rules.specs.Editions.{geometry1, edition1}
-use Rattle.audit.specs.Plain.{learned, due}
+use Rattle.audit.specs.Plain.{isParent, learned, due}
 use Rattle.links.specs.Links.{Earlier}
 use Rattle.scans.specs.Scans.{eventAt}
 use Rattle.bearers.specs.Tables.{Tables, Matched, ledgerOf}
@@ -34,11 +34,15 @@ pub record Audited (start : ℕ → Page) (events : List ℕ) (n : ℕ) (b : Tab
   pub learns : ledgerOf b′ events (suc n) ≡ learned (records geometry1) (ledgerOf b events n) e (due edition1 start (ledgerOf b events n) (pagesOf store) e .answer)
   pub consistent : Consistent b′ (suc n)
 
--- the transaction `me`, of number t, has no live child, and the store is up
-pub record Ready (b : Tables) (events : List ℕ) (n : ℕ) (t me : ℕ) : Type 0 where
+-- the transaction `me` bears the number t, and the store is up
+pub record Ready (b : Tables) (t me : ℕ) : Type 0 where
   pub up : b .up ≡ true
   pub bears : getD (b .bearer) t 0 ≡ me
   pub some : me ≢ 0
+
+-- no live transaction's parent is `me`
+abbrev pub Childless : Tables → List ℕ → ℕ → ℕ → Type 0
+Childless b events n me = isParent (ledgerOf b events n .story) me ≡ false
 
 -- event n is e, and the tables are in order
 pub record Before (events : List ℕ) (n : ℕ) (e : Option Event) (b : Tables) : Type 0 where

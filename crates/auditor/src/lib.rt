@@ -1,4 +1,10 @@
 // The auditor: it finds the answer that is due to each event in the history so far, and keeps no version and no lock.
+//   events, n                                   the list of events, and the place of the event that comes
+//   owner, parent, fate, bearer, begun, up      what the events before it tell: the tables (crates scans, links and bearers say what each holds),
+//                                               how many transactions have begun, and whether the store is up
+//   start, store                                the bytes of a store: before the first event, and as they are due by now
+//   me, t                                       the transaction whose event it is, as counted in the tables, and the number that it bears
+// A contract says of the tables `before` the event and `after` it that the event is answered and told as it is due.
 ghost use mathlib.Core.Path.{_≡_};
 ghost use mathlib.Core.Bool.{Bool, true, false, cond, not, _||_};
 ghost use mathlib.Core.List.{List};
@@ -13,10 +19,9 @@ ghost use Rattle.laws.specs.Tests.{under};
 ghost use Rattle.history.specs.Demand3.{settledIn};
 ghost use Rattle.event.specs.Flags.{flags};
 ghost use Rattle.event.specs.Meaning.{meaning, InRange};
-ghost use Rattle.audit.specs.Plain.{isParent};
-ghost use Rattle.links.specs.Links.{Earlier};
-ghost use Rattle.bearers.specs.Tables.{tables, Matched, ledgerOf};
-ghost use Rattle.auditor.specs.Step.{Audited, Ready, Before};
+ghost use Rattle.links.specs.Links.{Earlier, Bounded};
+ghost use Rattle.bearers.specs.Tables.{tables, Matched};
+ghost use Rattle.auditor.specs.Step.{Audited, Ready, Childless, Before};
 use event::Event;
 
 // An answer's two bytes.
@@ -34,7 +39,11 @@ fn begin_event(
     p: u8,
 ) -> Answer
     requires { ⌜ (now begun < 4096) × Matched (now fate) (now bearer) (now begun) × Earlier (now parent) × (length (now parent) ≡ 4097) ⌝ }
-    ensures { λ a. ⌜ ((start : ℕ → Page) (owner events store : List ℕ) (n : ℕ) → Before events n (some (begin p)) (tables owner (now (parent .entry)) (now (fate .entry)) (now (bearer .entry)) (now (begun .entry)) true) → Audited start events n (tables owner (now (parent .entry)) (now (fate .entry)) (now (bearer .entry)) (now (begun .entry)) true) store (some (begin p)) (a .number) (a .value) (tables owner (now (parent .exit)) (now (fate .exit)) (now (bearer .exit)) (now (begun .exit)) true) store) ⌝ }
+    ensures { λ a. ⌜ ((start : ℕ → Page) (owner events store : List ℕ) (n : ℕ) →
+        let before = tables owner (now (parent .entry)) (now (fate .entry)) (now (bearer .entry)) (now (begun .entry)) true in
+        let after = tables owner (now (parent .exit)) (now (fate .exit)) (now (bearer .exit)) (now (begun .exit)) true in
+        let e = some (begin p) in
+        Before events n e before → Audited start events n before store e (a .number) (a .value) after store) ⌝ }
 {
     let above = bearers::bearer_of(bearer, p);
     if (p != 31) & (above == 0) {
@@ -80,8 +89,15 @@ fn lock_event(
     r: u8,
     value: u8,
 ) -> Answer
-    requires { ⌜ (now table ≡ flags) × (n < 4096) × (4 * n + 4 ≤ length (now events)) × ((j : ℕ) → getD (now owner) j 0 < 4097) × (me < 4097) × (0 < me) × (length (now owner) ≡ 4096) × Earlier (now parent) ⌝ }
-    ensures { λ a. ⌜ ((start : ℕ → Page) (bearer store : List ℕ) (begun t : ℕ) → Before (now (events .entry)) n (some (lock t r (accessOf value))) (tables (now (owner .entry)) (now (parent .entry)) (now (fate .entry)) bearer begun true) → Ready (tables (now (owner .entry)) (now (parent .entry)) (now (fate .entry)) bearer begun true) (now (events .entry)) n t me → isParent (ledgerOf (tables (now (owner .entry)) (now (parent .entry)) (now (fate .entry)) bearer begun true) (now (events .entry)) n .story) me ≡ false → Audited start (now (events .entry)) n (tables (now (owner .entry)) (now (parent .entry)) (now (fate .entry)) bearer begun true) store (some (lock t r (accessOf value))) (a .number) (a .value) (tables (now (owner .exit)) (now (parent .entry)) (now (fate .entry)) bearer begun true) store) ⌝ }
+    requires { ⌜ (now table ≡ flags) × (n < 4096) × (4 * n + 4 ≤ length (now events)) × Bounded (now owner) × (me < 4097) × (0 < me)
+        × (length (now owner) ≡ 4096) × Earlier (now parent) ⌝ }
+    ensures { λ a. ⌜ ((start : ℕ → Page) (bearer store : List ℕ) (begun t : ℕ) →
+        let list = now (events .entry) in
+        let before = tables (now (owner .entry)) (now (parent .entry)) (now (fate .entry)) bearer begun true in
+        let after = tables (now (owner .exit)) (now (parent .entry)) (now (fate .entry)) bearer begun true in
+        let e = some (lock t r (accessOf value)) in
+        Before list n e before → Ready before t me → Childless before list n me
+        → Audited start list n before store e (a .number) (a .value) after store) ⌝ }
 {
     if scans::barred(table, events, owner, parent, fate, n, me, r, value == 0) {
         return Answer {
@@ -105,8 +121,15 @@ fn write_event(
     me: usize,
     r: u8,
 ) -> Answer
-    requires { ⌜ (now table ≡ flags) × (n < 4096) × (4 * n + 4 ≤ length (now events)) × ((j : ℕ) → getD (now owner) j 0 < 4097) × (me < 4097) × (0 < me) × (length (now owner) ≡ 4096) ⌝ }
-    ensures { λ a. ⌜ ((start : ℕ → Page) (parent fate bearer store : List ℕ) (begun t o v : ℕ) → Before (now (events .entry)) n (some (write t r o v)) (tables (now (owner .entry)) parent fate bearer begun true) → Ready (tables (now (owner .entry)) parent fate bearer begun true) (now (events .entry)) n t me → isParent (ledgerOf (tables (now (owner .entry)) parent fate bearer begun true) (now (events .entry)) n .story) me ≡ false → Audited start (now (events .entry)) n (tables (now (owner .entry)) parent fate bearer begun true) store (some (write t r o v)) (a .number) (a .value) (tables (now (owner .exit)) parent fate bearer begun true) store) ⌝ }
+    requires { ⌜ (now table ≡ flags) × (n < 4096) × (4 * n + 4 ≤ length (now events)) × Bounded (now owner) × (me < 4097) × (0 < me)
+        × (length (now owner) ≡ 4096) ⌝ }
+    ensures { λ a. ⌜ ((start : ℕ → Page) (parent fate bearer store : List ℕ) (begun t o v : ℕ) →
+        let list = now (events .entry) in
+        let before = tables (now (owner .entry)) parent fate bearer begun true in
+        let after = tables (now (owner .exit)) parent fate bearer begun true in
+        let e = some (write t r o v) in
+        Before list n e before → Ready before t me → Childless before list n me
+        → Audited start list n before store e (a .number) (a .value) after store) ⌝ }
 {
     if scans::holds(table, events, owner, n, me, r, false) {
         owner[n] = (me % 65536) as u16;
@@ -134,8 +157,15 @@ fn read_event(
     r: u8,
     o: usize,
 ) -> Answer
-    requires { ⌜ (now table ≡ flags) × (n < 4096) × (4 * n + 4 ≤ length (now events)) × ((j : ℕ) → getD (now owner) j 0 < 4097) × (me < 4097) × (0 < me) × (length (now owner) ≡ 4096) × Earlier (now parent) × (length (now start) ≡ 1056) × (r < 16) × (o < 32) ⌝ }
-    ensures { λ a. ⌜ ((bearer store : List ℕ) (begun t : ℕ) → Before (now (events .entry)) n (some (read t r o)) (tables (now (owner .entry)) (now (parent .entry)) (now (fate .entry)) bearer begun true) → Ready (tables (now (owner .entry)) (now (parent .entry)) (now (fate .entry)) bearer begun true) (now (events .entry)) n t me → isParent (ledgerOf (tables (now (owner .entry)) (now (parent .entry)) (now (fate .entry)) bearer begun true) (now (events .entry)) n .story) me ≡ false → Audited (settledIn edition1 (now (start .entry))) (now (events .entry)) n (tables (now (owner .entry)) (now (parent .entry)) (now (fate .entry)) bearer begun true) store (some (read t r o)) (a .number) (a .value) (tables (now (owner .entry)) (now (parent .entry)) (now (fate .entry)) bearer begun true) store) ⌝ }
+    requires { ⌜ (now table ≡ flags) × (n < 4096) × (4 * n + 4 ≤ length (now events)) × Bounded (now owner) × (me < 4097) × (0 < me)
+        × (length (now owner) ≡ 4096) × Earlier (now parent) × (length (now start) ≡ 1056) × (r < 16) × (o < 32) ⌝ }
+    ensures { λ a. ⌜ ((bearer store : List ℕ) (begun t : ℕ) →
+        let list = now (events .entry) in
+        let settled = settledIn edition1 (now (start .entry)) in
+        let before = tables (now (owner .entry)) (now (parent .entry)) (now (fate .entry)) bearer begun true in
+        let e = some (read t r o) in
+        Before list n e before → Ready before t me → Childless before list n me
+        → Audited settled list n before store e (a .number) (a .value) before store) ⌝ }
 {
     if scans::holds(table, events, owner, n, me, r, true) {
         let page = scans::page_of(
@@ -168,8 +198,13 @@ fn abort_event(
     me: usize,
     value: u8,
 ) -> Answer
-    requires { ⌜ ((u : ℕ) → getD (now bearer) u 0 < 4097) × (length (now bearer) ≡ 24) × (length (now fate) ≡ 4097) × Earlier (now parent) × (me < 4097) × (value < 2) ⌝ }
-    ensures { λ a. ⌜ ((start : ℕ → Page) (owner events store : List ℕ) (begun n t : ℕ) → Before events n (some (abort t (reportOf value))) (tables owner (now (parent .entry)) (now (fate .entry)) (now (bearer .entry)) begun true) → getD (now (bearer .entry)) t 0 ≡ me → me ≢ 0 → begun < 4097 → Audited start events n (tables owner (now (parent .entry)) (now (fate .entry)) (now (bearer .entry)) begun true) store (some (abort t (reportOf value))) (a .number) (a .value) (tables owner (now (parent .entry)) (now (fate .exit)) (now (bearer .exit)) begun true) store) ⌝ }
+    requires { ⌜ Bounded (now bearer) × (length (now bearer) ≡ 24) × (length (now fate) ≡ 4097) × Earlier (now parent) × (me < 4097) × (value < 2) ⌝ }
+    ensures { λ a. ⌜ ((start : ℕ → Page) (owner events store : List ℕ) (begun n t : ℕ) →
+        let before = tables owner (now (parent .entry)) (now (fate .entry)) (now (bearer .entry)) begun true in
+        let after = tables owner (now (parent .entry)) (now (fate .exit)) (now (bearer .exit)) begun true in
+        let e = some (abort t (reportOf value)) in
+        Before events n e before → getD (now (bearer .entry)) t 0 ≡ me → me ≢ 0 → begun < 4097
+        → Audited start events n before store e (a .number) (a .value) after store) ⌝ }
 {
     bearers::end_within(bearer, parent, fate, me);
     mark(fate, me, value);
@@ -189,8 +224,11 @@ fn mark(fate: &mut [u8; 4097], i: usize, new: u8)
 
 // A crash: all end. (Then the store is down.)
 fn crash_event(bearer: &mut [u16; 24], parent: &[u16; 4097], fate: &mut [u8; 4097]) -> Answer
-    requires { ⌜ ((u : ℕ) → getD (now bearer) u 0 < 4097) × (length (now bearer) ≡ 24) × (length (now fate) ≡ 4097) × Earlier (now parent) ⌝ }
-    ensures { λ a. ⌜ ((start : ℕ → Page) (owner events store : List ℕ) (begun n : ℕ) (up : Bool) → Before events n (some crash) (tables owner (now (parent .entry)) (now (fate .entry)) (now (bearer .entry)) begun up) → begun < 4097 → Audited start events n (tables owner (now (parent .entry)) (now (fate .entry)) (now (bearer .entry)) begun up) store (some crash) (a .number) (a .value) (tables owner (now (parent .entry)) (now (fate .exit)) (now (bearer .exit)) begun false) store) ⌝ }
+    requires { ⌜ Bounded (now bearer) × (length (now bearer) ≡ 24) × (length (now fate) ≡ 4097) × Earlier (now parent) ⌝ }
+    ensures { λ a. ⌜ ((start : ℕ → Page) (owner events store : List ℕ) (begun n : ℕ) (up : Bool) →
+        let before = tables owner (now (parent .entry)) (now (fate .entry)) (now (bearer .entry)) begun up in
+        let after = tables owner (now (parent .entry)) (now (fate .exit)) (now (bearer .exit)) begun false in
+        Before events n (some crash) before → begun < 4097 → Audited start events n before store (some crash) (a .number) (a .value) after store) ⌝ }
 {
     bearers::end_within(bearer, parent, fate, 0);
     Answer {
@@ -233,8 +271,17 @@ fn commit_event(
     t: usize,
     k: u8,
 ) -> Outcome
-    requires { ⌜ (now table ≡ flags) × (n < 4096) × (4 * n + 4 ≤ length (now events)) × ((j : ℕ) → getD (now owner) j 0 < 4097) × (me < 4097) × Earlier (now parent) × (length (now start) ≡ 1056) × (length (now store) ≡ 1056) × (t < 24) × ((u : ℕ) → getD (now bearer) u 0 < 4097) × (length (now bearer) ≡ 24) × (length (now fate) ≡ 4097) ⌝ }
-    ensures { λ a. ⌜ ((begun : ℕ) → begun < 4097 → Before (now (events .entry)) n (some (commit t k)) (tables (now (owner .entry)) (now (parent .entry)) (now (fate .entry)) (now (bearer .entry)) begun true) → Ready (tables (now (owner .entry)) (now (parent .entry)) (now (fate .entry)) (now (bearer .entry)) begun true) (now (events .entry)) n t me → isParent (ledgerOf (tables (now (owner .entry)) (now (parent .entry)) (now (fate .entry)) (now (bearer .entry)) begun true) (now (events .entry)) n .story) me ≡ false → Audited (settledIn edition1 (now (start .entry))) (now (events .entry)) n (tables (now (owner .entry)) (now (parent .entry)) (now (fate .entry)) (now (bearer .entry)) begun true) (now (store .entry)) (some (commit t k)) (a .number) (a .value) (tables (now (owner .entry)) (now (parent .entry)) (now (fate .exit)) (now (bearer .exit)) begun (a .up)) (now (store .exit))) ⌝ }
+    requires { ⌜ (now table ≡ flags) × (n < 4096) × (4 * n + 4 ≤ length (now events)) × Bounded (now owner) × (me < 4097) × Earlier (now parent)
+        × (length (now start) ≡ 1056) × (length (now store) ≡ 1056) × (t < 24) × Bounded (now bearer) × (length (now bearer) ≡ 24)
+        × (length (now fate) ≡ 4097) ⌝ }
+    ensures { λ a. ⌜ ((begun : ℕ) →
+        let list = now (events .entry) in
+        let settled = settledIn edition1 (now (start .entry)) in
+        let before = tables (now (owner .entry)) (now (parent .entry)) (now (fate .entry)) (now (bearer .entry)) begun true in
+        let after = tables (now (owner .entry)) (now (parent .entry)) (now (fate .exit)) (now (bearer .exit)) begun (a .up) in
+        let e = some (commit t k) in
+        begun < 4097 → Before list n e before → Ready before t me → Childless before list n me
+        → Audited settled list n before (now (store .entry)) e (a .number) (a .value) after (now (store .exit))) ⌝ }
 {
     if links::above(parent, me) != 0 {
         bearers::end(bearer, fate, t, 2);
@@ -269,8 +316,13 @@ fn recover_event(
     fate: &mut [u8; 4097],
     k: u8,
 ) -> Outcome
-    requires { ⌜ (length (now store) ≡ 1056) × ((u : ℕ) → getD (now bearer) u 0 < 4097) × (length (now bearer) ≡ 24) × (length (now fate) ≡ 4097) × Earlier (now parent) ⌝ }
-    ensures { λ a. ⌜ ((start : ℕ → Page) (owner events : List ℕ) (begun n : ℕ) → begun < 4097 → Before events n (some (recover k)) (tables owner (now (parent .entry)) (now (fate .entry)) (now (bearer .entry)) begun false) → Audited start events n (tables owner (now (parent .entry)) (now (fate .entry)) (now (bearer .entry)) begun false) (now (store .entry)) (some (recover k)) (a .number) (a .value) (tables owner (now (parent .entry)) (now (fate .exit)) (now (bearer .exit)) begun (a .up)) (now (store .exit))) ⌝ }
+    requires { ⌜ (length (now store) ≡ 1056) × Bounded (now bearer) × (length (now bearer) ≡ 24) × (length (now fate) ≡ 4097) × Earlier (now parent) ⌝ }
+    ensures { λ a. ⌜ ((start : ℕ → Page) (owner events : List ℕ) (begun n : ℕ) →
+        let before = tables owner (now (parent .entry)) (now (fate .entry)) (now (bearer .entry)) begun false in
+        let after = tables owner (now (parent .entry)) (now (fate .exit)) (now (bearer .exit)) begun (a .up) in
+        let e = some (recover k) in
+        begun < 4097 → Before events n e before
+        → Audited start events n before (now (store .entry)) e (a .number) (a .value) after (now (store .exit))) ⌝ }
 {
     let c = auditpages::read_map(store);
     if !c.good {
@@ -329,8 +381,15 @@ fn record_event(
     me: usize,
     e: Event,
 ) -> Answer
-    requires { ⌜ (now table ≡ flags) × (n < 4096) × (4 * n + 4 ≤ length (now events)) × ((j : ℕ) → getD (now owner) j 0 < 4097) × (length (now owner) ≡ 4096) × Earlier (now parent) × (length (now start) ≡ 1056) × InRange e × (me < 4097) × (0 < me) × (1 < e .kind) × (e .kind < 5) ⌝ }
-    ensures { λ a. ⌜ ((bearer store : List ℕ) (begun : ℕ) → Before (now (events .entry)) n (meaning e) (tables (now (owner .entry)) (now (parent .entry)) (now (fate .entry)) bearer begun true) → Ready (tables (now (owner .entry)) (now (parent .entry)) (now (fate .entry)) bearer begun true) (now (events .entry)) n (e .transaction) me → isParent (ledgerOf (tables (now (owner .entry)) (now (parent .entry)) (now (fate .entry)) bearer begun true) (now (events .entry)) n .story) me ≡ false → Audited (settledIn edition1 (now (start .entry))) (now (events .entry)) n (tables (now (owner .entry)) (now (parent .entry)) (now (fate .entry)) bearer begun true) store (meaning e) (a .number) (a .value) (tables (now (owner .exit)) (now (parent .entry)) (now (fate .entry)) bearer begun true) store) ⌝ }
+    requires { ⌜ (now table ≡ flags) × (n < 4096) × (4 * n + 4 ≤ length (now events)) × Bounded (now owner) × (length (now owner) ≡ 4096)
+        × Earlier (now parent) × (length (now start) ≡ 1056) × InRange e × (me < 4097) × (0 < me) × (1 < e .kind) × (e .kind < 5) ⌝ }
+    ensures { λ a. ⌜ ((bearer store : List ℕ) (begun : ℕ) →
+        let list = now (events .entry) in
+        let settled = settledIn edition1 (now (start .entry)) in
+        let before = tables (now (owner .entry)) (now (parent .entry)) (now (fate .entry)) bearer begun true in
+        let after = tables (now (owner .exit)) (now (parent .entry)) (now (fate .entry)) bearer begun true in
+        Before list n (meaning e) before → Ready before (e .transaction) me → Childless before list n me
+        → Audited settled list n before store (meaning e) (a .number) (a .value) after store) ⌝ }
 {
     let kind = e.kind;
     if kind == 2 {
@@ -367,8 +426,16 @@ fn named_event(
     me: usize,
     e: Event,
 ) -> Outcome
-    requires { ⌜ (now table ≡ flags) × (n < 4096) × (4 * n + 4 ≤ length (now events)) × ((j : ℕ) → getD (now owner) j 0 < 4097) × (length (now owner) ≡ 4096) × Earlier (now parent) × (length (now start) ≡ 1056) × (length (now store) ≡ 1056) × ((u : ℕ) → getD (now bearer) u 0 < 4097) × (length (now bearer) ≡ 24) × (length (now fate) ≡ 4097) × InRange e × (me < 4097) × (0 < me) × (1 < e .kind) × (e .kind < 7) × (e .transaction < 24) ⌝ }
-    ensures { λ a. ⌜ ((begun : ℕ) → begun < 4097 → Before (now (events .entry)) n (meaning e) (tables (now (owner .entry)) (now (parent .entry)) (now (fate .entry)) (now (bearer .entry)) begun true) → Ready (tables (now (owner .entry)) (now (parent .entry)) (now (fate .entry)) (now (bearer .entry)) begun true) (now (events .entry)) n (e .transaction) me → Audited (settledIn edition1 (now (start .entry))) (now (events .entry)) n (tables (now (owner .entry)) (now (parent .entry)) (now (fate .entry)) (now (bearer .entry)) begun true) (now (store .entry)) (meaning e) (a .number) (a .value) (tables (now (owner .exit)) (now (parent .entry)) (now (fate .exit)) (now (bearer .exit)) begun (a .up)) (now (store .exit))) ⌝ }
+    requires { ⌜ (now table ≡ flags) × (n < 4096) × (4 * n + 4 ≤ length (now events)) × Bounded (now owner) × (length (now owner) ≡ 4096)
+        × Earlier (now parent) × (length (now start) ≡ 1056) × (length (now store) ≡ 1056) × Bounded (now bearer) × (length (now bearer) ≡ 24)
+        × (length (now fate) ≡ 4097) × InRange e × (me < 4097) × (0 < me) × (1 < e .kind) × (e .kind < 7) × (e .transaction < 24) ⌝ }
+    ensures { λ a. ⌜ ((begun : ℕ) →
+        let list = now (events .entry) in
+        let settled = settledIn edition1 (now (start .entry)) in
+        let before = tables (now (owner .entry)) (now (parent .entry)) (now (fate .entry)) (now (bearer .entry)) begun true in
+        let after = tables (now (owner .exit)) (now (parent .entry)) (now (fate .exit)) (now (bearer .exit)) begun (a .up) in
+        begun < 4097 → Before list n (meaning e) before → Ready before (e .transaction) me
+        → Audited settled list n before (now (store .entry)) (meaning e) (a .number) (a .value) after (now (store .exit))) ⌝ }
 {
     let kind = e.kind;
     if kind == 6 {
@@ -408,7 +475,7 @@ fn named_event(
     while_up(record_event(start, table, events, owner, parent, fate, n, me, e))
 }
 
-// The same for an event of the first eight kinds, or a bad one.
+// The answer that is due to event n, which is e, and what it does to the tables and to the pages: for the first eight kinds, or a bad event.
 fn plain_event(
     start: &[u8],
     store: &mut [u8],
@@ -423,8 +490,14 @@ fn plain_event(
     n: usize,
     e: Event,
 ) -> Outcome
-    requires { ⌜ (now table ≡ flags) × (n < 4096) × (4 * n + 4 ≤ length (now events)) × (length (now start) ≡ 1056) × (length (now store) ≡ 1056) × InRange e × Before (now events) n (meaning e) (tables (now owner) (now parent) (now fate) (now bearer) (now begun) up) × (e .kind < 9) ⌝ }
-    ensures { λ a. ⌜ Audited (settledIn edition1 (now (start .entry))) (now (events .entry)) n (tables (now (owner .entry)) (now (parent .entry)) (now (fate .entry)) (now (bearer .entry)) (now (begun .entry)) up) (now (store .entry)) (meaning e) (a .number) (a .value) (tables (now (owner .exit)) (now (parent .exit)) (now (fate .exit)) (now (bearer .exit)) (now (begun .exit)) (a .up)) (now (store .exit)) ⌝ }
+    requires { let before = tables (now owner) (now parent) (now fate) (now bearer) (now begun) up in
+        ⌜ (now table ≡ flags) × (n < 4096) × (4 * n + 4 ≤ length (now events)) × (length (now start) ≡ 1056) × (length (now store) ≡ 1056) × InRange e
+        × Before (now events) n (meaning e) before × (e .kind < 9) ⌝ }
+    ensures { λ a.
+        let settled = settledIn edition1 (now (start .entry)) in
+        let before = tables (now (owner .entry)) (now (parent .entry)) (now (fate .entry)) (now (bearer .entry)) (now (begun .entry)) up in
+        let after = tables (now (owner .exit)) (now (parent .exit)) (now (fate .exit)) (now (bearer .exit)) (now (begun .exit)) (a .up) in
+        ⌜ Audited settled (now (events .entry)) n before (now (store .entry)) (meaning e) (a .number) (a .value) after (now (store .exit)) ⌝ }
 {
     let kind = e.kind;
     if kind == 0 {
@@ -485,7 +558,7 @@ fn plain_event(
     )
 }
 
-// The answer that is due to event n, which is e, and what it does to the tables and to the pages.
+// The same for an event of any kind: one of two-phase commit is a bad event here.
 pub fn due_event(
     start: &[u8],
     store: &mut [u8],
@@ -500,8 +573,14 @@ pub fn due_event(
     n: usize,
     e: Event,
 ) -> Outcome
-    requires { ⌜ (now table ≡ flags) × (n < 4096) × (4 * n + 4 ≤ length (now events)) × (length (now start) ≡ 1056) × (length (now store) ≡ 1056) × InRange e × Before (now events) n (meaning e) (tables (now owner) (now parent) (now fate) (now bearer) (now begun) up) ⌝ }
-    ensures { λ a. ⌜ Audited (settledIn edition1 (now (start .entry))) (now (events .entry)) n (tables (now (owner .entry)) (now (parent .entry)) (now (fate .entry)) (now (bearer .entry)) (now (begun .entry)) up) (now (store .entry)) (meaning e) (a .number) (a .value) (tables (now (owner .exit)) (now (parent .exit)) (now (fate .exit)) (now (bearer .exit)) (now (begun .exit)) (a .up)) (now (store .exit)) ⌝ }
+    requires { let before = tables (now owner) (now parent) (now fate) (now bearer) (now begun) up in
+        ⌜ (now table ≡ flags) × (n < 4096) × (4 * n + 4 ≤ length (now events)) × (length (now start) ≡ 1056) × (length (now store) ≡ 1056) × InRange e
+        × Before (now events) n (meaning e) before ⌝ }
+    ensures { λ a.
+        let settled = settledIn edition1 (now (start .entry)) in
+        let before = tables (now (owner .entry)) (now (parent .entry)) (now (fate .entry)) (now (bearer .entry)) (now (begun .entry)) up in
+        let after = tables (now (owner .exit)) (now (parent .exit)) (now (fate .exit)) (now (bearer .exit)) (now (begun .exit)) (a .up) in
+        ⌜ Audited settled (now (events .entry)) n before (now (store .entry)) (meaning e) (a .number) (a .value) after (now (store .exit)) ⌝ }
 {
     if 8 < e.kind {
         return Outcome {

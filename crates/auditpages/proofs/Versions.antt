@@ -17,8 +17,8 @@ use Rattle.history.specs.Claims.{seenBy}
 use Rattle.audit.specs.Plain.{Ledger, hasChanged, readBy, changesBy}
 use Rattle.history.specs.Demand3.{settledIn}
 use Rattle.auditpages.specs.Changed.{changedPage}
-use Rattle.links.specs.Links.{entryAt}
-use Rattle.scans.specs.Scans.{writesUpTo, showsTo}
+use Rattle.links.specs.Links.{entryAt, showsTo}
+use Rattle.scans.specs.Scans.{writesUpTo}
 use Rattle.bearers.specs.Tables.{tables, ledgerOf}
 
 count-same : (n : ℕ) (p q : ℕ → Bool) → ((r : ℕ) → r < n → p r ≡ q r) → count n p ≡ count n q

@@ -6,7 +6,8 @@ use Rattle.rules.specs.Editions.{edition1}
 use Rattle.history.specs.History.{overlaid}
 use Rattle.history.specs.Demand3.{settledIn}
 use Rattle.audit.specs.Plain.{Ledger}
-use Rattle.scans.specs.Scans.{writesUpTo, showsTo}
+use Rattle.links.specs.Links.{showsTo}
+use Rattle.scans.specs.Scans.{writesUpTo}
 
 -- the start's settled value, with the writes over it that show to `me`
 unfoldable pub changedPage : Ledger → List ℕ → List ℕ → List ℕ → ℕ → ℕ → ℕ → Page

@@ -16,7 +16,7 @@ ghost use Rattle.audit.specs.Plain.{Ledger, changesBy};
 ghost use Rattle.commitpage.specs.Heard.{understood};
 ghost use Rattle.counted.specs.Phase.{Phase, Leaves};
 ghost use Rattle.commit.specs.Phase.{due, sweep, copies};
-ghost use Rattle.links.specs.Links.{Earlier, Linked};
+ghost use Rattle.links.specs.Links.{Earlier, Bounded, Linked};
 ghost use Rattle.scans.specs.Scans.{writesUpTo};
 ghost use Rattle.bearers.specs.Tables.{tables, ledgerOf};
 ghost use Rattle.auditpages.specs.Changed.{changedPage};
@@ -76,8 +76,11 @@ fn changed_map(
     n: usize,
     me: usize,
 ) -> u64
-    requires { ⌜ (now table ≡ flags) × (n < 4096) × (4 * n + 4 ≤ length (now events)) × ((j : ℕ) → getD (now owner) j 0 < 4097) × (me < 4097) × Earlier (now parent) ⌝ }
-    ensures { λ m. ⌜ (((l : Ledger) → Linked l (now (parent .entry)) (now (fate .entry)) → m ≡ mapOf geometry1 (λ q. writesTo (λ i. same (standsWith (l .story) i) me) q (writesUpTo (now (owner .entry)) (now (events .entry)) n)))) × (m < 65536) ⌝ }
+    requires { ⌜ (now table ≡ flags) × (n < 4096) × (4 * n + 4 ≤ length (now events)) × Bounded (now owner) × (me < 4097) × Earlier (now parent) ⌝ }
+    ensures { λ m.
+        let written = writesUpTo (now (owner .entry)) (now (events .entry)) n in
+        ⌜ ((l : Ledger) → Linked l (now (parent .entry)) (now (fate .entry))
+        → m ≡ mapOf geometry1 (λ q. writesTo (λ i. same (standsWith (l .story) i) me) q written)) × (m < 65536) ⌝ }
 {
     let mut map = 0u64;
     for r in 0..16u8 {
@@ -117,9 +120,14 @@ fn write_record(
     r: u8,
     left: u8,
 ) -> u8
-    requires { ⌜ (now table ≡ flags) × (n < 4096) × (4 * n + 4 ≤ length (now events)) × ((j : ℕ) → getD (now owner) j 0 < 4097) × (me < 4097) × Earlier (now parent) × (length (now start) ≡ 1056) × (length (now store) ≡ 1056) × (first + 16 ≤ 33) × (r < 16) ⌝ }
-    ensures { λ x. ⌜ ((l : Ledger) → Linked l (now (parent .entry)) (now (fate .entry)) →
-        Phase false left (due (named geometry1 map) (copies first (changedPage l (now (start .entry)) (now (owner .entry)) (now (events .entry)) n me)) r) (pagesOf (now (store .entry))) (pagesOf (now (store .exit))) x) ⌝ }
+    requires { ⌜ (now table ≡ flags) × (n < 4096) × (4 * n + 4 ≤ length (now events)) × Bounded (now owner) × (me < 4097) × Earlier (now parent)
+        × (length (now start) ≡ 1056) × (length (now store) ≡ 1056) × (first + 16 ≤ 33) × (r < 16) ⌝ }
+    ensures { λ x.
+        let before = pagesOf (now (store .entry)) in
+        let after = pagesOf (now (store .exit)) in
+        ⌜ ((l : Ledger) → Linked l (now (parent .entry)) (now (fate .entry)) →
+        let new = changedPage l (now (start .entry)) (now (owner .entry)) (now (events .entry)) n me in
+        Phase false left (due (named geometry1 map) (copies first new) r) before after x) ⌝ }
 {
     if commitpage::names(map, 16, r) & (0 < left) {
         let at = first + (r as usize);
@@ -155,9 +163,14 @@ fn write_records(
     first: usize,
     left: u8,
 ) -> u8
-    requires { ⌜ (now table ≡ flags) × (n < 4096) × (4 * n + 4 ≤ length (now events)) × ((j : ℕ) → getD (now owner) j 0 < 4097) × (me < 4097) × Earlier (now parent) × (length (now start) ≡ 1056) × (length (now store) ≡ 1056) × (first + 16 ≤ 33) ⌝ }
-    ensures { λ x. ⌜ ((l : Ledger) → Linked l (now (parent .entry)) (now (fate .entry)) →
-        Phase false left (sweep (named geometry1 map) (copies first (changedPage l (now (start .entry)) (now (owner .entry)) (now (events .entry)) n me)) 16) (pagesOf (now (store .entry))) (pagesOf (now (store .exit))) x) ⌝ }
+    requires { ⌜ (now table ≡ flags) × (n < 4096) × (4 * n + 4 ≤ length (now events)) × Bounded (now owner) × (me < 4097) × Earlier (now parent)
+        × (length (now start) ≡ 1056) × (length (now store) ≡ 1056) × (first + 16 ≤ 33) ⌝ }
+    ensures { λ x.
+        let before = pagesOf (now (store .entry)) in
+        let after = pagesOf (now (store .exit)) in
+        ⌜ ((l : Ledger) → Linked l (now (parent .entry)) (now (fate .entry)) →
+        let new = changedPage l (now (start .entry)) (now (owner .entry)) (now (events .entry)) n me in
+        Phase false left (sweep (named geometry1 map) (copies first new) 16) before after x) ⌝ }
 {
     let mut rest = left;
     for r in 0..16u8 {
@@ -194,9 +207,14 @@ fn write_intentions(
     map: u64,
     left: u8,
 ) -> u8
-    requires { ⌜ (now table ≡ flags) × (n < 4096) × (4 * n + 4 ≤ length (now events)) × ((j : ℕ) → getD (now owner) j 0 < 4097) × (me < 4097) × Earlier (now parent) × (length (now start) ≡ 1056) × (length (now store) ≡ 1056) × (map < 65536) ⌝ }
-    ensures { λ x. ⌜ ((l : Ledger) → Linked l (now (parent .entry)) (now (fate .entry)) →
-        Phase false left (sweep (named geometry1 map) (copies 1 (changedPage l (now (start .entry)) (now (owner .entry)) (now (events .entry)) n me)) 16 ++ (sets 0 (commitPage geometry1 map) ∷ [])) (pagesOf (now (store .entry))) (pagesOf (now (store .exit))) x) ⌝ }
+    requires { ⌜ (now table ≡ flags) × (n < 4096) × (4 * n + 4 ≤ length (now events)) × Bounded (now owner) × (me < 4097) × Earlier (now parent)
+        × (length (now start) ≡ 1056) × (length (now store) ≡ 1056) × (map < 65536) ⌝ }
+    ensures { λ x.
+        let before = pagesOf (now (store .entry)) in
+        let after = pagesOf (now (store .exit)) in
+        ⌜ ((l : Ledger) → Linked l (now (parent .entry)) (now (fate .entry)) →
+        let new = changedPage l (now (start .entry)) (now (owner .entry)) (now (events .entry)) n me in
+        Phase false left (sweep (named geometry1 map) (copies 1 new) 16 ++ (sets 0 (commitPage geometry1 map) ∷ [])) before after x) ⌝ }
 {
     let rest = write_records(
         store,
@@ -229,11 +247,16 @@ pub fn commit_writes(
     me: usize,
     k: u8,
 ) -> Written
-    requires { ⌜ (now table ≡ flags) × (n < 4096) × (4 * n + 4 ≤ length (now events)) × ((j : ℕ) → getD (now owner) j 0 < 4097) × (me < 4097) × Earlier (now parent) × (length (now start) ≡ 1056) × (length (now store) ≡ 1056) ⌝ }
-    ensures { λ w. ⌜ ((bearer : List ℕ) (begun t : ℕ) → getD bearer t 0 ≡ me →
-        let story = ledgerOf (tables (now (owner .entry)) (now (parent .entry)) (now (fate .entry)) bearer begun true) (now (events .entry)) n .story in
-        Leaves (commitAt geometry1 (pagesOf (now (store .entry))) (changesBy edition1 (settledIn edition1 (now (start .entry))) story t) k) (pagesOf (now (store .exit))) (w .made) (w .crashed)
-        × (w .ones ≡ changedBy (records geometry1) story me)) ⌝ }
+    requires { ⌜ (now table ≡ flags) × (n < 4096) × (4 * n + 4 ≤ length (now events)) × Bounded (now owner) × (me < 4097) × Earlier (now parent)
+        × (length (now start) ≡ 1056) × (length (now store) ≡ 1056) ⌝ }
+    ensures { λ w.
+        let before = pagesOf (now (store .entry)) in
+        let after = pagesOf (now (store .exit)) in
+        ⌜ ((bearer : List ℕ) (begun t : ℕ) → getD bearer t 0 ≡ me →
+        let here = tables (now (owner .entry)) (now (parent .entry)) (now (fate .entry)) bearer begun true in
+        let story = ledgerOf here (now (events .entry)) n .story in
+        let changes = changesBy edition1 (settledIn edition1 (now (start .entry))) story t in
+        Leaves (commitAt geometry1 before changes k) after (w .made) (w .crashed) × (w .ones ≡ changedBy (records geometry1) story me)) ⌝ }
 {
     let map = changed_map(table, events, owner, parent, fate, n, me);
     let ones = commitpage::ones(map);
@@ -282,7 +305,10 @@ pub fn commit_writes(
 // Record r's intention page goes home, if the map names r and anything is left of the count.
 fn recover_record(store: &mut [u8], map: u64, r: u8, left: u8) -> u8
     requires { ⌜ (r < 16) × (length (now store) ≡ 1056) ⌝ }
-    ensures { λ x. ⌜ Phase false left (due (named geometry1 map) (copies 17 (λ j. pagesOf (now (store .entry)) (1 + j))) r) (pagesOf (now (store .entry))) (pagesOf (now (store .exit))) x ⌝ }
+    ensures { λ x.
+        let before = pagesOf (now (store .entry)) in
+        let after = pagesOf (now (store .exit)) in
+        ⌜ Phase false left (due (named geometry1 map) (copies 17 (λ j. before (1 + j))) r) before after x ⌝ }
 {
     if commitpage::names(map, 16, r) & (0 < left) {
         let at = r as usize;

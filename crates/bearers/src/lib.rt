@@ -7,12 +7,12 @@ ghost use lib.ListN.{length, getD, set};
 ghost use Rattle.laws.specs.Tests.{same};
 ghost use Rattle.laws.specs.Counting.{any, lowest};
 ghost use Rattle.rules.specs.Geometry.{transactions};
-ghost use Rattle.links.specs.Links.{entryAt, Earlier};
+ghost use Rattle.links.specs.Links.{entryAt, Earlier, Bounded};
 ghost use Rattle.bearers.specs.Tables.{Matched, takes, Ending};
 
 // The transaction that bears number t, or 0.
 pub fn bearer_of(bearer: &[u16; 24], t: u8) -> usize
-    requires { ⌜ (length (now bearer) ≡ 24) × ((u : ℕ) → getD (now bearer) u 0 < 4097) ⌝ }
+    requires { ⌜ (length (now bearer) ≡ 24) × Bounded (now bearer) ⌝ }
     ensures { λ i. ⌜ (i ≡ entryAt (now (bearer .entry)) t) × (i < 4097) ⌝ }
 {
     let k = t as usize;
@@ -46,8 +46,10 @@ pub fn first_free(bearer: &[u16; 24]) -> usize
 
 // Number t is borne, and the parent of who bears it is i.
 fn is_child(bearer: &[u16; 24], parent: &[u16; 4097], t: usize, i: usize) -> bool
-    requires { ⌜ (t < 24) × ((u : ℕ) → getD (now bearer) u 0 < 4097) × Earlier (now parent) ⌝ }
-    ensures { λ b. ⌜ b ≡ (not (same (entryAt (now (bearer .entry)) t) 0) && same (entryAt (now (parent .entry)) (entryAt (now (bearer .entry)) t)) i) ⌝ }
+    requires { ⌜ (t < 24) × Bounded (now bearer) × Earlier (now parent) ⌝ }
+    ensures { λ b.
+        let u = entryAt (now (bearer .entry)) t in
+        ⌜ b ≡ (not (same u 0) && same (entryAt (now (parent .entry)) u) i) ⌝ }
 {
     let u = bearer[t] as usize;
     if u == 0 {
@@ -58,8 +60,10 @@ fn is_child(bearer: &[u16; 24], parent: &[u16; 4097], t: usize, i: usize) -> boo
 
 // Some live transaction's parent is i.
 pub fn is_parent(bearer: &[u16; 24], parent: &[u16; 4097], i: usize) -> bool
-    requires { ⌜ ((u : ℕ) → getD (now bearer) u 0 < 4097) × Earlier (now parent) ⌝ }
-    ensures { λ b. ⌜ b ≡ any transactions (λ t. not (same (entryAt (now (bearer .entry)) t) 0) && same (entryAt (now (parent .entry)) (entryAt (now (bearer .entry)) t)) i) ⌝ }
+    requires { ⌜ Bounded (now bearer) × Earlier (now parent) ⌝ }
+    ensures { λ b.
+        let bears = entryAt (now (bearer .entry)) in
+        ⌜ b ≡ any transactions (λ t. not (same (bears t) 0) && same (entryAt (now (parent .entry)) (bears t)) i) ⌝ }
 {
     let mut met = false;
     for t in 0..24usize {
@@ -70,8 +74,9 @@ pub fn is_parent(bearer: &[u16; 24], parent: &[u16; 4097], i: usize) -> bool
 
 // Number t is free again, and its transaction has this fate.
 pub fn end(bearer: &mut [u16; 24], fate: &mut [u8; 4097], t: usize, new: u8)
-    requires { ⌜ (t < 24) × ((u : ℕ) → getD (now bearer) u 0 < 4097) × (length (now bearer) ≡ 24) × (length (now fate) ≡ 4097) ⌝ }
-    ensures { λ _. ⌜ (now (fate .exit) ≡ set (now (fate .entry)) (getD (now (bearer .entry)) t 0) new) × (now (bearer .exit) ≡ set (now (bearer .entry)) t 0) ⌝ }
+    requires { ⌜ (t < 24) × Bounded (now bearer) × (length (now bearer) ≡ 24) × (length (now fate) ≡ 4097) ⌝ }
+    ensures { λ _. ⌜ (now (fate .exit) ≡ set (now (fate .entry)) (getD (now (bearer .entry)) t 0) new)
+        × (now (bearer .exit) ≡ set (now (bearer .entry)) t 0) ⌝ }
 {
     let i = bearer[t] as usize;
     fate[i] = new;
@@ -80,8 +85,12 @@ pub fn end(bearer: &mut [u16; 24], fate: &mut [u8; 4097], t: usize, new: u8)
 
 // Who bears number t ends, if it is live and within a (or a is 0).
 fn end_if(bearer: &mut [u16; 24], parent: &[u16; 4097], fate: &mut [u8; 4097], t: usize, a: usize)
-    requires { ⌜ (t < 24) × ((u : ℕ) → getD (now bearer) u 0 < 4097) × (length (now bearer) ≡ 24) × (length (now fate) ≡ 4097) × Earlier (now parent) ⌝ }
-    ensures { λ _. ⌜ (now (fate .exit) ≡ cond (not (same (getD (now (bearer .entry)) t 0) 0) && takes (now (parent .entry)) a (getD (now (bearer .entry)) t 0)) (set (now (fate .entry)) (getD (now (bearer .entry)) t 0) 0) (now (fate .entry))) × (now (bearer .exit) ≡ cond (not (same (getD (now (bearer .entry)) t 0) 0) && takes (now (parent .entry)) a (getD (now (bearer .entry)) t 0)) (set (now (bearer .entry)) t 0) (now (bearer .entry))) ⌝ }
+    requires { ⌜ (t < 24) × Bounded (now bearer) × (length (now bearer) ≡ 24) × (length (now fate) ≡ 4097) × Earlier (now parent) ⌝ }
+    ensures { λ _.
+        let i = getD (now (bearer .entry)) t 0 in
+        let ends = not (same i 0) && takes (now (parent .entry)) a i in
+        ⌜ (now (fate .exit) ≡ cond ends (set (now (fate .entry)) i 0) (now (fate .entry)))
+        × (now (bearer .exit) ≡ cond ends (set (now (bearer .entry)) t 0) (now (bearer .entry))) ⌝ }
 {
     let i = bearer[t] as usize;
     if i == 0 {
@@ -94,8 +103,11 @@ fn end_if(bearer: &mut [u16; 24], parent: &[u16; 4097], fate: &mut [u8; 4097], t
 
 // The live transactions within a end; all, where a is 0.
 pub fn end_within(bearer: &mut [u16; 24], parent: &[u16; 4097], fate: &mut [u8; 4097], a: usize)
-    requires { ⌜ ((u : ℕ) → getD (now bearer) u 0 < 4097) × (length (now bearer) ≡ 24) × (length (now fate) ≡ 4097) × Earlier (now parent) ⌝ }
-    ensures { λ _. ⌜ ((begun : ℕ) → begun < 4097 → Matched (now (fate .entry)) (now (bearer .entry)) begun → Ending (takes (now (parent .entry)) a) 24 (now (fate .entry)) (now (bearer .entry)) (now (fate .exit)) (now (bearer .exit)) × Matched (now (fate .exit)) (now (bearer .exit)) begun) × (length (now (fate .exit)) ≡ 4097) × (length (now (bearer .exit)) ≡ 24) × ((u : ℕ) → getD (now (bearer .exit)) u 0 < 4097) ⌝ }
+    requires { ⌜ Bounded (now bearer) × (length (now bearer) ≡ 24) × (length (now fate) ≡ 4097) × Earlier (now parent) ⌝ }
+    ensures { λ _. ⌜ ((begun : ℕ) → begun < 4097 → Matched (now (fate .entry)) (now (bearer .entry)) begun
+        → Ending (takes (now (parent .entry)) a) 24 (now (fate .entry)) (now (bearer .entry)) (now (fate .exit)) (now (bearer .exit))
+        × Matched (now (fate .exit)) (now (bearer .exit)) begun)
+        × (length (now (fate .exit)) ≡ 4097) × (length (now (bearer .exit)) ≡ 24) × Bounded (now (bearer .exit)) ⌝ }
 {
     for t in 0..24usize {
         end_if(bearer, parent, fate, t, a);

@@ -9,7 +9,7 @@ use Rattle.laws.specs.Tests.{same, under, open-tests}
 use Rattle.laws.proofs.Tests.{same?, Same, is, isnt, ne-false}
 use Rattle.history.specs.History.{History, climbs, isWithin, isCommitted, follows, standsWith, isBearing, isStored, survives, bearing, committed, stored, ended}
 use Rattle.audit.specs.Plain.{Ledger, rises, height, locksWith, blocks}
-use Rattle.links.specs.Links.{fateOf, entryAt, fateIn, upIn, Earlier, Linked}
+use Rattle.links.specs.Links.{fateOf, entryAt, fateIn, upIn, Earlier, Linked, showsTo}
 
 module _ (parent : List ℕ) (E : Earlier parent) where
   abbrev P : ℕ → ℕ
@@ -170,6 +170,6 @@ module _ (l : Ledger) (parent fate : List ℕ) (K : Linked l parent fate) where
   way-is asker i j e = rw (locks-are i, ← e, K .fates, K .parents, bearing-is (getD fate j 0))
 
   pub shows-is : (reader i j : ℕ) → j ≡ rises (entryAt parent) (upIn fate false) i i
-      → (survives (l .story) i || isWithin (l .story) (standsWith (l .story) i) reader) ≡ (same (getD fate j 0) 3 || (not (same j 0) && climbs (entryAt parent) reader j reader))
-  unfolding survives isWithin fateIn
+      → showsTo l reader i ≡ (same (getD fate j 0) 3 || (not (same j 0) && climbs (entryAt parent) reader j reader))
+  unfolding showsTo survives isWithin fateIn
   shows-is reader i j e = rw (stands-are i, ← e, K .fates, K .parents, stored-is (getD fate j 0))

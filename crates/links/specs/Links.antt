@@ -1,11 +1,11 @@
 -- The parent and the fate of each transaction in two arrays, and what a ledger says that they tell.
-use Prim.Native.Nat.{ℕ, _-_, _≤_}
+use Prim.Native.Nat.{ℕ, _-_, _<_, _≤_}
 use mathlib.Core.Path.{_≡_}
-use mathlib.Core.Bool.{Bool, cond, _&&_}
+use mathlib.Core.Bool.{Bool, cond, _&&_, _||_}
 use mathlib.Core.List.{List}
 use lib.ListN.{getD}
 use Rattle.laws.specs.Tests.{same, under}
-use Rattle.history.specs.History.{Fate, bearing, committed, stored, ended, isCommitted}
+use Rattle.history.specs.History.{Fate, bearing, committed, stored, ended, isCommitted, isWithin, standsWith, survives}
 use Rattle.audit.specs.Plain.{Ledger}
 
 -- 32 + t bears the number t; 2 is a child that committed, 3 a top transaction that survives; 0 and 1 are any other end
@@ -34,13 +34,21 @@ upIn fate locks i = cond locks (passedIn fate i) (isCommitted (fateIn fate i))
 abbrev pub Earlier : List ℕ → Type 0
 Earlier parent = (i : ℕ) → getD parent i 0 ≤ i - 1
 
+-- every entry is a transaction that the tables have a place for, or none (0)
+abbrev pub Bounded : List ℕ → Type 0
+Bounded a = (i : ℕ) → getD a i 0 < 4097
+
 -- the arrays tell what the ledger says of parents and fates
 pub record Linked (l : Ledger) (parent fate : List ℕ) : Type 0 where
   pub parents : l .story .parent ≡ entryAt parent
   pub fates : l .story .fate ≡ fateIn fate
   pub passes : l .passed ≡ passedIn fate
 
+-- a write of i shows to a transaction: it survives, or it stands with that one or an ancestor
+unfoldable pub showsTo : Ledger → ℕ → ℕ → Bool
+showsTo l reader i = survives (l .story) i || isWithin (l .story) (standsWith (l .story) i) reader
+
 -- opens the definitions of this module: for what is proved by computing
 unfoldable pub open-links : Unit {0}
-unfolding fateOf passedOf entryAt fateIn passedIn upIn
+unfolding fateOf passedOf entryAt fateIn passedIn upIn showsTo
 open-links = tt

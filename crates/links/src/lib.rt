@@ -2,12 +2,12 @@
 //   parent[i]   its parent, begun before it; 0 for a top one
 //   fate[i]     0 ended; 1 ended, and its locks went up; 2 a child that committed; 3 a top one that survives; 32 + t: it bears the number t
 ghost use mathlib.Core.Path.{_≡_};
-ghost use mathlib.Core.Bool.{cond, not, _&&_, _||_};
+ghost use mathlib.Core.Bool.{cond, not, _&&_};
 ghost use Prim.Native.Nat.{_+_, _-_, _<_, _≤_};
 ghost use Rattle.laws.specs.Tests.{same};
-ghost use Rattle.history.specs.History.{climbs, isWithin, isCommitted, standsWith, survives};
+ghost use Rattle.history.specs.History.{climbs, isCommitted};
 ghost use Rattle.audit.specs.Plain.{Ledger, rises, height, blocks};
-ghost use Rattle.links.specs.Links.{fateOf, passedOf, entryAt, upIn, Earlier, Linked};
+ghost use Rattle.links.specs.Links.{fateOf, passedOf, entryAt, upIn, Earlier, Linked, showsTo};
 
 // A way up from a transaction: where it stands, and how many steps it may still go.
 pub struct Rise {
@@ -36,7 +36,9 @@ pub fn above(parent: &[u16; 4097], i: usize) -> usize
 // One step up, or the end of the way.
 fn one_up(parent: &[u16; 4097], fate: &[u8; 4097], locks: bool, c: Rise) -> Rise
     requires { ⌜ (c .at < 4097) × (0 < c .left) × Earlier (now parent) ⌝ }
-    ensures { λ d. ⌜ (rises (entryAt (now (parent .entry))) (upIn (now (fate .entry)) locks) (d .left) (d .at) ≡ rises (entryAt (now (parent .entry))) (upIn (now (fate .entry)) locks) (c .left) (c .at)) × (d .at < 4097) × (d .left < c .left) × (d .at ≤ c .at) ⌝ }
+    ensures { λ d.
+        let reached = rises (entryAt (now (parent .entry))) (upIn (now (fate .entry)) locks) in
+        ⌜ (reached (d .left) (d .at) ≡ reached (c .left) (c .at)) × (d .at < 4097) × (d .left < c .left) × (d .at ≤ c .at) ⌝ }
 {
     let at = c.at;
     let left = c.left;
@@ -107,7 +109,7 @@ pub fn blocks(parent: &[u16; 4097], fate: &[u8; 4097], asker: usize, i: usize) -
 // A write of i shows to a transaction: it survives, or it stands with that one or an ancestor.
 pub fn shows(parent: &[u16; 4097], fate: &[u8; 4097], reader: usize, i: usize) -> bool
     requires { ⌜ (i < 4097) × (reader < 4097) × Earlier (now parent) ⌝ }
-    ensures { λ r. ⌜ ((l : Ledger) → Linked l (now (parent .entry)) (now (fate .entry)) → r ≡ (survives (l .story) i || isWithin (l .story) (standsWith (l .story) i) reader)) ⌝ }
+    ensures { λ r. ⌜ ((l : Ledger) → Linked l (now (parent .entry)) (now (fate .entry)) → r ≡ showsTo l reader i) ⌝ }
 {
     let j = stands(parent, fate, false, i);
     if fate[j] == 3 {

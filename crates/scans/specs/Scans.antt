@@ -1,6 +1,6 @@
 -- The accepted locks and writes among the first events of a list, by the transactions that own them.
 use Prim.Native.Nat.{ℕ, zero, suc, _*_}
-use mathlib.Core.Bool.{Bool, true, false, cond, _&&_, _||_}
+use mathlib.Core.Bool.{Bool, true, false, cond, _&&_}
 use mathlib.Core.List.{List, [], _∷_}
 use mathlib.Core.Option.{Option, none, some}
 use lib.ListN.{getD, set, take, drop}
@@ -11,8 +11,8 @@ use Rattle.rules.specs.Event.{Event, begin, lock, write, read, commit, abort, c
 use Rattle.rules.specs.State.{Mode, isLock, isWriting}
 use Rattle.rules.specs.Locks.{modeFor}
 use Rattle.rules.specs.Editions.{geometry1}
-use Rattle.history.specs.History.{Write, isWithin, standsWith, survives}
-use Rattle.audit.specs.Plain.{Grant, Ledger}
+use Rattle.history.specs.History.{Write}
+use Rattle.audit.specs.Plain.{Grant}
 
 -- event k of a list of bytes
 unfoldable pub eventAt : List ℕ → ℕ → Option Event
@@ -106,11 +106,7 @@ unfoldable pub writesUpTo : List ℕ → List ℕ → ℕ → List Write
 writesUpTo owner events zero = []
 writesUpTo owner events (suc n) = withWrite (getD owner n 0) (eventAt events n) (writesUpTo owner events n)
 
--- a write of i shows to a transaction
-unfoldable pub showsTo : Ledger → ℕ → ℕ → Bool
-showsTo l reader i = survives (l .story) i || isWithin (l .story) (standsWith (l .story) i) reader
-
 -- opens the definitions of this module: for what is proved by computing
 unfoldable pub open-scans : Unit {0}
-unfolding eventAt modeTest locksAt writesAt byteAt withGrant withWrite grantsTo writesUpTo showsTo
+unfolding eventAt modeTest locksAt writesAt byteAt withGrant withWrite grantsTo writesUpTo
 open-scans = tt

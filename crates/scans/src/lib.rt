@@ -3,15 +3,15 @@
 //   owner[k]   the transaction that event k belongs to, where it is an accepted lock or write; else 0
 ghost use mathlib.Core.Path.{_≡_};
 ghost use mathlib.Core.Bool.{true, cond, not, _&&_};
-ghost use Prim.Native.Nat.{ℕ, _+_, _*_, _<_, _≤_};
+ghost use Prim.Native.Nat.{_+_, _*_, _<_, _≤_};
 ghost use lib.ListN.{length, getD};
 ghost use Rattle.laws.specs.Tests.{same};
 ghost use Rattle.event.specs.Flags.{flags};
 ghost use Rattle.event.specs.Meaning.{meaning, InRange};
 ghost use Rattle.history.specs.History.{standsWith, writesTo, overlaid};
 ghost use Rattle.audit.specs.Plain.{Ledger, blocks, locksOf};
-ghost use Rattle.links.specs.Links.{Earlier, Linked};
-ghost use Rattle.scans.specs.Scans.{eventAt, modeTest, locksAt, writesAt, byteAt, grantsTo, writesUpTo, showsTo};
+ghost use Rattle.links.specs.Links.{Earlier, Bounded, Linked, showsTo};
+ghost use Rattle.scans.specs.Scans.{eventAt, modeTest, locksAt, writesAt, byteAt, grantsTo, writesUpTo};
 use event::Event;
 
 // Event k.
@@ -24,7 +24,7 @@ pub fn event_at(table: &[u32; 16], events: &[u8], k: usize) -> Event
 
 // The transaction that event k belongs to, or 0.
 fn owner_of(owner: &[u16; 4096], k: usize) -> usize
-    requires { ⌜ (k < 4096) × ((j : ℕ) → getD (now owner) j 0 < 4097) ⌝ }
+    requires { ⌜ (k < 4096) × Bounded (now owner) ⌝ }
     ensures { λ i. ⌜ (i ≡ getD (now (owner .entry)) k 0) × (i < 4097) ⌝ }
 {
     owner[k] as usize
@@ -48,7 +48,7 @@ fn own_lock(
     r: u8,
     any: bool,
 ) -> bool
-    requires { ⌜ (now table ≡ flags) × (k < 4096) × (4 * k + 4 ≤ length (now events)) × ((j : ℕ) → getD (now owner) j 0 < 4097) ⌝ }
+    requires { ⌜ (now table ≡ flags) × (k < 4096) × (4 * k + 4 ≤ length (now events)) × Bounded (now owner) ⌝ }
     ensures { λ b. ⌜ b ≡ (same (getD (now (owner .entry)) k 0) me && locksAt (eventAt (now (events .entry)) k) r (modeTest any)) ⌝ }
 {
     if owner_of(owner, k) != me {
@@ -67,7 +67,7 @@ pub fn holds(
     r: u8,
     any: bool,
 ) -> bool
-    requires { ⌜ (now table ≡ flags) × (n ≤ 4096) × (4 * n ≤ length (now events)) × (0 < me) × ((j : ℕ) → getD (now owner) j 0 < 4097) ⌝ }
+    requires { ⌜ (now table ≡ flags) × (n ≤ 4096) × (4 * n ≤ length (now events)) × (0 < me) × Bounded (now owner) ⌝ }
     ensures { λ b. ⌜ b ≡ locksOf (modeTest any) (λ i. same i me) r (grantsTo (now (owner .entry)) (now (events .entry)) n) ⌝ }
 {
     let mut met = false;
@@ -89,8 +89,12 @@ fn bars(
     r: u8,
     any: bool,
 ) -> bool
-    requires { ⌜ (now table ≡ flags) × (k < 4096) × (4 * k + 4 ≤ length (now events)) × Earlier (now parent) × ((j : ℕ) → getD (now owner) j 0 < 4097) × (me < 4097) ⌝ }
-    ensures { λ b. ⌜ ((l : Ledger) → Linked l (now (parent .entry)) (now (fate .entry)) → b ≡ (not (same (getD (now (owner .entry)) k 0) 0) && (blocks l me (getD (now (owner .entry)) k 0) && locksAt (eventAt (now (events .entry)) k) r (modeTest any)))) ⌝ }
+    requires { ⌜ (now table ≡ flags) × (k < 4096) × (4 * k + 4 ≤ length (now events)) × Earlier (now parent) × Bounded (now owner) × (me < 4097) ⌝ }
+    ensures { λ b.
+        let i = getD (now (owner .entry)) k 0 in
+        let e = eventAt (now (events .entry)) k in
+        ⌜ ((l : Ledger) → Linked l (now (parent .entry)) (now (fate .entry))
+        → b ≡ (not (same i 0) && (blocks l me i && locksAt e r (modeTest any)))) ⌝ }
 {
     let i = owner_of(owner, k);
     if i == 0 {
@@ -114,8 +118,9 @@ pub fn barred(
     r: u8,
     any: bool,
 ) -> bool
-    requires { ⌜ (now table ≡ flags) × (n ≤ 4096) × (4 * n ≤ length (now events)) × Earlier (now parent) × ((j : ℕ) → getD (now owner) j 0 < 4097) × (me < 4097) ⌝ }
-    ensures { λ b. ⌜ ((l : Ledger) → Linked l (now (parent .entry)) (now (fate .entry)) → b ≡ locksOf (modeTest any) (blocks l me) r (grantsTo (now (owner .entry)) (now (events .entry)) n)) ⌝ }
+    requires { ⌜ (now table ≡ flags) × (n ≤ 4096) × (4 * n ≤ length (now events)) × Earlier (now parent) × Bounded (now owner) × (me < 4097) ⌝ }
+    ensures { λ b. ⌜ ((l : Ledger) → Linked l (now (parent .entry)) (now (fate .entry))
+        → b ≡ locksOf (modeTest any) (blocks l me) r (grantsTo (now (owner .entry)) (now (events .entry)) n)) ⌝ }
 {
     let mut met = false;
     for k in 0..n {
@@ -143,8 +148,12 @@ fn own_write(
     me: usize,
     r: u8,
 ) -> bool
-    requires { ⌜ (now table ≡ flags) × (k < 4096) × (4 * k + 4 ≤ length (now events)) × Earlier (now parent) × ((j : ℕ) → getD (now owner) j 0 < 4097) × (me < 4097) ⌝ }
-    ensures { λ b. ⌜ ((l : Ledger) → Linked l (now (parent .entry)) (now (fate .entry)) → b ≡ (not (same (getD (now (owner .entry)) k 0) 0) && (same (standsWith (l .story) (getD (now (owner .entry)) k 0)) me && writesAt (eventAt (now (events .entry)) k) r))) ⌝ }
+    requires { ⌜ (now table ≡ flags) × (k < 4096) × (4 * k + 4 ≤ length (now events)) × Earlier (now parent) × Bounded (now owner) × (me < 4097) ⌝ }
+    ensures { λ b.
+        let i = getD (now (owner .entry)) k 0 in
+        let e = eventAt (now (events .entry)) k in
+        ⌜ ((l : Ledger) → Linked l (now (parent .entry)) (now (fate .entry))
+        → b ≡ (not (same i 0) && (same (standsWith (l .story) i) me && writesAt e r))) ⌝ }
 {
     let i = owner_of(owner, k);
     if i == 0 {
@@ -168,8 +177,9 @@ pub fn changes(
     me: usize,
     r: u8,
 ) -> bool
-    requires { ⌜ (now table ≡ flags) × (n ≤ 4096) × (4 * n ≤ length (now events)) × Earlier (now parent) × ((j : ℕ) → getD (now owner) j 0 < 4097) × (me < 4097) ⌝ }
-    ensures { λ b. ⌜ ((l : Ledger) → Linked l (now (parent .entry)) (now (fate .entry)) → b ≡ writesTo (λ i. same (standsWith (l .story) i) me) r (writesUpTo (now (owner .entry)) (now (events .entry)) n)) ⌝ }
+    requires { ⌜ (now table ≡ flags) × (n ≤ 4096) × (4 * n ≤ length (now events)) × Earlier (now parent) × Bounded (now owner) × (me < 4097) ⌝ }
+    ensures { λ b. ⌜ ((l : Ledger) → Linked l (now (parent .entry)) (now (fate .entry))
+        → b ≡ writesTo (λ i. same (standsWith (l .story) i) me) r (writesUpTo (now (owner .entry)) (now (events .entry)) n)) ⌝ }
 {
     let mut met = false;
     for k in 0..n {
@@ -190,8 +200,13 @@ fn lay(
     me: usize,
     r: u8,
 )
-    requires { ⌜ (now table ≡ flags) × (k < 4096) × (4 * k + 4 ≤ length (now events)) × Earlier (now parent) × ((j : ℕ) → getD (now owner) j 0 < 4097) × (me < 4097) ⌝ }
-    ensures { λ _. ⌜ ((l : Ledger) → Linked l (now (parent .entry)) (now (fate .entry)) → now (page .exit) ≡ cond (not (same (getD (now (owner .entry)) k 0) 0) && (showsTo l me (getD (now (owner .entry)) k 0) && writesAt (eventAt (now (events .entry)) k) r)) (byteAt (eventAt (now (events .entry)) k) (now (page .entry))) (now (page .entry))) ⌝ }
+    requires { ⌜ (now table ≡ flags) × (k < 4096) × (4 * k + 4 ≤ length (now events)) × Earlier (now parent) × Bounded (now owner) × (me < 4097) ⌝ }
+    ensures { λ _.
+        let i = getD (now (owner .entry)) k 0 in
+        let e = eventAt (now (events .entry)) k in
+        let before = now (page .entry) in
+        ⌜ ((l : Ledger) → Linked l (now (parent .entry)) (now (fate .entry))
+        → now (page .exit) ≡ cond (not (same i 0) && (showsTo l me i && writesAt e r)) (byteAt e before) before) ⌝ }
 {
     let i = owner_of(owner, k);
     if i == 0 {
@@ -217,8 +232,9 @@ pub fn page_of(
     me: usize,
     r: u8,
 ) -> [u8; 32]
-    requires { ⌜ (now table ≡ flags) × (n ≤ 4096) × (4 * n ≤ length (now events)) × Earlier (now parent) × ((j : ℕ) → getD (now owner) j 0 < 4097) × (me < 4097) ⌝ }
-    ensures { λ p. ⌜ ((l : Ledger) → Linked l (now (parent .entry)) (now (fate .entry)) → p ≡ overlaid (showsTo l me) r (writesUpTo (now (owner .entry)) (now (events .entry)) n) settled) ⌝ }
+    requires { ⌜ (now table ≡ flags) × (n ≤ 4096) × (4 * n ≤ length (now events)) × Earlier (now parent) × Bounded (now owner) × (me < 4097) ⌝ }
+    ensures { λ p. ⌜ ((l : Ledger) → Linked l (now (parent .entry)) (now (fate .entry))
+        → p ≡ overlaid (showsTo l me) r (writesUpTo (now (owner .entry)) (now (events .entry)) n) settled) ⌝ }
 {
     let mut page = settled;
     for k in 0..n {

@@ -33,7 +33,8 @@ pub fn has_child(children: &[u32; 32], t: u8) -> bool
 // f is live, under p.
 pub fn enrol(live: &mut u32, children: &mut [u32; 32], p: u8, f: u8)
     requires { ⌜ (p < 32) × (f < 24) ⌝ }
-    ensures { λ _. ⌜ (bits (now (live .exit)) ≡ (λ k. bits (now (live .entry)) k || same k f)) × Row p (λ k. sets (now (children .entry)) p k || same k f) (now (children .entry)) (now (children .exit)) ⌝ }
+    ensures { λ _. ⌜ (bits (now (live .exit)) ≡ (λ k. bits (now (live .entry)) k || same k f))
+        × Row p (λ k. sets (now (children .entry)) p k || same k f) (now (children .entry)) (now (children .exit)) ⌝ }
 {
     let i = p as usize;
     *live = sets::with(*live, f);
@@ -43,7 +44,8 @@ pub fn enrol(live: &mut u32, children: &mut [u32; 32], p: u8, f: u8)
 // t, under p, is live no more.
 pub fn strike(live: &mut u32, children: &mut [u32; 32], p: u8, t: u8)
     requires { ⌜ (p < 32) × (t < 24) ⌝ }
-    ensures { λ _. ⌜ (bits (now (live .exit)) ≡ (λ k. not (same k t) && bits (now (live .entry)) k)) × Row p (λ k. not (same k t) && sets (now (children .entry)) p k) (now (children .entry)) (now (children .exit)) ⌝ }
+    ensures { λ _. ⌜ (bits (now (live .exit)) ≡ (λ k. not (same k t) && bits (now (live .entry)) k))
+        × Row p (λ k. not (same k t) && sets (now (children .entry)) p k) (now (children .entry)) (now (children .exit)) ⌝ }
 {
     let i = p as usize;
     *live = sets::without(*live, t);
@@ -121,7 +123,9 @@ pub fn place(
     above: u32,
 )
     requires { ⌜ (f < 24) × (d ≤ depths) ⌝ }
-    ensures { λ _. ⌜ (now (parent .exit) ≡ set (now (parent .entry)) f p) × (now (depth .exit) ≡ set (now (depth .entry)) f d) × Row f (λ k. bits above k || same k f) (now (line .entry)) (now (line .exit)) ⌝ }
+    ensures { λ _. ⌜ (now (parent .exit) ≡ set (now (parent .entry)) f p)
+        × (now (depth .exit) ≡ set (now (depth .entry)) f d)
+        × Row f (λ k. bits above k || same k f) (now (line .entry)) (now (line .exit)) ⌝ }
 {
     let i = f as usize;
     parent[i] = p;
@@ -132,7 +136,9 @@ pub fn place(
 // The number t is free again.
 pub fn retire(parent: &mut [u8; 24], depth: &mut [u8; 24], line: &mut [u32; 24], t: u8)
     requires { ⌜ (t < 24) × (length (now parent) ≡ 24) × (length (now depth) ≡ 24) × (length (now line) ≡ 24) ⌝ }
-    ensures { λ _. ⌜ Cleared (λ k. same k t) (now (parent .entry)) (now (parent .exit)) × Cleared (λ k. same k t) (now (depth .entry)) (now (depth .exit)) × Cleared (λ k. same k t) (now (line .entry)) (now (line .exit)) ⌝ }
+    ensures { λ _. ⌜ Cleared (λ k. same k t) (now (parent .entry)) (now (parent .exit))
+        × Cleared (λ k. same k t) (now (depth .entry)) (now (depth .exit))
+        × Cleared (λ k. same k t) (now (line .entry)) (now (line .exit)) ⌝ }
 {
     let i = t as usize;
     parent[i] = 0;
@@ -143,7 +149,11 @@ pub fn retire(parent: &mut [u8; 24], depth: &mut [u8; 24], line: &mut [u32; 24],
 // The number j is free again, if gone has it.
 fn end_one(parent: &mut [u8; 24], depth: &mut [u8; 24], line: &mut [u32; 24], gone: u32, j: usize)
     requires { ⌜ (j < 24) × (length (now parent) ≡ 24) × (length (now depth) ≡ 24) × (length (now line) ≡ 24) ⌝ }
-    ensures { λ _. ⌜ (now (parent .exit) ≡ cond (bits gone j) (set (now (parent .entry)) j 0) (now (parent .entry))) × (now (depth .exit) ≡ cond (bits gone j) (set (now (depth .entry)) j 0) (now (depth .entry))) × (now (line .exit) ≡ cond (bits gone j) (set (now (line .entry)) j 0) (now (line .entry))) ⌝ }
+    ensures { λ _.
+        let ends = bits gone j in
+        ⌜ (now (parent .exit) ≡ cond ends (set (now (parent .entry)) j 0) (now (parent .entry)))
+        × (now (depth .exit) ≡ cond ends (set (now (depth .entry)) j 0) (now (depth .entry)))
+        × (now (line .exit) ≡ cond ends (set (now (line .entry)) j 0) (now (line .entry))) ⌝ }
 {
     if sets::contains(gone, (j % 256) as u8) {
         parent[j] = 0;
@@ -155,7 +165,9 @@ fn end_one(parent: &mut [u8; 24], depth: &mut [u8; 24], line: &mut [u32; 24], go
 // The numbers of the transactions in gone are free again.
 pub fn end(parent: &mut [u8; 24], depth: &mut [u8; 24], line: &mut [u32; 24], gone: u32)
     requires { ⌜ (length (now parent) ≡ 24) × (length (now depth) ≡ 24) × (length (now line) ≡ 24) ⌝ }
-    ensures { λ _. ⌜ Cleared (bits gone) (now (parent .entry)) (now (parent .exit)) × Cleared (bits gone) (now (depth .entry)) (now (depth .exit)) × Cleared (bits gone) (now (line .entry)) (now (line .exit)) ⌝ }
+    ensures { λ _. ⌜ Cleared (bits gone) (now (parent .entry)) (now (parent .exit))
+        × Cleared (bits gone) (now (depth .entry)) (now (depth .exit))
+        × Cleared (bits gone) (now (line .entry)) (now (line .exit)) ⌝ }
 {
     for j in 0..24 {
         end_one(parent, depth, line, gone, j);

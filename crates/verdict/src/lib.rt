@@ -29,7 +29,12 @@ fn answered(answers: &[u8], k: usize, number: u8, value: u8) -> bool
 // The first of n events whose answer isn't the one that is due, or n; then the store is the one that is due.
 fn walk(start: &[u8], store: &mut [u8], events: &[u8], answers: &[u8], n: usize) -> usize
     requires { ⌜ (n ≤ 4096) × (4 * n ≤ length (now events)) × (2 * n ≤ length (now answers)) × (length (now start) ≡ 1056) × (length (now store) ≡ 1056) ⌝ }
-    ensures { λ r. ⌜ (r ≤ n) × (walk edition1 (settledIn edition1 (now (start .entry))) (now (answers .entry)) blankLedger (pagesOf (now (store .entry))) 0 (words geometry1 n (now (events .entry))) ≡ cond (under r n) (wrong r) (right (pagesOf (now (store .exit))))) ⌝ }
+    ensures { λ r.
+        let settled = settledIn edition1 (now (start .entry)) in
+        let before = pagesOf (now (store .entry)) in
+        let after = pagesOf (now (store .exit)) in
+        let list = words geometry1 n (now (events .entry)) in
+        ⌜ (r ≤ n) × (walk edition1 settled (now (answers .entry)) blankLedger before 0 list ≡ cond (under r n) (wrong r) (right after)) ⌝ }
 {
     let table = Event::table();
     let mut owner = [0u16; 4096];
@@ -138,7 +143,10 @@ fn copied(store: &[u8]) -> [u8; 1056]
 
 // The number of the first refusal, in the order 22, 20, 21, 30, or 0.
 fn refusal(start: &[u8], events: &[u8], answers: &[u8], end: &[u8]) -> u8
-    ensures { λ r. ⌜ (firstOf (auditRefusals edition1 (now (start .entry)) (now (events .entry)) (now (answers .entry)) (now (end .entry))) ≡ refusalOf r) × (r ≡ 0 → Fit (length (now (start .entry))) (length (now (events .entry))) (length (now (answers .entry))) (length (now (end .entry)))) ⌝ }
+    ensures { λ r.
+        let refusals = auditRefusals edition1 (now (start .entry)) (now (events .entry)) (now (answers .entry)) (now (end .entry)) in
+        ⌜ (firstOf refusals ≡ refusalOf r)
+        × (r ≡ 0 → Fit (length (now (start .entry))) (length (now (events .entry))) (length (now (answers .entry))) (length (now (end .entry)))) ⌝ }
 {
     if (start.len() != 1056) | (end.len() != 1056) {
         return 22;
@@ -160,7 +168,9 @@ fn refusal(start: &[u8], events: &[u8], answers: &[u8], end: &[u8]) -> u8
 // Whether a start store, a list of events, its answers and an end store belong together: 0 if so; 1 if not, and the place of the first wrong event;
 // 2, where every event is right, and the place of the first wrong page; or a refusal's number.
 pub fn audit(start: &[u8], events: &[u8], answers: &[u8], end: &[u8], place: &mut u16) -> u8
-    ensures { λ r. ⌜ (r ≡ numberIn (audit1 (now (start .entry)) (now (events .entry)) (now (answers .entry)) (now (end .entry)))) × (now (place .exit) ≡ placeIn (audit1 (now (start .entry)) (now (events .entry)) (now (answers .entry)) (now (end .entry))) (now (place .entry))) ⌝ }
+    ensures { λ r.
+        let verdict = audit1 (now (start .entry)) (now (events .entry)) (now (answers .entry)) (now (end .entry)) in
+        ⌜ (r ≡ numberIn verdict) × (now (place .exit) ≡ placeIn verdict (now (place .entry))) ⌝ }
 {
     let refused = refusal(start, events, answers, end);
     if refused != 0 {

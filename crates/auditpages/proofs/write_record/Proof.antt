@@ -7,7 +7,8 @@ use Rattle.rules.specs.Store.{Page, pagesOf, named}
 use Rattle.rules.specs.Editions.{geometry1}
 use Rattle.auditpages.proofs.Rows.{row-written, row-left, some-left}
 use Rattle.history.specs.History.{overlaid}
-use Rattle.scans.specs.Scans.{writesUpTo, showsTo}
+use Rattle.links.specs.Links.{showsTo}
+use Rattle.scans.specs.Scans.{writesUpTo}
 use Rattle.auditpages.specs.Changed.{changedPage}
 use Rattle.commitpage.proofs.Places.{layout1}
 use borrow.Author.Needs.{needs}

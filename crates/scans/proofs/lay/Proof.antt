@@ -4,7 +4,7 @@ use mathlib.Core.Bool.{true, false, and-false}
 use Prim.Native.Nat.{_-_}
 use lib.ListN.{getD}
 use Rattle.laws.proofs.Tests.{same-refl, ne-false}
-use Rattle.scans.specs.Scans.{showsTo}
+use Rattle.links.specs.Links.{showsTo}
 use Rattle.scans.proofs.More.{byte-is}
 use borrow.Author.Needs.{needs}
 use Rattle.scans.proofs.lay.Statement.{statement}
@@ -40,12 +40,10 @@ element-write-page c = search needs
 
 -- src/lib.rt:129:1
 returns-2 : tie.Need-returns-2
-unfolding showsTo
 returns-2 c = λ l K. let a = c .before .before .before .before .before .before .before .before .before .args in let z = ne-false (getD (a .owner .now) (a .k) 0) 0 (λ q. c .before .before .before .before .before .before .if1 .left (c .before .before .before .before .before .before .before .owner-of .ensures .0 ∙ q)) in let t = sym (c .before .before .before .before .writes .ensures .0) ∙ c .before .before .before .if2 .taken in let s : showsTo l (a .me) (getD (a .owner .now) (a .k) 0) ≡ true = ap (showsTo l (a .me)) (sym (c .before .before .before .before .before .before .before .owner-of .ensures .0)) ∙ sym (c .before .before .shows .ensures l K) ∙ c .before .if3 .taken in rw (z, c .before .before .before .before .before .event-at .ensures .0, t, s) (sym (byte-is (c .before .before .before .before .before .event-at .result) (a .page .now) (c .before .before .before .before .writes .ensures .1 (c .before .before .before .if2 .taken))))
 
 -- src/lib.rt:129:1
 returns-3 : tie.Need-returns-3
-unfolding showsTo
 returns-3 c = λ l K. let a = c .before .before .before .before .before .before .before .before .args in let s : showsTo l (a .me) (getD (a .owner .now) (a .k) 0) ≡ false = ap (showsTo l (a .me)) (sym (c .before .before .before .before .before .before .owner-of .ensures .0)) ∙ sym (c .before .shows .ensures l K) ∙ c .if3 .left in rw (s, and-false)
 
 -- src/lib.rt:129:1

@@ -5,8 +5,8 @@ use native.Mathlib.Omega.{arith}
 use borrow.Author.Needs.{needs}
 use Rattle.history.specs.History.{overlaid}
 use Rattle.audit.specs.Plain.{Ledger}
-use Rattle.links.specs.Links.{Linked}
-use Rattle.scans.specs.Scans.{writesUpTo, showsTo}
+use Rattle.links.specs.Links.{Linked, showsTo}
+use Rattle.scans.specs.Scans.{writesUpTo}
 use Rattle.scans.proofs.More.{lay-scan}
 use Rattle.scans.proofs.page_of.Statement.{statement}
 use Rattle.scans.proofs.page_of.Tie as tie
