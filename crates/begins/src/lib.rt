@@ -1,12 +1,13 @@
 // A begin: under nobody at the top, or under a live transaction.
 ghost use mathlib.Core.Path.{_≡_};
+ghost use mathlib.Core.Bool.{Bool};
 ghost use mathlib.Core.List.{List};
 ghost use mathlib.Core.Option.{some};
 ghost use Prim.Native.Nat.{ℕ, _<_, _≤_};
 ghost use lib.ListN.{length, getD};
 ghost use Rattle.laws.specs.Bits.{bits};
 ghost use Rattle.rules.specs.Event.{begin};
-ghost use Rattle.rules.specs.Editions.{depths, Edition, formOf};
+ghost use Rattle.rules.specs.Editions.{depths, Edition, geometryOf, formIn};
 ghost use Rattle.sets.specs.Sets.{sets};
 ghost use Rattle.arrays.specs.Kin.{Kin};
 ghost use Rattle.state.specs.Whole.{arrays, Intact, Stepped};
@@ -27,10 +28,11 @@ fn begin_under(
 ) -> Answer
     requires { ⌜ (d < depths) × (d ≡ getD (now depth) p 0) × (bits above ≡ sets (now line) p) × ((d ≡ 0) → p ≡ 31) × (p < 32)
         × (length (now parent) ≡ 24) × (length (now depth) ≡ 24) × Kin (now parent) (now depth) (now live) (now children) ⌝ }
-    ensures { λ a. ⌜ ((k : Edition) (up : ℕ) (held retained writers work store : List ℕ) →
+    ensures { λ a. ⌜ ((k : Edition) (tears : Bool) (up : ℕ) (held retained writers work store : List ℕ) →
         let before = arrays up (now (parent .entry)) (now (depth .entry)) (now (line .entry)) held retained writers work store in
         let after = arrays up (now (parent .exit)) (now (depth .exit)) (now (line .exit)) held retained writers work store in
-        Intact (formOf k) before → up ≡ 1 → Stepped (formOf k) before (some (begin p)) a after) ⌝ }
+        let form = formIn tears (geometryOf k) in
+        Intact form before → up ≡ 1 → Stepped form before (some (begin p)) a after) ⌝ }
     ensures { λ _. ⌜ Kin (now (parent .exit)) (now (depth .exit)) (now (live .exit)) (now (children .exit)) ⌝ }
 {
     let f = transactions::first_free(*live);
@@ -59,10 +61,11 @@ pub fn begin_event(
 ) -> Answer
     requires { ⌜ (p < 32) × (length (now depth) ≡ 24) × (length (now line) ≡ 24) × ((k : ℕ) → getD (now depth) k 0 ≤ depths)
         × (length (now parent) ≡ 24) × Kin (now parent) (now depth) (now live) (now children) ⌝ }
-    ensures { λ a. ⌜ ((k : Edition) (up : ℕ) (held retained writers work store : List ℕ) →
+    ensures { λ a. ⌜ ((k : Edition) (tears : Bool) (up : ℕ) (held retained writers work store : List ℕ) →
         let before = arrays up (now (parent .entry)) (now (depth .entry)) (now (line .entry)) held retained writers work store in
         let after = arrays up (now (parent .exit)) (now (depth .exit)) (now (line .exit)) held retained writers work store in
-        Intact (formOf k) before → up ≡ 1 → Stepped (formOf k) before (some (begin p)) a after) ⌝ }
+        let form = formIn tears (geometryOf k) in
+        Intact form before → up ≡ 1 → Stepped form before (some (begin p)) a after) ⌝ }
     ensures { λ _. ⌜ Kin (now (parent .exit)) (now (depth .exit)) (now (live .exit)) (now (children .exit)) ⌝ }
 {
     if p == 31 {

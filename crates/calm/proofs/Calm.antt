@@ -11,10 +11,11 @@ use Rattle.rules.specs.Store.{Page, pagesOf, readCommit, isEmptied, emptied, id
 use Rattle.rules.specs.Step.{isBusy}
 use Rattle.rules.specs.Sound.{isCalm}
 use Rattle.rules.specs.Pairs.{shown, pairsOf, emptiedPairs}
+use Rattle.rules.specs.Editions.{mediumOf}
 use Rattle.rules.proofs.Plain.{none-prepared}
 use Rattle.commitpage.specs.Heard.{heard}
 use Rattle.commitpage.specs.declared.CommitMap.{CommitMap}
-use Rattle.counted.specs.Phase.{storeOf, strideOf, shownIn, mediumOf}
+use Rattle.counted.specs.Phase.{storeOf, strideOf, shownIn}
 use Rattle.calm.specs.Whole.{wholeIn}
 
 -- a store has room for each of its pages

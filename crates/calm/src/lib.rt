@@ -9,8 +9,9 @@ ghost use Rattle.laws.specs.Counting.{all};
 ghost use Rattle.rules.specs.Geometry.{Geometry};
 ghost use Rattle.rules.specs.Sound.{isCalm};
 ghost use Rattle.rules.specs.Pairs.{pairsOf, isGood, isWhole};
+ghost use Rattle.rules.specs.Editions.{mediumOf};
 ghost use Rattle.commitpage.specs.Layout.{Known, Layout};
-ghost use Rattle.counted.specs.Phase.{strideOf, storeOf, mediumOf};
+ghost use Rattle.counted.specs.Phase.{strideOf, storeOf};
 ghost use Rattle.calm.specs.Whole.{wholeIn};
 
 // The bytes of a copy: its status, then a page. The bytes of a pair.

@@ -20,8 +20,9 @@ use Rattle.rules.proofs.Map.{mapOf-named, mapOf-same, named-zero, names-none}
 use Rattle.rules.proofs.Members.{those-all}
 use Rattle.rules.specs.State.{mem}
 use Rattle.rules.specs.Pairs.{shown, mended, commitPairs, recoverPairs}
+use Rattle.rules.specs.Editions.{mediumOf}
 use Rattle.rules.proofs.Pairs.{shows-mend}
-use Rattle.counted.specs.Phase.{StoreOf, storeOf, shownIn, mendedIn, cutOn, share, Phase, madeOf, Leaves, mediumOf}
+use Rattle.counted.specs.Phase.{StoreOf, storeOf, shownIn, mendedIn, cutOn, share, Phase, madeOf, Leaves}
 use Rattle.counted.proofs.Phases.{phase-then, phase-last, none-left}
 use Rattle.commit.specs.Phase.{sweep, copies, topSlot, versionsIn}
 use Rattle.commit.proofs.Sweeps.{sweep-same}

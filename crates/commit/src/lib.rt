@@ -13,9 +13,10 @@ ghost use lib.ListN.{length};
 ghost use Rattle.rules.specs.Geometry.{Geometry, records};
 ghost use Rattle.rules.specs.Store.{pagesOf, named, commitPage, readCommit, mapIn, preparedPage, readPrepared};
 ghost use Rattle.rules.specs.Commit.{sets, prepareAt, decideAt};
+ghost use Rattle.rules.specs.Editions.{mediumOf};
 ghost use Rattle.commitpage.specs.Heard.{overheard, prepared};
 ghost use Rattle.commitpage.specs.Layout.{Known, Layout};
-ghost use Rattle.counted.specs.Phase.{Phase, Leaves, storeOf, strideOf, shownIn, mediumOf};
+ghost use Rattle.counted.specs.Phase.{Phase, Leaves, storeOf, strideOf, shownIn};
 ghost use Rattle.commit.specs.Phase.{due, sweep, copies, topSlot, versionsIn, understoodIn};
 
 // How many page writes were made, and whether a crash came before all were.

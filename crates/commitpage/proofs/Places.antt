@@ -21,8 +21,8 @@ use Rattle.laws.proofs.Those.{count-le}
 use Rattle.laws.proofs.Bytes.{sameList-refl, sameList-eq, number-bytes, bytes-length}
 use Rattle.rules.specs.Geometry.{Geometry, records}
 use Rattle.rules.specs.Store.{commitPage, readCommit, mapIn, isDamaged, Prepared, preparedPage, readPrepared, isPrepared, behindMap, named}
-use Rattle.rules.specs.Editions.{geometry1, geometry2, Edition, first, second, geometryOf}
-use Rattle.rules.proofs.Editions.{proper1, proper2}
+use Rattle.rules.specs.Editions.{geometry1, geometry2, geometryPairs, Edition, first, second, paired, geometryOf}
+use Rattle.rules.proofs.Editions.{proper1, proper2, proper-pairs}
 use Rattle.rules.proofs.CommitPage.{read-commitPage, damaged-if}
 use Rattle.rules.proofs.PreparedPage.{read-preparedPage, prepared-is, unprepared-if}
 use Rattle.commitpage.specs.Heard.{heard, overheard, prepared, understood}
@@ -352,18 +352,25 @@ pub layout2 : Layout geometry2 64
 unfolding records behindMap headOf placeOf same
 layout2 = record { proper = proper2; many = refl; edition = refl; map-bytes = refl; behind-bytes = refl; count-place = refl }
 
+pub layout-pairs : Layout geometryPairs 16
+unfolding records behindMap headOf placeOf same
+layout-pairs = record { proper = proper-pairs; many = refl; edition = refl; map-bytes = refl; behind-bytes = refl; count-place = refl }
+
 pub laid : (k : Edition) → Layout (geometryOf k) (records (geometryOf k))
 unfolding records
 laid first = layout1
 laid second = layout2
+laid paired = layout-pairs
 
 -- their numbers of records are known; sixteen where transactions can be prepared
 pub known-records : (k : Edition) → Known (records (geometryOf k))
 unfolding records
 known-records first = inl refl
 known-records second = inr refl
+known-records paired = inl refl
 
 pub joint-sixteen : (k : Edition) → geometryOf k .joint ≡ true → records (geometryOf k) ≡ 16
 unfolding records
 joint-sixteen first e = refl
 joint-sixteen second e = absurd (true≢false (sym e))
+joint-sixteen paired e = absurd (true≢false (sym e))

@@ -12,16 +12,16 @@ use Rattle.laws.specs.Tests.{same}
 use Rattle.laws.specs.Bits.{bits}
 use Rattle.laws.proofs.Tests.{same?, Same, is, isnt, same-refl, same-eq, ne-false, Is, is?, yes′, no′}
 use Rattle.laws.proofs.Booleans.{clash, or-cases, both, not-true, not-false}
-use Rattle.rules.specs.Store.{Page, Pages, pagesOf, mapOf}
+use Rattle.rules.specs.Store.{Page, pagesOf, mapOf}
 use Rattle.rules.specs.Event.{Event, commit, prepare}
 use Rattle.rules.specs.State.{Bearers, chain, lineOf, mem, live, down}
 use Rattle.rules.specs.Versions.{also, handedUp, dropped}
-use Rattle.rules.specs.Commit.{Cut, commitAt, prepareAt}
+use Rattle.rules.specs.Commit.{Cut, prepareAt}
 use Rattle.rules.specs.Step.{done, cut, hasChild, ended, passed, retaining, concluded, numberOf, valueOf, changes, busy, commitsTop, commitsChild, commits, step}
 use Rattle.rules.specs.Sound.{inLine}
 use Rattle.rules.specs.Geometry.{Geometry, Proper, records}
-use Rattle.rules.specs.Form.{Form, atomic}
-use Rattle.rules.specs.Editions.{depths}
+use Rattle.rules.specs.Form.{Form, Medium}
+use Rattle.rules.specs.Editions.{depths, mediumOf, formIn}
 use Rattle.rules.proofs.Locks.{rooted-of, no-child, versions-in-line, line-apart}
 use Rattle.rules.proofs.Soundness.{alone-closed}
 use Rattle.sets.specs.Sets.{sets}
@@ -32,7 +32,7 @@ use Rattle.arrays.proofs.Nested.{inheriting-nested}
 use Rattle.arrays.proofs.Modes.{leaving-discarded, inheriting-inherited}
 use Rattle.slots.specs.Parts.{lifted}
 use Rattle.slots.proofs.Lifting.{hit, miss-depth, miss-row}
-use Rattle.counted.specs.Phase.{Leaves}
+use Rattle.counted.specs.Phase.{Leaves, strideOf}
 use Rattle.commit.specs.Phase.{versionsIn}
 use Rattle.state.specs.Whole.{Arrays, arrays, view, lineIn, Intact, saying, Stepped, Ready, Reserves}
 use Rattle.state.proofs.Rules.{commit-done, commit-busy, commit-refused, prepare-children, prepare-busy, prepare-beneath, prepare-done}
@@ -60,9 +60,21 @@ else-top b d e q = same-eq d 1 (not-false (same d 1) (rw q at e))
 turned : (l l′ : List ℕ) {m n : ℕ} {p q : ℕ → Bool} → m ≡ n → p ≡ q → Rows m (leaving p (sets l)) l′ → Rows n (leaving q (sets l)) l′
 turned l l′ e o r = record { are = r .are ∙ ap (λ (d : ℕ → Bool). leaving d (sets l)) o; long = r .long ∙ e }
 
-module _ (g : Geometry) where
+-- the same page writes
+pub settled-pages : (m : Medium) (b c : Bool) (s t : m .Store) (v : ℕ → Option Page) (i k n : ℕ) (d : Bool) → c ≡ b → Leaves (settlingAt m b s v i k) t n d → Leaves (settlingAt m c s v i k) t n d
+settled-pages m b c s t v i k n d e L = subst⁻¹ (λ (b : Bool). Leaves (settlingAt m b s v i k) t n d) e L
+
+-- where no page tears the medium is that of atomic pages
+pub whole-length : (tears : Bool) (l m : ℕ) → tears ≡ false → l ≡ strideOf tears * m → l ≡ 32 * m
+whole-length tears l m e h = subst (λ (b : Bool). l ≡ strideOf b * m) e h
+
+pub prepared-whole : (tears : Bool) (g : Geometry) (s t : List ℕ) (v : ℕ → Option Page) (i k n : ℕ) (d : Bool) → tears ≡ false → Leaves (prepareAt g (pagesOf s) v i k) (pagesOf t) n d
+    → Leaves (mediumOf tears g .prepare (mediumOf tears g .fromBytes s) v i k) (mediumOf tears g .fromBytes t) n d
+prepared-whole tears g s t v i k n d e L = subst⁻¹ (λ (b : Bool). Leaves (mediumOf b g .prepare (mediumOf b g .fromBytes s) v i k) (mediumOf b g .fromBytes t) n d) e L
+
+module _ (tears : Bool) (g : Geometry) where
   abbrev form : Form
-  form = atomic g
+  form = formIn tears g
 
   prepare-refuses : (x : Arrays) → Intact form x → (t k i : ℕ) → Ready form x t → hasChild (view form x) t ≡ true → Stepped form x (some (prepare t k i)) (answer 10 0) x
   prepare-refuses x I t k i R h = unmoved form x (some (prepare t k i)) 10 (I .form) (prepare-children form (view form x) t (up-is form x (R .up)) (live-is form x t (R .live)) k i h)
@@ -80,10 +92,6 @@ module _ (g : Geometry) where
   unfolding settling
   child-settling x y a b t k i e T = subst⁻¹ (λ (b : Bool). Stepped form x (some (settling b t k i)) a y) e T
 
-  -- the same page writes
-  pub settled-pages : (b c : Bool) (s t : Pages) (v : ℕ → Option Page) (i k m : ℕ) (d : Bool) → c ≡ b → Leaves (settlingAt g b s v i k) t m d → Leaves (settlingAt g c s v i k) t m d
-  settled-pages b c s t v i k m d e L = subst⁻¹ (λ (b : Bool). Leaves (settlingAt g b s v i k) t m d) e L
-
   module _ (x : Arrays) (I : Intact form x) (t : ℕ) (R : Ready form x t) (childless : hasChild (view form x) t ≡ false) where
     abbrev b : Bearers
     b = bearersOf (x .parent) (x .depth)
@@ -99,11 +107,11 @@ module _ (g : Geometry) where
     closed = alone-closed (I .sound) t (record { up = up-is form x (R .up); alive = live-is form x t (R .live); childless = childless })
 
     -- the end of a top transaction, over what its page writes left
-    module _ (e : Event) (C : Cut Pages) (ends : step form (view form x) (some e) ≡ commitsTop form (view form x) t C) (store : List ℕ) (made : ℕ) (crashed : Bool)
-        (L : Leaves C (pagesOf store) made crashed) (size : length store ≡ length (x .store)) where
-      outcome : (c : Bool) → crashed ≡ c → step form (view form x) (some e) ≡ concluded (ended (view form x) alone (pagesOf store)) C c
+    module _ (e : Event) (C : Cut (form .medium .Store)) (ends : step form (view form x) (some e) ≡ commitsTop form (view form x) t C) (store : List ℕ) (made : ℕ) (crashed : Bool)
+        (L : Leaves C (form .medium .fromBytes store) made crashed) (size : length store ≡ length (x .store)) where
+      outcome : (c : Bool) → crashed ≡ c → step form (view form x) (some e) ≡ concluded (ended (view form x) alone (form .medium .fromBytes store)) C c
       unfolding commitsTop
-      outcome c q = ends ∙ ap₂ (λ (p : Pages) (c : Bool). concluded (ended (view form x) alone p) C c) (sym (L .store)) (sym (L .crashed) ∙ q)
+      outcome c q = ends ∙ ap₂ (λ (p : form .medium .Store) (c : Bool). concluded (ended (view form x) alone p) C c) (sym (L .store)) (sym (L .crashed) ∙ q)
 
       -- all page writes were made
       pub top-steps : crashed ≡ false → (n : ℕ) → length (x .writers) ≡ n → (parent depth line held retained writers : List ℕ) (one : ℕ) → bits one ≡ (λ k. same k t)
@@ -117,7 +125,7 @@ module _ (g : Geometry) where
           let H′ = turned (x .held) held twice o H in
           let M′ = turned (x .retained) retained twice o M in
           let W′ = turned (x .writers) writers same-count o W in
-          stepped form x _ (some e) (ended (view form x) alone (pagesOf store)) (done (C .made)) (answer 0 made) (outcome false q)
+          stepped form x _ (some e) (ended (view form x) alone (form .medium .fromBytes store)) (done (C .made)) (answer 0 made) (outcome false q)
           (rest-is form x I alone closed (x .retained) (modesOf (sets (x .retained))) refl parent depth line held retained writers store P D N H′ M′ W′) (ap (answer 0) (L .made))
           (rest-form form x I alone closed (x .retained) (modesOf (sets (x .retained))) refl parent depth line held retained writers store P D N H′ M′ W′ (I .form .retained-nested) (size ∙ I .form .stores))
 
@@ -131,14 +139,14 @@ module _ (g : Geometry) where
           (zeros-down form n (x .work) store ∙ ap down (L .store)) (ap (answer 11) (L .made)) (zeros-formed form n (x .work) store (sym (I .form .writerss) ∙ many) (I .form .works) (size ∙ I .form .stores)))
 
     -- beside what is prepared, by the map of the records that t changed
-    module _ (m n i : ℕ) (mapped : m ≡ mapOf g (λ r. sets (x .writers) r t)) (H : Reserves g (x .store) n i) where
+    module _ (m n i : ℕ) (mapped : m ≡ mapOf g (λ r. sets (x .writers) r t)) (H : Reserves tears g (x .store) n i) where
       both-are : (changes form (view form x) t && busy form (view form x)) ≡ (not (same m 0) && not (same n 0))
-      both-are = ap₂ _&&_ (changes-are g x t m mapped) (busy-is g x n i H)
+      both-are = ap₂ _&&_ (changes-are tears g x t m mapped) (busy-is tears g x n i H)
 
       commit-13 : (k : ℕ) → d t ≡ 1 → (not (same m 0) && not (same n 0)) ≡ true → Stepped form x (some (commit t k)) (answer 13 0) x
       commit-13 k top q =
           unmoved form x (some (commit t k)) 13 (I .form) (commit-busy form (view form x) t (up-is form x (R .up)) (live-is form x t (R .live)) k childless
-          (rw (top-is g x t (R .live), top, same-refl 1) (both-are ∙ q)))
+          (rw (top-is tears g x t (R .live), top, same-refl 1) (both-are ∙ q)))
 
       prepare-13 : (k j : ℕ) → (not (same m 0) && not (same n 0)) ≡ true → Stepped form x (some (prepare t k j)) (answer 13 0) x
       prepare-13 k j q = unmoved form x (some (prepare t k j)) 13 (I .form) (prepare-busy form (view form x) t (up-is form x (R .up)) (live-is form x t (R .live)) k j childless (both-are ∙ q))
@@ -147,22 +155,22 @@ module _ (g : Geometry) where
         prepare-27 : (k j : ℕ) → d t ≢ 1 → Stepped form x (some (prepare t k j)) (answer 27 0) x
         prepare-27 k j h =
             unmoved form x (some (prepare t k j)) 27 (I .form) (prepare-beneath form (view form x) t (up-is form x (R .up)) (live-is form x t (R .live)) k j childless (both-are ∙ q)
-            (top-is g x t (R .live) ∙ ne-false (d t) 1 h))
+            (top-is tears g x t (R .live) ∙ ne-false (d t) 1 h))
 
         module _ (top : d t ≡ 1) where
           -- a commit, and a prepare, of a top transaction
-          commit-ends : (k : ℕ) → step form (view form x) (some (commit t k)) ≡ commitsTop form (view form x) t (commitAt g (pagesOf (x .store)) (versionsIn g m (x .work)) k)
+          commit-ends : (k : ℕ) → step form (view form x) (some (commit t k)) ≡ commitsTop form (view form x) t (form .medium .commit (form .medium .fromBytes (x .store)) (versionsIn g m (x .work)) k)
           unfolding view lineOf chain commits
           commit-ends k =
               commit-done form (view form x) t (up-is form x (R .up)) (live-is form x t (R .live)) k childless (rw (both-are ∙ q, and-false))
               ∙ ap (λ (n : ℕ). commits form (view form x) t k (chain b n t)) (depth-is (x .parent) (x .depth) t ∙ top)
-              ∙ ap (λ (v : ℕ → Option Page). commitsTop form (view form x) t (commitAt g (pagesOf (x .store)) v k)) (top-versions g x (I .form) t m mapped top)
+              ∙ ap (λ (v : ℕ → Option Page). commitsTop form (view form x) t (form .medium .commit (form .medium .fromBytes (x .store)) v k)) (top-versions tears g x (I .form) t m mapped top)
 
-          prepare-ends : (k j : ℕ) → step form (view form x) (some (prepare t k j)) ≡ commitsTop form (view form x) t (prepareAt g (pagesOf (x .store)) (versionsIn g m (x .work)) j k)
+          prepare-ends : (k j : ℕ) → step form (view form x) (some (prepare t k j)) ≡ commitsTop form (view form x) t (form .medium .prepare (form .medium .fromBytes (x .store)) (versionsIn g m (x .work)) j k)
           unfolding view
           prepare-ends k j =
-              prepare-done form (view form x) t (up-is form x (R .up)) (live-is form x t (R .live)) k j childless (both-are ∙ q) (top-is g x t (R .live) ∙ rw top (same-refl 1))
-              ∙ ap (λ (v : ℕ → Option Page). commitsTop form (view form x) t (prepareAt g (pagesOf (x .store)) v j k)) (top-versions g x (I .form) t m mapped top)
+              prepare-done form (view form x) t (up-is form x (R .up)) (live-is form x t (R .live)) k j childless (both-are ∙ q) (top-is tears g x t (R .live) ∙ rw top (same-refl 1))
+              ∙ ap (λ (v : ℕ → Option Page). commitsTop form (view form x) t (form .medium .prepare (form .medium .fromBytes (x .store)) v j k)) (top-versions tears g x (I .form) t m mapped top)
 
       -- either of them, by the code's tests
       pub settling-13 : (b : Bool) (k j : ℕ) → (b ≡ false → d t ≡ 1) → (not (same m 0) && not (same n 0)) ≡ true → Stepped form x (some (settling b t k j)) (answer 13 0) x
@@ -176,18 +184,18 @@ module _ (g : Geometry) where
       settling-27 true k j top q h = prepare-27 q k j h
 
       pub settling-ends : (b : Bool) (k j : ℕ) → (not (same m 0) && not (same n 0)) ≡ false → d t ≡ 1
-          → step form (view form x) (some (settling b t k j)) ≡ commitsTop form (view form x) t (settlingAt g b (pagesOf (x .store)) (versionsIn g m (x .work)) j k)
+          → step form (view form x) (some (settling b t k j)) ≡ commitsTop form (view form x) t (settlingAt (form .medium) b (form .medium .fromBytes (x .store)) (versionsIn g m (x .work)) j k)
       unfolding settling settlingAt
       settling-ends false k j q top = commit-ends q top k
       settling-ends true k j q top = prepare-ends q top k j
 
       -- what is prepared after it: read again, or as it was
-      pub settling-reserves : Proper g → (y : Arrays) (a : Answer) (b : Bool) (k j n′ i′ : ℕ) → Stepped form x (some (settling b t k j)) a y → (b ≡ true → Reserves g (y .store) n′ i′) → (b ≡ false → (n′ ≡ n) × (i′ ≡ i)) → Reserves g (y .store) n′ i′
+      pub settling-reserves : Proper g → g .tears ≡ tears → (y : Arrays) (a : Answer) (b : Bool) (k j n′ i′ : ℕ) → Stepped form x (some (settling b t k j)) a y → (b ≡ true → Reserves tears g (y .store) n′ i′) → (b ≡ false → (n′ ≡ n) × (i′ ≡ i)) → Reserves tears g (y .store) n′ i′
       unfolding settling
-      settling-reserves proper y a true k j n′ i′ T again kept = again refl
-      settling-reserves proper y a false k j n′ i′ T again kept =
+      settling-reserves proper torn y a true k j n′ i′ T again kept = again refl
+      settling-reserves proper torn y a false k j n′ i′ T again kept =
           let e = kept refl in
-          reserves-kept g proper x y (some (commit t k)) a n i I T H (commit-plain t k) ∙ sym (λ j. record { map = e .0 j; identity = e .1 j })
+          reserves-kept tears g proper torn x y (some (commit t k)) a n i I T H (commit-plain t k) ∙ sym (λ j. record { map = e .0 j; identity = e .1 j })
 
     -- a child
     module _ (k n : ℕ) (deep : d t ≡ suc (suc n)) where
@@ -268,7 +276,7 @@ module _ (g : Geometry) where
         unfolding view lineOf chain commits
         commit-is =
             commit-done form (view form x) t (up-is form x (R .up)) (live-is form x t (R .live)) k childless
-            (ap (λ (c : Bool). c && (changes form (view form x) t && busy form (view form x))) (top-is g x t (R .live) ∙ ne-false (d t) 1 (λ e. omega arith)))
+            (ap (λ (c : Bool). c && (changes form (view form x) t && busy form (view form x))) (top-is tears g x t (R .live) ∙ ne-false (d t) 1 (λ e. omega arith)))
             ∙ ap (λ (m : ℕ). commits form (view form x) t k (chain b m t)) (depth-is (x .parent) (x .depth) t ∙ deep)
             ∙ ap (commitsChild form (view form x) t) (parent-there form x I t n deep)
 

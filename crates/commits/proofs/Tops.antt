@@ -8,9 +8,8 @@ use lib.ListN.{getD}
 use Rattle.laws.specs.Tests.{under}
 use Rattle.laws.proofs.Tests.{Is, is?, yes′, no′, under-lt, not-under}
 use Rattle.rules.specs.Geometry.{Geometry, records}
-use Rattle.rules.specs.Form.{atomic}
 use Rattle.rules.specs.Store.{pagesOf, mapOf, named}
-use Rattle.rules.specs.Editions.{depths}
+use Rattle.rules.specs.Editions.{depths, formIn}
 use Rattle.rules.proofs.Map.{named-mapOf}
 use Rattle.sets.specs.Sets.{sets}
 use Rattle.sets.proofs.Sets.{sets-past}
@@ -18,8 +17,8 @@ use Rattle.arrays.specs.View.{slot, versionsOf}
 use Rattle.commit.specs.Phase.{topSlot, versionsIn}
 use Rattle.state.specs.Whole.{Arrays, view, Formed}
 
-module _ (g : Geometry) where
-  module _ (x : Arrays) (F : Formed (atomic g) x) (t m : ℕ) (mapped : m ≡ mapOf g (λ r. sets (x .writers) r t)) (top : getD (x .depth) t 0 ≡ 1) where
+module _ (tears : Bool) (g : Geometry) where
+  module _ (x : Arrays) (F : Formed (formIn tears g) x) (t m : ℕ) (mapped : m ≡ mapOf g (λ r. sets (x .writers) r t)) (top : getD (x .depth) t 0 ≡ 1) where
     abbrev d : ℕ
     d = getD (x .depth) t 0
 
@@ -32,6 +31,6 @@ module _ (g : Geometry) where
     version-at r (no′ e) =
         rw e (ap (λ (c : Bool). cond c (some (pagesOf (x .work) (slot r d))) none) (sets-past (x .writers) r t (let h = not-under r (records g) e in let k = F .writerss in omega arith)))
 
-    pub top-versions : view (atomic g) x .version t ≡ versionsIn g m (x .work)
+    pub top-versions : view (formIn tears g) x .version t ≡ versionsIn g m (x .work)
     unfolding view versionsOf
     top-versions = fun-ext (λ r. version-at r (is? (under r (records g))))

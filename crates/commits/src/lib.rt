@@ -1,20 +1,19 @@
 // A commit, of a top transaction with its page writes or of a child into its parent; and a prepare.
 ghost use mathlib.Core.Path.{_≡_};
-ghost use mathlib.Core.Bool.{true, false};
+ghost use mathlib.Core.Bool.{Bool, true, false};
 ghost use mathlib.Core.List.{List};
 ghost use mathlib.Core.Option.{some};
 ghost use Prim.Native.Nat.{ℕ, _+_, _*_, _^_, _<_, _≤_};
 ghost use lib.ListN.{length, getD};
-ghost use Rattle.rules.specs.Store.{Pages, pagesOf};
 ghost use Rattle.rules.specs.Event.{Event, commit};
 ghost use Rattle.rules.specs.Commit.{Cut};
 ghost use Rattle.rules.specs.Step.{hasChild, commitsTop, step};
 ghost use Rattle.rules.specs.Geometry.{Geometry};
-ghost use Rattle.rules.specs.Editions.{Edition, geometryOf, formOf, InNumbers};
+ghost use Rattle.rules.specs.Editions.{Edition, geometryOf, mediumOf, formIn, InNumbers};
 ghost use Rattle.arrays.specs.Kin.{Kin};
 ghost use Rattle.slots.specs.Parts.{Sources};
 ghost use Rattle.commitpage.specs.Layout.{Known, Layout};
-ghost use Rattle.counted.specs.Phase.{Leaves};
+ghost use Rattle.counted.specs.Phase.{Leaves, strideOf};
 ghost use Rattle.commit.specs.Phase.{versionsIn};
 ghost use Rattle.commits.specs.Settling.{settling, settlingAt};
 ghost use Rattle.numbers.specs.Named.{transactionOf};
@@ -40,12 +39,12 @@ fn end_top(
 ) -> Answer
     requires { ⌜ (t < 24) × (records ≤ 64) × (length (now parent) ≡ 24) × (length (now depth) ≡ 24) × (length (now line) ≡ 24) × (length (now held) ≡ 2 * records)
         × (length (now retained) ≡ 2 * records) × (length (now writers) ≡ records) × Kin (now parent) (now depth) (now live) (now children) ⌝ }
-    ensures { λ a. ⌜ ((edition : Edition) (e : Event) (c : Cut Pages) (work store store′ : List ℕ) →
+    ensures { λ a. ⌜ ((edition : Edition) (tears : Bool) (e : Event) (c : Cut (mediumOf tears (geometryOf edition) .Store)) (work store store′ : List ℕ) →
         let before = arrays (now (up .entry)) (now (parent .entry)) (now (depth .entry)) (now (line .entry)) (now (held .entry)) (now (retained .entry)) (now (writers .entry)) work store in
         let after = arrays (now (up .exit)) (now (parent .exit)) (now (depth .exit)) (now (line .exit)) (now (held .exit)) (now (retained .exit)) (now (writers .exit)) work store′ in
-        let form = formOf edition in
+        let form = formIn tears (geometryOf edition) in
         Intact form before → Ready form before t → hasChild (view form before) t ≡ false
-        → step form (view form before) (some e) ≡ commitsTop form (view form before) t c → Leaves c (pagesOf store′) made crashed → length store′ ≡ length store
+        → step form (view form before) (some e) ≡ commitsTop form (view form before) t c → Leaves c (form .medium .fromBytes store′) made crashed → length store′ ≡ length store
         → Stepped form before (some e) a after) ⌝ }
     ensures { λ _. ⌜ Kin (now (parent .exit)) (now (depth .exit)) (now (live .exit)) (now (children .exit)) ⌝ }
 {
@@ -82,21 +81,24 @@ fn write_pages(
     work: &[u8],
     map: u64,
     records: usize,
+    tears: bool,
     prepares: bool,
     k: u8,
     i: u8,
 ) -> commit::Made
-    requires { ⌜ Known records × (prepares ≡ true → records ≡ 16) × (map < 2 ^ records) × (length (now store) ≡ 32 * (1 + (records + records)))
+    requires { ⌜ Known records × (prepares ≡ true → records ≡ 16) × (prepares ≡ true → tears ≡ false) × (map < 2 ^ records)
+        × (length (now store) ≡ strideOf tears * (1 + (records + records)))
         × (length (now work) ≡ 512 * records) ⌝ }
     ensures { λ r. ⌜ ((g : Geometry) →
-        let before = pagesOf (now (store .entry)) in
-        let after = pagesOf (now (store .exit)) in
-        Layout g records → Leaves (settlingAt g prepares before (versionsIn g map (now (work .entry))) i k) after (r .made) (r .crashed)) ⌝ }
+        let medium = mediumOf tears g in
+        let before = medium .fromBytes (now (store .entry)) in
+        let after = medium .fromBytes (now (store .exit)) in
+        Layout g records → Leaves (settlingAt medium prepares before (versionsIn g map (now (work .entry))) i k) after (r .made) (r .crashed)) ⌝ }
 {
     if prepares {
         return commit::prepare_pages(store, work, map, records, i, k);
     }
-    commit::commit_pages(store, work, map, records, false, k)
+    commit::commit_pages(store, work, map, records, tears, k)
 }
 
 // After a prepare, what is prepared is read again.
@@ -106,18 +108,19 @@ fn reread(
     identity: &mut u8,
     records: usize,
     joint: bool,
+    tears: bool,
     prepares: bool,
 )
-    requires { ⌜ Known records × (joint ≡ true → records ≡ 16) × (length (now store) ≡ 32 * (1 + (records + records))) ⌝ }
+    requires { ⌜ Known records × (joint ≡ true → records ≡ 16) × (length (now store) ≡ strideOf tears * (1 + (records + records))) ⌝ }
     ensures { λ _.
-        ⌜ ((edition : Edition) → InNumbers edition records joint → prepares ≡ true
-        → Reserves (geometryOf edition) (now (store .entry)) (now (reserved .exit)) (now (identity .exit)))
+        ⌜ ((edition : Edition) → InNumbers edition records joint tears → prepares ≡ true
+        → Reserves tears (geometryOf edition) (now (store .entry)) (now (reserved .exit)) (now (identity .exit)))
         × (prepares ≡ false → (now (reserved .exit) ≡ now (reserved .entry)) × (now (identity .exit) ≡ now (identity .entry))) ⌝ }
 {
     if !prepares {
         return;
     }
-    let p = commit::read_held(store, records, joint, false);
+    let p = commit::read_held(store, records, joint, tears);
     *reserved = p.map;
     *identity = p.identity;
 }
@@ -140,6 +143,7 @@ fn settle_top(
     identity: &mut u8,
     records: usize,
     joint: bool,
+    tears: bool,
     t: u8,
     d: u8,
     prepares: bool,
@@ -149,16 +153,17 @@ fn settle_top(
     requires { ⌜ (t < 24) × Known records × (joint ≡ true → records ≡ 16) × (prepares ≡ true → joint ≡ true)
         × (length (now parent) ≡ 24) × (length (now depth) ≡ 24) × (length (now line) ≡ 24) × (length (now held) ≡ 2 * records)
         × (length (now retained) ≡ 2 * records) × (length (now writers) ≡ records) × (length (now work) ≡ 512 * records)
-        × (length (now store) ≡ 32 * (1 + (records + records)))
-        × (d ≡ getD (now depth) t 0) × (prepares ≡ false → d ≡ 1) × Kin (now parent) (now depth) (now live) (now children) ⌝ }
+        × (length (now store) ≡ strideOf tears * (1 + (records + records)))
+        × (d ≡ getD (now depth) t 0) × (prepares ≡ false → d ≡ 1) × Kin (now parent) (now depth) (now live) (now children)
+        × (joint ≡ true → tears ≡ false) ⌝ }
     ensures { λ a. ⌜ ((edition : Edition) →
         let before = arrays (now (up .entry)) (now (parent .entry)) (now (depth .entry)) (now (line .entry)) (now (held .entry)) (now (retained .entry)) (now (writers .entry)) (now (work .entry)) (now (store .entry)) in
         let after = arrays (now (up .exit)) (now (parent .exit)) (now (depth .exit)) (now (line .exit)) (now (held .exit)) (now (retained .exit)) (now (writers .exit)) (now (work .entry)) (now (store .exit)) in
-        let form = formOf edition in
-        InNumbers edition records joint → Intact form before → Ready form before t → hasChild (view form before) t ≡ false
-        → Reserves (geometryOf edition) (now (store .entry)) (now (reserved .entry)) (now (identity .entry))
+        let form = formIn tears (geometryOf edition) in
+        InNumbers edition records joint tears → Intact form before → Ready form before t → hasChild (view form before) t ≡ false
+        → Reserves tears (geometryOf edition) (now (store .entry)) (now (reserved .entry)) (now (identity .entry))
         → Stepped form before (some (settling prepares t k i)) a after
-        × Reserves (geometryOf edition) (now (store .exit)) (now (reserved .exit)) (now (identity .exit))) ⌝ }
+        × Reserves tears (geometryOf edition) (now (store .exit)) (now (reserved .exit)) (now (identity .exit))) ⌝ }
     ensures { λ _. ⌜ Kin (now (parent .exit)) (now (depth .exit)) (now (live .exit)) (now (children .exit)) ⌝ }
 {
     let map = commitpage::map_of(&writers[..], records, t);
@@ -174,10 +179,18 @@ fn settle_top(
             value: 0,
         };
     }
-    let m = write_pages(store, work, map, records, prepares, k, i);
+    let m = write_pages(store, work, map, records, tears, prepares, k, i);
     let made = m.made;
     let crashed = m.crashed;
-    reread(&store[..], reserved, identity, records, joint, prepares);
+    reread(
+        &store[..],
+        reserved,
+        identity,
+        records,
+        joint,
+        tears,
+        prepares,
+    );
     end_top(
         up,
         parent,
@@ -213,10 +226,10 @@ fn commit_child(
     requires { ⌜ (t < 24) × (records ≤ 64) × (length (now parent) ≡ 24) × (length (now depth) ≡ 24) × (length (now line) ≡ 24) × (length (now held) ≡ 2 * records)
         × (length (now retained) ≡ 2 * records) × (length (now writers) ≡ records) × (length (now work) ≡ 512 * records)
         × (1 < d) × (d ≡ getD (now depth) t 0) × Sources (now parent) (now depth) × Kin (now parent) (now depth) (now live) (now children) ⌝ }
-    ensures { λ a. ⌜ ((edition : Edition) (up k : ℕ) (store : List ℕ) →
+    ensures { λ a. ⌜ ((edition : Edition) (tears : Bool) (up k : ℕ) (store : List ℕ) →
         let before = arrays up (now (parent .entry)) (now (depth .entry)) (now (line .entry)) (now (held .entry)) (now (retained .entry)) (now (writers .entry)) (now (work .entry)) store in
         let after = arrays up (now (parent .exit)) (now (depth .exit)) (now (line .exit)) (now (held .exit)) (now (retained .exit)) (now (writers .exit)) (now (work .exit)) store in
-        let form = formOf edition in
+        let form = formIn tears (geometryOf edition) in
         Intact form before → Ready form before t → hasChild (view form before) t ≡ false → Stepped form before (some (commit t k)) a after) ⌝ }
     ensures { λ _. ⌜ Kin (now (parent .exit)) (now (depth .exit)) (now (live .exit)) (now (children .exit)) ⌝ }
 {
@@ -250,6 +263,7 @@ pub fn settle_event(
     identity: &mut u8,
     records: usize,
     joint: bool,
+    tears: bool,
     t: TransactionNumber,
     prepares: bool,
     k: u8,
@@ -258,16 +272,17 @@ pub fn settle_event(
     requires { ⌜ Known records × (joint ≡ true → records ≡ 16) × (prepares ≡ true → joint ≡ true)
         × (length (now parent) ≡ 24) × (length (now depth) ≡ 24) × (length (now line) ≡ 24) × (length (now held) ≡ 2 * records)
         × (length (now retained) ≡ 2 * records) × (length (now writers) ≡ records) × (length (now work) ≡ 512 * records)
-        × (length (now store) ≡ 32 * (1 + (records + records)))
-        × (0 < getD (now depth) (transactionOf t) 0) × Sources (now parent) (now depth) × Kin (now parent) (now depth) (now live) (now children) ⌝ }
+        × (length (now store) ≡ strideOf tears * (1 + (records + records)))
+        × (0 < getD (now depth) (transactionOf t) 0) × Sources (now parent) (now depth) × Kin (now parent) (now depth) (now live) (now children)
+        × (joint ≡ true → tears ≡ false) ⌝ }
     ensures { λ a. ⌜ ((edition : Edition) →
         let before = arrays (now (up .entry)) (now (parent .entry)) (now (depth .entry)) (now (line .entry)) (now (held .entry)) (now (retained .entry)) (now (writers .entry)) (now (work .entry)) (now (store .entry)) in
         let after = arrays (now (up .exit)) (now (parent .exit)) (now (depth .exit)) (now (line .exit)) (now (held .exit)) (now (retained .exit)) (now (writers .exit)) (now (work .exit)) (now (store .exit)) in
-        let form = formOf edition in
-        InNumbers edition records joint → Intact form before → Ready form before (transactionOf t)
-        → Reserves (geometryOf edition) (now (store .entry)) (now (reserved .entry)) (now (identity .entry))
+        let form = formIn tears (geometryOf edition) in
+        InNumbers edition records joint tears → Intact form before → Ready form before (transactionOf t)
+        → Reserves tears (geometryOf edition) (now (store .entry)) (now (reserved .entry)) (now (identity .entry))
         → Stepped form before (some (settling prepares (transactionOf t) k i)) a after
-        × Reserves (geometryOf edition) (now (store .exit)) (now (reserved .exit)) (now (identity .exit))) ⌝ }
+        × Reserves tears (geometryOf edition) (now (store .exit)) (now (reserved .exit)) (now (identity .exit))) ⌝ }
     ensures { λ _. ⌜ Kin (now (parent .exit)) (now (depth .exit)) (now (live .exit)) (now (children .exit)) ⌝ }
 {
     let n = t.number();
@@ -310,6 +325,7 @@ pub fn settle_event(
         identity,
         records,
         joint,
+        tears,
         n,
         d,
         prepares,

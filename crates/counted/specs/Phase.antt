@@ -7,11 +7,9 @@ use Prim.Native.Nat.{ℕ, _+_, _-_, _*_, _/_, _%_}
 use lib.ListN.{length, take}
 use Rattle.laws.specs.Tests.{under}
 use Rattle.laws.specs.Counting.{any}
-use Rattle.rules.specs.Geometry.{Geometry}
 use Rattle.rules.specs.Store.{Pages, pagesOf}
-use Rattle.rules.specs.Form.{Medium, atomicPages}
 use Rattle.rules.specs.Commit.{PageWrite, applied, Cut, cutAt}
-use Rattle.rules.specs.Pairs.{Pairs, shown, allBad, mended, counted, pairsOf, cutPairs, pairedPages}
+use Rattle.rules.specs.Pairs.{Pairs, shown, allBad, mended, counted, pairsOf, cutPairs}
 
 -- a store, and the one that some bytes spell; the bytes that a page takes there
 abbrev pub StoreOf : Bool → Type 0
@@ -78,8 +76,3 @@ pub record Leaves {S : Type 0} (c : Cut S) (after : S) (n : ℕ) (down : Bool) :
   pub store : after ≡ c .store
   pub made : n ≡ c .made
   pub crashed : down ≡ c .crashed
-
--- a geometry's medium
-abbrev pub mediumOf : Bool → Geometry → Medium
-mediumOf false g = atomicPages g
-mediumOf true g = pairedPages g

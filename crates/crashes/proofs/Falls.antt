@@ -1,6 +1,6 @@
 -- All go, and the engine is down: arrays of zeros. A crash, and a recovery.
 use mathlib.Core.Path.{_≡_, refl, sym, ap, ap₂, subst⁻¹, _∙_, fun-ext}
-use mathlib.Core.Bool.{Bool, true, false, cond, true≢false}
+use mathlib.Core.Bool.{Bool, true, false, not, cond, true≢false}
 use mathlib.Core.List.{List}
 use mathlib.Core.Logic.{_≢_}
 use mathlib.Core.Option.{Option, none, some}
@@ -11,13 +11,14 @@ use Rattle.laws.specs.Bits.{bits}
 use Rattle.laws.proofs.Tests.{same-refl, ne-false}
 use Rattle.laws.proofs.Bits.{bits-zero}
 use Rattle.laws.proofs.Booleans.{not-false, not-true, refute, clash}
-use Rattle.rules.specs.Store.{Page, Pages, pagesOf, readCommit, mapIn, damaged}
+use Rattle.rules.specs.Store.{Page, pagesOf, readCommit, mapIn, damaged}
 use Rattle.rules.specs.Event.{crash, recover}
-use Rattle.rules.specs.State.{Bearer, free, active, isActive, depthIn, chain, lineOf, mem, Mode, nothing, reading, writing, isLock, State, live, holds, retains, down}
+use Rattle.rules.specs.State.{Bearer, free, active, isActive, depthIn, chain, lineOf, mem, Mode, nothing, reading, writing, isLock, live, holds, retains, down}
 use Rattle.rules.specs.Versions.{isSome}
-use Rattle.rules.specs.Commit.{Cut, recoverAt}
+use Rattle.rules.specs.Commit.{Cut}
 use Rattle.rules.specs.Geometry.{Geometry, records}
-use Rattle.rules.specs.Form.{Form, atomic}
+use Rattle.rules.specs.Form.{Form}
+use Rattle.rules.specs.Editions.{mediumOf}
 use Rattle.rules.specs.Step.{done, cut, StateOf, numberOf, valueOf, raised, concluded, recovers, step}
 use Rattle.rules.specs.Sound.{Sound}
 use Rattle.rules.proofs.Parts.{sound-down}
@@ -26,7 +27,8 @@ use Rattle.sets.specs.Sets.{sets}
 use Rattle.arrays.specs.View.{Owners, bearerAt, bearersOf, anyMode, writeMode, modeOf, modesOf, Nested, slot, versionsOf}
 use Rattle.commitpage.specs.Heard.{understood}
 use Rattle.commitpage.specs.declared.CommitMap.{CommitMap}
-use Rattle.counted.specs.Phase.{Leaves}
+use Rattle.counted.specs.Phase.{Leaves, storeOf, shownIn}
+use Rattle.commit.specs.Phase.{understoodIn}
 use Rattle.state.specs.Whole.{Arrays, arrays, view, lineIn, Served, Formed, Intact, saying, Stepped}
 use Rattle.state.proofs.Rules.{crash-done, recover-up, recover-damaged, recover-done}
 use Rattle.state.proofs.Steps.{answer, stepped, finishes, unmoved, state-eq, up-is, down-is}
@@ -133,49 +135,61 @@ module _ {f : Form} {s : StateOf f} (S : Sound f s) (d : s .up ≡ false) where
     store = s .store;
   }
 
--- what a commit page says
-module _ (g : Geometry) (store : List ℕ) (c : CommitMap) (h : c ≡ understood g (pagesOf store 0)) where
-  pub damaged-is : c .good ≡ false → damaged g (pagesOf store) ≡ true
-  unfolding damaged understood
-  damaged-is e = not-false _ (sym (ap (λ (c : CommitMap). c .good) h) ∙ e)
+-- what a store says before a recovery
+good-is : (tears : Bool) (g : Geometry) (store : List ℕ) → understoodIn tears g (storeOf tears store) .good ≡ not (mediumOf tears g .damaged (mediumOf tears g .fromBytes store))
+unfolding damaged understood
+good-is false g store = refl
+good-is true g store = refl
 
-  pub whole-is : c .good ≡ true → damaged g (pagesOf store) ≡ false
-  unfolding damaged understood
-  whole-is e = not-true _ (sym (ap (λ (c : CommitMap). c .good) h) ∙ e)
+read-is : (tears : Bool) (g : Geometry) (store : List ℕ) → mapIn (readCommit g (shownIn tears (storeOf tears store) 0)) ≡ understoodIn tears g (storeOf tears store) .map
+unfolding understood
+read-is false g store = refl
+read-is true g store = refl
 
-  pub map-is : mapIn (readCommit g (pagesOf store 0)) ≡ c .map
-  unfolding understood
-  map-is = sym (ap (λ (c : CommitMap). c .map) h)
+module _ (tears : Bool) (g : Geometry) (store : List ℕ) (c : CommitMap) (h : c ≡ understoodIn tears g (storeOf tears store)) where
+  says : c .good ≡ not (mediumOf tears g .damaged (mediumOf tears g .fromBytes store))
+  says = ap (λ (c : CommitMap). c .good) h ∙ good-is tears g store
 
-module _ (g : Geometry) (x : Arrays) (I : Intact (atomic g) x) (k : ℕ) where
-  abbrev f : Form
-  f = atomic g
+  pub damaged-is : c .good ≡ false → mediumOf tears g .damaged (mediumOf tears g .fromBytes store) ≡ true
+  damaged-is e = not-false _ (sym says ∙ e)
+
+  pub whole-is : c .good ≡ true → mediumOf tears g .damaged (mediumOf tears g .fromBytes store) ≡ false
+  whole-is e = not-true _ (sym says ∙ e)
+
+  pub map-is : mapIn (readCommit g (shownIn tears (storeOf tears store) 0)) ≡ c .map
+  map-is = read-is tears g store ∙ sym (ap (λ (c : CommitMap). c .map) h)
+
+module _ (f : Form) (x : Arrays) (I : Intact f x) (k : ℕ) where
+  abbrev start : f .medium .Store
+  start = f .medium .fromBytes (x .store)
 
   pub recover-refuses-3 : x .up ≡ 1 → Stepped f x (some (recover k)) (answer 3 0) x
   recover-refuses-3 e = unmoved f x (some (recover k)) 3 (I .form) (recover-up f (view f x) k (up-is f x e))
 
-  module _ (n : x .up ≢ 1) (c : CommitMap) (h : c ≡ understood g (pagesOf (x .store) 0)) where
-    pub recover-refuses-4 : c .good ≡ false → Stepped f x (some (recover k)) (answer 4 0) x
+  module _ (n : x .up ≢ 1) where
+    pub recover-refuses-4 : f .medium .damaged start ≡ true → Stepped f x (some (recover k)) (answer 4 0) x
     unfolding view
-    recover-refuses-4 e =
-        unmoved f x (some (recover k)) 4 (I .form) (recover-damaged f (view f x) k (down-is f x n) (damaged-is g (x .store) c h e))
+    recover-refuses-4 e = unmoved f x (some (recover k)) 4 (I .form) (recover-damaged f (view f x) k (down-is f x n) e)
 
-    module _ (good : c .good ≡ true) (store : List ℕ) (made : ℕ) (crashed : Bool) (size : length store ≡ length (x .store))
-        (L : Leaves (recoverAt g (pagesOf (x .store)) k) (pagesOf store) made crashed) where
-      abbrev C : Cut Pages
-      C = recoverAt g (pagesOf (x .store)) k
+    module _ (good : f .medium .damaged start ≡ false) (store : List ℕ) (made : ℕ) (crashed : Bool) (size : length store ≡ length (x .store))
+        (L : Leaves (f .medium .recover start k) (f .medium .fromBytes store) made crashed) where
+      abbrev C : Cut (f .medium .Store)
+      C = f .medium .recover start k
 
-      outcome : (b : Bool) → crashed ≡ b → step f (view f x) (some (recover k)) ≡ concluded (raised (view f x) (pagesOf store)) C b
+      abbrev left : f .medium .Store
+      left = f .medium .fromBytes store
+
+      outcome : (b : Bool) → crashed ≡ b → step f (view f x) (some (recover k)) ≡ concluded (raised (view f x) left) C b
       unfolding recovers view
       outcome b e =
-          recover-done f (view f x) k (down-is f x n) (whole-is g (x .store) c h good)
-          ∙ ap₂ (λ (p : Pages) (b : Bool). concluded (raised (view f x) p) C b) (sym (L .store)) (sym (L .crashed) ∙ e)
+          recover-done f (view f x) k (down-is f x n) good
+          ∙ ap₂ (λ (p : f .medium .Store) (b : Bool). concluded (raised (view f x) p) C b) (sym (L .store)) (sym (L .crashed) ∙ e)
 
       formed : (up : ℕ) → up ≤ 1 → Formed f (arrays up (x .parent) (x .depth) (x .line) (x .held) (x .retained) (x .writers) (x .work) store)
       formed up h = let F = I .form in record { lines = F .lines; flag = h; tidy = F .tidy; held-nested = F .held-nested; retained-nested = F .retained-nested; parents = F .parents; depths = F .depths; long = F .long; helds = F .helds; retaineds = F .retaineds; writerss = F .writerss; works = F .works; stores = size ∙ F .stores }
 
-      over : State Pages → State Pages
-      over s = record { up = s .up; bearer = s .bearer; held = s .held; retained = s .retained; version = s .version; store = pagesOf store }
+      over : StateOf f → StateOf f
+      over s = record { up = s .up; bearer = s .bearer; held = s .held; retained = s .retained; version = s .version; store = left }
 
       -- cut: still down, and nothing was live
       pub recover-cut : crashed ≡ true
@@ -189,5 +203,5 @@ module _ (g : Geometry) (x : Arrays) (I : Intact (atomic g) x) (k : ℕ) where
           → Stepped f x (some (recover k)) (answer 0 made) (arrays 1 (x .parent) (x .depth) (x .line) (x .held) (x .retained) (x .writers) (x .work) store)
       unfolding concluded saying numberOf valueOf view raised
       recover-steps e =
-          stepped f x _ (some (recover k)) (raised (view f x) (pagesOf store)) (done (C .made)) (answer 0 made) (outcome false e)
+          stepped f x _ (some (recover k)) (raised (view f x) left) (done (C .made)) (answer 0 made) (outcome false e)
           (state-eq f (same-refl 1) refl refl refl refl refl) (ap (answer 0) (L .made)) (formed 1 (omega arith))

@@ -1,14 +1,15 @@
 // A crash, and a recover after it.
 ghost use mathlib.Core.Path.{_≡_};
-ghost use mathlib.Core.Bool.{true};
+ghost use mathlib.Core.Bool.{Bool, true};
 ghost use mathlib.Core.List.{List};
 ghost use mathlib.Core.Option.{some};
 ghost use Prim.Native.Nat.{ℕ, _+_, _*_, _≤_};
 ghost use lib.ListN.{length, replicate};
 ghost use Rattle.rules.specs.Event.{crash, recover};
-ghost use Rattle.rules.specs.Editions.{Edition, formOf, InNumbers};
+ghost use Rattle.rules.specs.Editions.{Edition, geometryOf, formIn, InNumbers};
 ghost use Rattle.arrays.specs.Kin.{Kin};
 ghost use Rattle.commitpage.specs.Layout.{Known};
+ghost use Rattle.counted.specs.Phase.{strideOf};
 ghost use Rattle.state.specs.Whole.{arrays, Intact, Stepped};
 use event::Answer;
 
@@ -57,10 +58,11 @@ pub fn crash_event(
     records: usize,
 ) -> Answer
     requires { ⌜ (records ≤ 64) × (length (now held) ≡ 2 * records) × (length (now retained) ≡ 2 * records) × (length (now writers) ≡ records) ⌝ }
-    ensures { λ a. ⌜ ((edition : Edition) (work store : List ℕ) →
+    ensures { λ a. ⌜ ((edition : Edition) (tears : Bool) (work store : List ℕ) →
         let before = arrays (now (up .entry)) (now (parent .entry)) (now (depth .entry)) (now (line .entry)) (now (held .entry)) (now (retained .entry)) (now (writers .entry)) work store in
         let after = arrays (now (up .exit)) (now (parent .exit)) (now (depth .exit)) (now (line .exit)) (now (held .exit)) (now (retained .exit)) (now (writers .exit)) work store in
-        Intact (formOf edition) before → Stepped (formOf edition) before (some crash) a after) ⌝ }
+        let form = formIn tears (geometryOf edition) in
+        Intact form before → Stepped form before (some crash) a after) ⌝ }
     ensures { λ _. ⌜ Kin (now (parent .exit)) (now (depth .exit)) (now (live .exit)) (now (children .exit)) ⌝ }
 {
     fall(
@@ -81,13 +83,22 @@ pub fn crash_event(
     }
 }
 
-// A recovery, cut at k: only while down, over a commit page that is not damaged.
-pub fn recover_event(up: &mut u8, store: &mut [u8], records: usize, joint: bool, k: u8) -> Answer
-    requires { ⌜ Known records × (joint ≡ true → records ≡ 16) × (length (now store) ≡ 32 * (1 + (records + records))) ⌝ }
+// A recovery, cut at k: only while down, over a commit page that is not damaged; where pages can tear, only if every page has a good copy. Refused, it
+// changes nothing: pages are mended after that.
+pub fn recover_event(
+    up: &mut u8,
+    store: &mut [u8],
+    records: usize,
+    joint: bool,
+    tears: bool,
+    k: u8,
+) -> Answer
+    requires { ⌜ Known records × (joint ≡ true → records ≡ 16) × (length (now store) ≡ strideOf tears * (1 + (records + records))) ⌝ }
     ensures { λ a. ⌜ ((edition : Edition) (parent depth line held retained writers work : List ℕ) →
         let before = arrays (now (up .entry)) parent depth line held retained writers work (now (store .entry)) in
         let after = arrays (now (up .exit)) parent depth line held retained writers work (now (store .exit)) in
-        InNumbers edition records joint → Intact (formOf edition) before → Stepped (formOf edition) before (some (recover k)) a after) ⌝ }
+        let form = formIn tears (geometryOf edition) in
+        InNumbers edition records joint tears → Intact form before → Stepped form before (some (recover k)) a after) ⌝ }
 {
     if *up == 1 {
         return Answer {
@@ -95,7 +106,7 @@ pub fn recover_event(up: &mut u8, store: &mut [u8], records: usize, joint: bool,
             value: 0,
         };
     }
-    let c = commit::read_map(&store[..], records, joint, false);
+    let c = commit::read_map(&store[..], records, joint, tears);
     let map = c.map;
     if !c.good {
         return Answer {
@@ -103,7 +114,7 @@ pub fn recover_event(up: &mut u8, store: &mut [u8], records: usize, joint: bool,
             value: 0,
         };
     }
-    let m = commit::recover_pages(store, map, records, false, k);
+    let m = commit::recover_pages(store, map, records, tears, k);
     let made = m.made;
     if m.crashed {
         return Answer {

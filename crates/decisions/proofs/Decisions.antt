@@ -8,50 +8,54 @@ use lib.ListN.{length}
 use lib.Pow.{pow-pos}
 use Rattle.laws.specs.Tests.{same}
 use Rattle.laws.proofs.Tests.{same?, Same, is, isnt}
-use Rattle.rules.specs.Store.{Pages, pagesOf, readPrepared}
+use Rattle.rules.specs.Store.{Page, readPrepared}
 use Rattle.rules.specs.Event.{decide, query}
 use Rattle.rules.specs.State.{down}
-use Rattle.rules.specs.Commit.{Cut, decideAt}
+use Rattle.rules.specs.Commit.{Cut}
 use Rattle.rules.specs.Step.{done, cut, isFor, numberOf, valueOf, raised, concluded, finished, recovers, decides, step}
 use Rattle.rules.specs.Geometry.{Geometry, records}
-use Rattle.rules.specs.Form.{Form, atomic}
+use Rattle.rules.specs.Form.{Form}
+use Rattle.rules.specs.Editions.{formIn}
 use Rattle.rules.proofs.PreparedPage.{prepared-is}
 use Rattle.commitpage.specs.Heard.{prepared}
-use Rattle.counted.specs.Phase.{Leaves}
+use Rattle.counted.specs.Phase.{Leaves, storeOf, shownIn}
 use Rattle.state.specs.Whole.{Arrays, arrays, view, Intact, saying, Stepped, Reserves}
 use Rattle.state.proofs.Rules.{decide-done, query-done}
 use Rattle.state.proofs.Steps.{answer, stepped, finishes, state-eq, up-is}
-use Rattle.state.proofs.Reserves.{isFor-is, one-prepared}
+use Rattle.state.proofs.Reserves.{prepared-in, isFor-is, one-prepared}
 use Rattle.crashes.proofs.Falls.{zeros, zeros-down, zeros-formed, Fallen, fallen}
 
-module _ (g : Geometry) where
+module _ (tears : Bool) (g : Geometry) where
   abbrev f : Form
-  f = atomic g
+  f = formIn tears g
+
+  abbrev shownFirst : List ℕ → Page
+  shownFirst store = shownIn tears (storeOf tears store) 0
 
   -- the same decision
-  pub by-decision : (s t : Pages) (k m : ℕ) (c d e : Bool) → e ≡ d → Leaves (decideAt g s d k) t m c → Leaves (decideAt g s e k) t m c
-  by-decision s t k m c d e q L = subst⁻¹ (λ (b : Bool). Leaves (decideAt g s b k) t m c) q L
+  pub by-decision : (s t : f .medium .Store) (k m : ℕ) (c d e : Bool) → e ≡ d → Leaves (f .medium .decide s d k) t m c → Leaves (f .medium .decide s e k) t m c
+  by-decision s t k m c d e q L = subst⁻¹ (λ (b : Bool). Leaves (f .medium .decide s b k) t m c) q L
 
   -- what is prepared, where the test holds
-  pub for-prepared : (store : List ℕ) (m n i : ℕ) (b : Bool) → Reserves g store m n → b ≡ (not (same m 0) && same n i) → b ≡ true → readPrepared g (pagesOf store 0) ≡ some (prepared m n)
-  for-prepared store m n i b H e q = one-prepared g store m n H (λ z. go (same? m 0) (sym e ∙ q) z)
+  pub for-prepared : (store : List ℕ) (m n i : ℕ) (b : Bool) → Reserves tears g store m n → b ≡ (not (same m 0) && same n i) → b ≡ true → readPrepared g (shownFirst store) ≡ some (prepared m n)
+  for-prepared store m n i b H e q = one-prepared tears g store m n H (λ z. go (same? m 0) (sym e ∙ q) z)
     where
       go : Same m 0 → (not (same m 0) && same n i) ≡ true → m ≡ 0 → ⊥
       go (is z k _) h y = true≢false (sym h ∙ rw k)
       go (isnt z k _) h y = z y
 
   -- a map of the records that there are
-  pub map-small : (store : List ℕ) (m i : ℕ) → Reserves g store m i → m < 2 ^ records g
+  pub map-small : (store : List ℕ) (m i : ℕ) → Reserves tears g store m i → m < 2 ^ records g
   map-small store m i H = go (same? m 0)
     where
       go : Same m 0 → m < 2 ^ records g
       go (is z _ _) = rw z (pow-pos (records g))
-      go (isnt z _ _) = prepared-is g (pagesOf store 0) (prepared m i) (one-prepared g store m i H z) .1 .map-fits
+      go (isnt z _ _) = prepared-is g (shownFirst store) (prepared m i) (one-prepared tears g store m i H z) .1 .map-fits
 
-  module _ (x : Arrays) (I : Intact f x) (up : x .up ≡ 1) (m n i : ℕ) (H : Reserves g (x .store) m n) (b : Bool) (test : b ≡ (not (same m 0) && same n i)) where
+  module _ (x : Arrays) (I : Intact f x) (up : x .up ≡ 1) (m n i : ℕ) (H : Reserves tears g (x .store) m n) (b : Bool) (test : b ≡ (not (same m 0) && same n i)) where
     pub for-is : isFor i (f .medium .prepared (view f x .store)) ≡ b
     unfolding view
-    for-is = isFor-is g (x .store) m n H i ∙ sym test
+    for-is = ap (isFor i) (prepared-in tears g (x .store)) ∙ isFor-is tears g (x .store) m n H i ∙ sym test
 
     pub query-steps : (v : ℕ) → cond b 1 0 ≡ v → Stepped f x (some (query i)) (answer 0 v) x
     query-steps v e = finishes f x x (some (query i)) (view f x) v (query-done f (view f x) i (up-is f x up) ∙ ap (finished (view f x)) (ap (λ (b : Bool). cond b 1 0) for-is ∙ e)) refl (I .form)
@@ -66,20 +70,20 @@ module _ (g : Geometry) where
       decide-other e = finishes f x x (some (decide d k i)) (view f x) 0 (decides-is ∙ ap (decides f (view f x) d k) e) refl (I .form)
 
       -- for the prepared one, over what its page writes left
-      module _ (ours : b ≡ true) (store : List ℕ) (made : ℕ) (crashed : Bool) (L : Leaves (decideAt g (pagesOf (x .store)) d k) (pagesOf store) made crashed) (size : length store ≡ length (x .store)) where
-        abbrev C : Cut Pages
-        C = decideAt g (pagesOf (x .store)) d k
+      module _ (ours : b ≡ true) (store : List ℕ) (made : ℕ) (crashed : Bool) (L : Leaves (f .medium .decide (f .medium .fromBytes (x .store)) d k) (f .medium .fromBytes store) made crashed) (size : length store ≡ length (x .store)) where
+        abbrev C : Cut (f .medium .Store)
+        C = f .medium .decide (f .medium .fromBytes (x .store)) d k
 
-        outcome : (c : Bool) → crashed ≡ c → step f (view f x) (some (decide d k i)) ≡ concluded (raised (view f x) (pagesOf store)) C c
+        outcome : (c : Bool) → crashed ≡ c → step f (view f x) (some (decide d k i)) ≡ concluded (raised (view f x) (f .medium .fromBytes store)) C c
         unfolding decides recovers view
         outcome c e =
             decides-is ∙ ap (decides f (view f x) d k) ours
-            ∙ ap₂ (λ (p : Pages) (c : Bool). concluded (raised (view f x) p) C c) (sym (L .store)) (sym (L .crashed) ∙ e)
+            ∙ ap₂ (λ (p : f .medium .Store) (c : Bool). concluded (raised (view f x) p) C c) (sym (L .store)) (sym (L .crashed) ∙ e)
 
         pub decide-steps : crashed ≡ false → Stepped f x (some (decide d k i)) (answer 0 made) (arrays (x .up) (x .parent) (x .depth) (x .line) (x .held) (x .retained) (x .writers) (x .work) store)
         unfolding concluded saying numberOf valueOf view raised
         decide-steps e =
-            stepped f x _ (some (decide d k i)) (raised (view f x) (pagesOf store)) (done (C .made)) (answer 0 made) (outcome false e)
+            stepped f x _ (some (decide d k i)) (raised (view f x) (f .medium .fromBytes store)) (done (C .made)) (answer 0 made) (outcome false e)
             (state-eq f (up-is f x up) refl refl refl refl refl) (ap (answer 0) (L .made))
             (let F = I .form in record { lines = F .lines; flag = F .flag; tidy = F .tidy; held-nested = F .held-nested; retained-nested = F .retained-nested; parents = F .parents; depths = F .depths; long = F .long; helds = F .helds; retaineds = F .retaineds; writerss = F .writerss; works = F .works; stores = size ∙ F .stores })
 

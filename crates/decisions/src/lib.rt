@@ -1,6 +1,6 @@
 // The decision on a prepared transaction, and the question whether one is prepared.
 ghost use mathlib.Core.Path.{_≡_};
-ghost use mathlib.Core.Bool.{true, not, _&&_};
+ghost use mathlib.Core.Bool.{Bool, true, false, not, _&&_};
 ghost use mathlib.Core.List.{List};
 ghost use mathlib.Core.Option.{some};
 ghost use Prim.Native.Nat.{ℕ, _+_, _*_, _^_, _<_};
@@ -10,7 +10,7 @@ ghost use Rattle.rules.specs.Store.{pagesOf, readPrepared};
 ghost use Rattle.rules.specs.Event.{decide, query};
 ghost use Rattle.rules.specs.Commit.{decideAt};
 ghost use Rattle.rules.specs.Geometry.{Geometry};
-ghost use Rattle.rules.specs.Editions.{Edition, geometryOf, formOf, InNumbers};
+ghost use Rattle.rules.specs.Editions.{Edition, geometryOf, formIn, InNumbers};
 ghost use Rattle.arrays.specs.Kin.{Kin};
 ghost use Rattle.commitpage.specs.Heard.{prepared};
 ghost use Rattle.commitpage.specs.Layout.{Known, Layout};
@@ -71,10 +71,11 @@ pub fn decide_event(
     ensures { λ a. ⌜ ((edition : Edition) (work : List ℕ) →
         let before = arrays (now (up .entry)) (now (parent .entry)) (now (depth .entry)) (now (line .entry)) (now (held .entry)) (now (retained .entry)) (now (writers .entry)) work (now (store .entry)) in
         let after = arrays (now (up .exit)) (now (parent .exit)) (now (depth .exit)) (now (line .exit)) (now (held .exit)) (now (retained .exit)) (now (writers .exit)) work (now (store .exit)) in
-        InNumbers edition records joint → Intact (formOf edition) before → now (up .entry) ≡ 1
-        → Reserves (geometryOf edition) (now (store .entry)) (now (reserved .entry)) (now (identity .entry))
-        → Stepped (formOf edition) before (some (decide commits k i)) a after
-        × Reserves (geometryOf edition) (now (store .exit)) (now (reserved .exit)) (now (identity .exit))) ⌝ }
+        let form = formIn false (geometryOf edition) in
+        InNumbers edition records joint false → Intact form before → now (up .entry) ≡ 1
+        → Reserves false (geometryOf edition) (now (store .entry)) (now (reserved .entry)) (now (identity .entry))
+        → Stepped form before (some (decide commits k i)) a after
+        × Reserves false (geometryOf edition) (now (store .exit)) (now (reserved .exit)) (now (identity .exit))) ⌝ }
     ensures { λ _. ⌜ Kin (now (parent .exit)) (now (depth .exit)) (now (live .exit)) (now (children .exit)) ⌝ }
 {
     let map = *reserved;
@@ -116,8 +117,9 @@ pub fn decide_event(
 
 // Whether a transaction is prepared with identity i: 1, else 0.
 pub fn query_event(reserved: u64, identity: u8, i: u8) -> Answer
-    ensures { λ a. ⌜ ((edition : Edition) (x : Arrays) → Intact (formOf edition) x → x .up ≡ 1 → Reserves (geometryOf edition) (x .store) reserved identity
-        → Stepped (formOf edition) x (some (query i)) a x) ⌝ }
+    ensures { λ a. ⌜ ((edition : Edition) (tears : Bool) (x : Arrays) →
+        let form = formIn tears (geometryOf edition) in
+        Intact form x → x .up ≡ 1 → Reserves tears (geometryOf edition) (x .store) reserved identity → Stepped form x (some (query i)) a x) ⌝ }
 {
     if is_for(reserved, identity, i) {
         return Answer {

@@ -1,12 +1,13 @@
 -- What is delivered holds: each field is the theorem of the crate that it is about.
-use mathlib.Core.Path.{_≡_, refl}
+use mathlib.Core.Path.{_≡_}
 use mathlib.Core.Bool.{false}
-use Rattle.rules.specs.Editions.{Edition, first, second, geometryOf, formOf}
+use Rattle.rules.specs.Editions.{Edition, first, second, paired, geometryOf}
 use Rattle.rules.proofs.AtomicPages.{atomic-laws}
 use Rattle.rules.proofs.Acceptance.{refused-keeps}
 use Rattle.rules.proofs.Soundness.{sound-play}
+use Rattle.rules.specs.Form.{atomic}
 use Rattle.rules.specs.Geometry.{Proper}
-use Rattle.rules.proofs.Editions.{proper1, proper2}
+use Rattle.rules.proofs.Editions.{proper1, proper2, proper-pairs}
 use Rattle.history.proofs.Demand3.{demand-3}
 use Rattle.history.proofs.Claims.{reads-overlay, commit-survives}
 use Rattle.history.proofs.Survival.{survives-in-k}
@@ -25,23 +26,21 @@ use Rattle.delivered.specs.Delivered.{Promised-of-runs, Promised-of-port
 proper : (k : Edition) → Proper (geometryOf k)
 proper first = proper1
 proper second = proper2
+proper paired = proper-pairs
 
-untorn : (k : Edition) → geometryOf k .tears ≡ false
-untorn first = refl
-untorn second = refl
-
-of-runs : (k : Edition) → Promised-of-runs k
-of-runs k =
-    let M = atomic-laws (geometryOf k) (proper k) in
+of-runs : (k : Edition) → geometryOf k .tears ≡ false → Promised-of-runs (geometryOf k)
+of-runs k whole =
+    let g = geometryOf k in
+    let M = atomic-laws g (proper k) in
     record {
-      refused-keeps = refused-keeps (formOf k);
-      sound = sound-play (formOf k) M;
-      reads = reads-overlay (formOf k) M;
-      survives-in-k = survives-in-k (geometryOf k) (proper k) (untorn k);
-      commit-survives = commit-survives (formOf k) M;
-      demand-3 = demand-3 (formOf k) M;
-      one-at-a-time = one-run-at-a-time (formOf k) M (proper k);
-      device = device-holds (geometryOf k) (proper k);
+      refused-keeps = refused-keeps (atomic g);
+      sound = sound-play (atomic g) M;
+      reads = reads-overlay (atomic g) M;
+      survives-in-k = survives-in-k g (proper k) whole;
+      commit-survives = commit-survives (atomic g) M;
+      demand-3 = demand-3 (atomic g) M;
+      one-at-a-time = one-run-at-a-time (atomic g) M (proper k);
+      device = device-holds g (proper k);
     }
 
 of-portions : Promised-of-portions

@@ -1,17 +1,19 @@
 -- WHAT IS DELIVERED, under one name. The contracts of the open operations tie the code to the rules: a run is `run`, a portion is `portion`. Here stands what
 -- follows from the rules, one field for each theorem that is promised: of every edition, and of edition 1 alone.
 use mathlib.Core.Path.{_≡_}
-use mathlib.Core.Bool.{true}
+use mathlib.Core.Bool.{true, false}
 use mathlib.Core.List.{List}
 use mathlib.Core.Option.{Option}
 use Prim.Native.Nat.{ℕ}
 use lib.ListN.{length}
+use Rattle.rules.specs.Geometry.{Geometry}
+use Rattle.rules.specs.Form.{atomic}
 use Rattle.rules.specs.Event.{Event}
 use Rattle.rules.specs.State.{down}
 use Rattle.rules.specs.Step.{StateOf, refused, step}
 use Rattle.rules.specs.Run.{play}
 use Rattle.rules.specs.Sound.{Sound}
-use Rattle.rules.specs.Editions.{Edition, geometryOf, formOf, edition1, edition2, geometryPairs, editionPairs}
+use Rattle.rules.specs.Editions.{Edition, geometryOf, edition1, edition2, geometryPairs, editionPairs}
 use Rattle.history.specs.Demand3.{Demand-3-holds}
 use Rattle.history.specs.Claims.{Reads-overlay, Commit-survives}
 use Rattle.history.specs.Survival.{Survives-in-k}
@@ -26,24 +28,24 @@ use Rattle.trials_rows.specs.Rows.{numbers1, AllHold, AllGo}
 use Rattle.trials.specs.Trials.{trials}
 use Rattle.trials_edition2.specs.Edition2Trials.{numbers2, trials2, played2}
 
--- Of a run over any start store, of any length of list, in an edition.
-pub record Promised-of-runs (k : Edition) : Type 0 where
+-- Of a run over any start store, of any length of list, in an edition on atomic pages.
+pub record Promised-of-runs (g : Geometry) : Type 0 where
   -- A refusal changes nothing.
-  pub refused-keeps : (s : StateOf (formOf k)) (e : Option Event) (n : ℕ) → step (formOf k) s e .answer ≡ refused n → step (formOf k) s e .state ≡ s
+  pub refused-keeps : (s : StateOf (atomic g)) (e : Option Event) (n : ℕ) → step (atomic g) s e .answer ≡ refused n → step (atomic g) s e .state ≡ s
   -- Every state that a list reaches is sound: locks, versions, lines and depths go together.
-  pub sound : (store : List ℕ) → length store ≡ formOf k .medium .size → (ws : List ℕ) → Sound (formOf k) (play (formOf k) (down (formOf k .medium .fromBytes store)) ws .state)
+  pub sound : (store : List ℕ) → length store ≡ atomic g .medium .size → (ws : List ℕ) → Sound (atomic g) (play (atomic g) (down (atomic g .medium .fromBytes store)) ws .state)
   -- The central law: what a live transaction reads is the start's value under the writes that it may see.
-  pub reads : (store ws : List ℕ) → length store ≡ formOf k .medium .size → Reads-overlay (formOf k) store ws
+  pub reads : (store ws : List ℕ) → length store ≡ atomic g .medium .size → Reads-overlay (atomic g) store ws
   -- A top transaction survives exactly if it changed nothing or k is at least n + 1.
-  pub survives-in-k : (store ws more : List ℕ) (w t c : ℕ) → length store ≡ formOf k .medium .size → Survives-in-k (formOf k) store ws more w t c
+  pub survives-in-k : (store ws more : List ℕ) (w t c : ℕ) → length store ≡ atomic g .medium .size → Survives-in-k (atomic g) store ws more w t c
   -- What is settled stays, through crashes and recoveries, however many and wherever each is cut.
-  pub commit-survives : (store ws more : List ℕ) → length store ≡ formOf k .medium .size → Commit-survives (formOf k) store ws more
+  pub commit-survives : (store ws more : List ℕ) → length store ≡ atomic g .medium .size → Commit-survives (atomic g) store ws more
   -- Demand 3: exactly the surviving writes, in list order; and nothing of the lost ones shows.
-  pub demand-3 : Demand-3-holds (formOf k)
+  pub demand-3 : Demand-3-holds (atomic g)
   -- All is as if one transaction came at a time.
-  pub one-at-a-time : One-run-at-a-time-holds (formOf k)
+  pub one-at-a-time : One-run-at-a-time-holds (atomic g)
   -- The same of a medium that is written page by page while the power may go.
-  pub device : (store : List ℕ) → length store ≡ formOf k .medium .size → (hs : List Happening) → Device-holds (geometryOf k) store hs
+  pub device : (store : List ℕ) → length store ≡ atomic g .medium .size → (hs : List Happening) → Device-holds g store hs
 
 -- Of calls of nekahuiro_portion, each on what the last one left.
 pub record Promised-of-portions : Type 0 where
@@ -70,7 +72,7 @@ pub record Promised-of-torn-pages : Type 0 where
 
 -- THE WHOLE.
 pub record Delivered : Type 1 where
-  pub runs : (k : Edition) → Promised-of-runs k
+  pub runs : (k : Edition) → geometryOf k .tears ≡ false → Promised-of-runs (geometryOf k)
   pub portions : Promised-of-portions
   pub torn-pages : Promised-of-torn-pages
   -- Truck and depot never hold opposite decisions.

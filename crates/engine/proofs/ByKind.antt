@@ -17,10 +17,10 @@ use Rattle.rules.specs.State.{live}
 use Rattle.rules.specs.Form.{Form, atomicPages}
 use Rattle.rules.specs.Step.{refused, hasChild, StateOf, step}
 use Rattle.rules.specs.Sound.{Sound}
-use Rattle.rules.specs.Editions.{geometry1, Edition, geometryOf, formOf, InNumbers}
+use Rattle.rules.specs.Editions.{geometry1, Edition, geometryOf, mediumOf, formIn, InNumbers}
 use Rattle.rules.proofs.Medium.{MediumLaws}
 use Rattle.rules.proofs.AtomicPages.{atomic-laws}
-use Rattle.rules.proofs.Editions.{proper1}
+use Rattle.rules.proofs.Editions.{proper1, medium-laws}
 use Rattle.rules.proofs.Soundness.{sound-step, sound-bad}
 use Rattle.rules.proofs.Waiting.{lock-waits, write-waits, read-waits}
 use Rattle.commitpage.proofs.Places.{laid}
@@ -147,28 +147,38 @@ meaning-fits : (g : Geometry) (e : Fields) → InWord g e → (8 < e .kind → g
 unfolding meaning
 meaning-fits g e R J f q = fits-of g (e .kind) (e .transaction) (e .rec) (e .offset) (e .count) (e .value) (R .transaction) (R .rec) (R .offset) (R .count) (R .value) J (R .still) f q
 
-module _ (k : Edition) where
+module _ (k : Edition) (n : ℕ) (joint tears : Bool) (N : InNumbers k n joint tears) where
+  abbrev form : Form
+  form = formIn tears (geometryOf k)
+
   proper : Proper (geometryOf k)
   proper = laid k .proper
 
   -- every event keeps the arrays sound
-  pub keeps : (n : ℕ) (joint : Bool) → InNumbers k n joint → (x y : Arrays) (e : Fields) (a : Answer) → (8 < e .kind → joint ≡ true) → InWord (geometryOf k) e → Intact (formOf k) x → Stepped (formOf k) x (meaning e) a y → Stepped (formOf k) x (meaning e) a y × Intact (formOf k) y
+  pub keeps : (x y : Arrays) (e : Fields) (a : Answer) → (8 < e .kind → joint ≡ true) → InWord (geometryOf k) e → Intact form x → Stepped form x (meaning e) a y → Stepped form x (meaning e) a y × Intact form y
   unfolding view
-  keeps n joint N x y e a J R I T = (T, record { sound = subst⁻¹ (Sound (formOf k)) (T .is) (go (meaning e) refl); served = I .served; form = T .form })
+  keeps x y e a J R I T = (T, record { sound = subst⁻¹ (Sound form) (T .is) (go (meaning e) refl); served = I .served; form = T .form })
     where
-      laws : MediumLaws (geometryOf k) (atomicPages (geometryOf k))
-      laws = atomic-laws (geometryOf k) proper
+      laws : MediumLaws (geometryOf k) (mediumOf tears (geometryOf k))
+      laws = medium-laws tears (geometryOf k) proper (N .torn)
 
-      go : (o : Option Event) → meaning e ≡ o → Sound (formOf k) (step (formOf k) (view (formOf k) x) o .state)
-      go none q = sound-bad (formOf k) laws (I .sound) (laws .shaped-from (x .store) (I .form .stores))
-      go (some f) q = sound-step (formOf k) laws (I .sound) (laws .shaped-from (x .store) (I .form .stores)) f (meaning-fits (geometryOf k) e R (λ h. N .two-phase ∙ J h) f q)
+      go : (o : Option Event) → meaning e ≡ o → Sound form (step form (view form x) o .state)
+      go none q = sound-bad form laws (I .sound) (laws .shaped-from (x .store) (I .form .stores))
+      go (some f) q = sound-step form laws (I .sound) (laws .shaped-from (x .store) (I .form .stores)) f (meaning-fits (geometryOf k) e R (λ h. N .two-phase ∙ J h) f q)
 
   -- an event of another kind leaves what is prepared
-  pub keeps-reserved : (x y : Arrays) (e : Fields) (a : Answer) (m i : ℕ) → e .kind ≢ 9 → e .kind ≢ 10 → Intact (formOf k) x → Reserves (geometryOf k) (x .store) m i
-      → Stepped (formOf k) x (meaning e) a y → Reserves (geometryOf k) (y .store) m i
+  pub keeps-reserved : (x y : Arrays) (e : Fields) (a : Answer) (m i : ℕ) → e .kind ≢ 9 → e .kind ≢ 10 → Intact form x → Reserves tears (geometryOf k) (x .store) m i
+      → Stepped form x (meaning e) a y → Reserves tears (geometryOf k) (y .store) m i
   unfolding meaning
   keeps-reserved x y e a m i p d I H T =
-      reserves-kept (geometryOf k) proper x y (meaning e) a m i I T H (plain-of (e .kind) (e .transaction) (e .rec) (e .offset) (e .count) (e .value) p d)
+      reserves-kept tears (geometryOf k) proper (N .torn) x y (meaning e) a m i I T H (plain-of (e .kind) (e .transaction) (e .rec) (e .offset) (e .count) (e .value) p d)
+
+-- transactions are prepared and decided on atomic pages alone
+pub decided-whole : (tears : Bool) (g : Geometry) (x y : Arrays) (e : Option Event) (a : Answer) (m i m′ i′ : ℕ) → tears ≡ false
+    → (Intact (formIn false g) x → x .up ≡ 1 → Reserves false g (x .store) m i → Stepped (formIn false g) x e a y × Reserves false g (y .store) m′ i′)
+    → Intact (formIn tears g) x → x .up ≡ 1 → Reserves tears g (x .store) m i → Stepped (formIn tears g) x e a y × Reserves tears g (y .store) m′ i′
+decided-whole tears g x y e a m i m′ i′ q T =
+    subst⁻¹ (λ (b : Bool). Intact (formIn b g) x → x .up ≡ 1 → Reserves b g (x .store) m i → Stepped (formIn b g) x e a y × Reserves b g (y .store) m′ i′) q T
 
 -- the offset of a decision: 0 to abort, another to commit
 pub to-abort : (v : ℕ) → v ≡ 0 → decisionOf v ≡ false

@@ -1,5 +1,5 @@
-// The engine's step: one event at a time, in place. An edition is told by two numbers, how many records there are and whether transactions can be
-// prepared (`joint`); whoever calls `step` passes them as constants, so that the compiler makes the engine of that edition.
+// The engine's step: one event at a time, in place. An edition is told by how many records there are, whether transactions can be prepared (`joint`) and
+// whether pages can tear (`tears`); whoever calls `step` passes them as constants, so that the compiler makes the engine of that edition.
 //
 // The functions are cut in the order of the refusals: `step` has those that come before a transaction is looked up, 1 for a bad event and 2 while down;
 // `named_event` has 5, for a transaction that isn't live, and 14, for an event at a record of a transaction with a live child; `end_event` and
@@ -9,11 +9,12 @@ ghost use mathlib.Core.Bool.{Bool, true};
 ghost use mathlib.Core.Logic.{_≢_};
 ghost use Prim.Native.Nat.{ℕ, _+_, _*_, _<_, _≤_};
 ghost use lib.ListN.{length, getD};
-ghost use Rattle.rules.specs.Editions.{Edition, geometryOf, formOf, InNumbers, editionOf};
+ghost use Rattle.rules.specs.Editions.{Edition, geometryOf, formIn, InNumbers, editionOf};
 ghost use Rattle.numbers.specs.Named.{transactionOf, recordOf};
 ghost use Rattle.event.specs.Meaning.{meaning, InWord};
 ghost use Rattle.arrays.specs.Kin.{Kin};
 ghost use Rattle.slots.specs.Parts.{Sources};
+ghost use Rattle.counted.specs.Phase.{strideOf, placeOf};
 ghost use Rattle.state.specs.Whole.{arrays, Intact, Stepped, ReadyLeaf, Reserves};
 use event::Answer;
 use event::Event;
@@ -23,11 +24,11 @@ use numbers::TransactionNamed;
 use numbers::TransactionNumber;
 
 // The byte of the store where record r's home page begins: the commit page and the intention pages come before the home pages.
-fn home_at(records: usize, r: RecordNumber) -> usize
+fn home_at(records: usize, tears: bool, r: RecordNumber) -> usize
     requires { ⌜ (recordOf r < records) × (records ≤ 64) ⌝ }
-    ensures { λ at. ⌜ (at ≡ 32 * (1 + (records + recordOf r))) × (at + 32 ≤ 32 * (1 + (records + records))) ⌝ }
+    ensures { λ at. ⌜ (at ≡ placeOf tears (1 + (records + recordOf r))) × (at + 32 ≤ strideOf tears * (1 + (records + records))) ⌝ }
 {
-    32 * (1 + records + r.index())
+    counted::place(tears, 1 + records + r.index())
 }
 
 // An event at a record, of a live transaction without a live child: the tree of transactions stays as it is.
@@ -42,19 +43,20 @@ fn record_event(
     store: &[u8],
     reserved: u64,
     records: usize,
+    tears: bool,
     e: Event,
     t: TransactionNumber,
     r: RecordNumber,
 ) -> Answer
     requires { ⌜ (transactionOf t ≡ e .transaction) × (recordOf r ≡ e .rec) × (1 < e .kind) × (e .kind < 5) × (e .offset < 32) × (recordOf r < records) × (records ≤ 64)
         × (length (now held) ≡ 2 * records) × (length (now retained) ≡ 2 * records) × (length (now writers) ≡ records) × (length (now work) ≡ 512 * records)
-        × (length (now store) ≡ 32 * (1 + (records + records))) × (0 < getD (now depth) (transactionOf t) 0) × Sources (now parent) (now depth) ⌝ }
+        × (length (now store) ≡ strideOf tears * (1 + (records + records))) × (0 < getD (now depth) (transactionOf t) 0) × Sources (now parent) (now depth) ⌝ }
     ensures { λ a. ⌜ ((edition : Edition) (joint : Bool) (up identity : ℕ) →
         let before = arrays up (now (parent .entry)) (now (depth .entry)) (now (line .entry)) (now (held .entry)) (now (retained .entry)) (now (writers .entry)) (now (work .entry)) (now (store .entry)) in
         let after = arrays up (now (parent .entry)) (now (depth .entry)) (now (line .entry)) (now (held .exit)) (now (retained .entry)) (now (writers .exit)) (now (work .exit)) (now (store .entry)) in
-        let form = formOf edition in
-        InNumbers edition records joint → Intact form before → ReadyLeaf form before (transactionOf t)
-        → Reserves (geometryOf edition) (now (store .entry)) reserved identity → Stepped form before (meaning e) a after) ⌝ }
+        let form = formIn tears (geometryOf edition) in
+        InNumbers edition records joint tears → Intact form before → ReadyLeaf form before (transactionOf t)
+        → Reserves tears (geometryOf edition) (now (store .entry)) reserved identity → Stepped form before (meaning e) a after) ⌝ }
 {
     let o = e.offset as usize;
     let kind = e.kind;
@@ -68,7 +70,7 @@ fn record_event(
             writers,
             work,
             store,
-            home_at(records, r),
+            home_at(records, tears, r),
             t,
             r,
             o,
@@ -81,7 +83,7 @@ fn record_event(
             writers,
             work,
             store,
-            home_at(records, r),
+            home_at(records, tears, r),
             t,
             r,
             o,
@@ -106,22 +108,23 @@ fn end_event(
     identity: &mut u8,
     records: usize,
     joint: bool,
+    tears: bool,
     e: Event,
     t: TransactionNumber,
 ) -> Answer
-    requires { let edition = editionOf records joint in
+    requires { let edition = editionOf records joint tears in
         let here = arrays (now up) (now parent) (now depth) (now line) (now held) (now retained) (now writers) (now work) (now store) in
         ⌜ (transactionOf t ≡ e .transaction) × (4 < e .kind) × (e .kind < 10) × (e .kind ≢ 7) × (e .kind ≢ 8) × (0 < getD (now depth) (transactionOf t) 0) × InWord (geometryOf edition) e
-        × Intact (formOf edition) here × (now up ≡ 1) × Kin (now parent) (now depth) (now live) (now children)
-        × Reserves (geometryOf edition) (now store) (now reserved) (now identity)
-        × InNumbers edition records joint × (8 < e .kind → joint ≡ true) ⌝ }
+        × Intact (formIn tears (geometryOf edition)) here × (now up ≡ 1) × Kin (now parent) (now depth) (now live) (now children)
+        × Reserves tears (geometryOf edition) (now store) (now reserved) (now identity)
+        × InNumbers edition records joint tears × (8 < e .kind → joint ≡ true) ⌝ }
     ensures { λ a.
         let before = arrays (now (up .entry)) (now (parent .entry)) (now (depth .entry)) (now (line .entry)) (now (held .entry)) (now (retained .entry)) (now (writers .entry)) (now (work .entry)) (now (store .entry)) in
         let after = arrays (now (up .exit)) (now (parent .exit)) (now (depth .exit)) (now (line .exit)) (now (held .exit)) (now (retained .exit)) (now (writers .exit)) (now (work .exit)) (now (store .exit)) in
-        let edition = editionOf records joint in
-        ⌜ Stepped (formOf edition) before (meaning e) a after ⌝ }
+        let edition = editionOf records joint tears in
+        ⌜ Stepped (formIn tears (geometryOf edition)) before (meaning e) a after ⌝ }
     ensures { λ _. ⌜ Kin (now (parent .exit)) (now (depth .exit)) (now (live .exit)) (now (children .exit)) ⌝ }
-    ensures { λ _. ⌜ Reserves (geometryOf (editionOf records joint)) (now (store .exit)) (now (reserved .exit)) (now (identity .exit)) ⌝ }
+    ensures { λ _. ⌜ Reserves tears (geometryOf (editionOf records joint tears)) (now (store .exit)) (now (reserved .exit)) (now (identity .exit)) ⌝ }
 {
     let kind = e.kind;
     if kind == 6 {
@@ -155,6 +158,7 @@ fn end_event(
         identity,
         records,
         joint,
+        tears,
         t,
         kind == 9,
         e.count,
@@ -180,22 +184,23 @@ fn named_event(
     identity: &mut u8,
     records: usize,
     joint: bool,
+    tears: bool,
     e: Event,
     t: TransactionNumber,
 ) -> Answer
-    requires { let edition = editionOf records joint in
+    requires { let edition = editionOf records joint tears in
         let here = arrays (now up) (now parent) (now depth) (now line) (now held) (now retained) (now writers) (now work) (now store) in
         ⌜ (transactionOf t ≡ e .transaction) × (1 < e .kind) × (e .kind < 10) × (e .kind ≢ 7) × (e .kind ≢ 8) × InWord (geometryOf edition) e
-        × Intact (formOf edition) here × (now up ≡ 1) × Kin (now parent) (now depth) (now live) (now children)
-        × Reserves (geometryOf edition) (now store) (now reserved) (now identity)
-        × InNumbers edition records joint × (8 < e .kind → joint ≡ true) ⌝ }
+        × Intact (formIn tears (geometryOf edition)) here × (now up ≡ 1) × Kin (now parent) (now depth) (now live) (now children)
+        × Reserves tears (geometryOf edition) (now store) (now reserved) (now identity)
+        × InNumbers edition records joint tears × (8 < e .kind → joint ≡ true) ⌝ }
     ensures { λ a.
         let before = arrays (now (up .entry)) (now (parent .entry)) (now (depth .entry)) (now (line .entry)) (now (held .entry)) (now (retained .entry)) (now (writers .entry)) (now (work .entry)) (now (store .entry)) in
         let after = arrays (now (up .exit)) (now (parent .exit)) (now (depth .exit)) (now (line .exit)) (now (held .exit)) (now (retained .exit)) (now (writers .exit)) (now (work .exit)) (now (store .exit)) in
-        let edition = editionOf records joint in
-        ⌜ Stepped (formOf edition) before (meaning e) a after ⌝ }
+        let edition = editionOf records joint tears in
+        ⌜ Stepped (formIn tears (geometryOf edition)) before (meaning e) a after ⌝ }
     ensures { λ _. ⌜ Kin (now (parent .exit)) (now (depth .exit)) (now (live .exit)) (now (children .exit)) ⌝ }
-    ensures { λ _. ⌜ Reserves (geometryOf (editionOf records joint)) (now (store .exit)) (now (reserved .exit)) (now (identity .exit)) ⌝ }
+    ensures { λ _. ⌜ Reserves tears (geometryOf (editionOf records joint tears)) (now (store .exit)) (now (reserved .exit)) (now (identity .exit)) ⌝ }
 {
     let kind = e.kind;
     if depth[e.transaction as usize] == 0 {
@@ -221,6 +226,7 @@ fn named_event(
             identity,
             records,
             joint,
+            tears,
             e,
             t,
         );
@@ -243,6 +249,7 @@ fn named_event(
             store,
             *reserved,
             records,
+            tears,
             e,
             t,
             r,
@@ -272,20 +279,21 @@ pub fn step(
     identity: &mut u8,
     records: usize,
     joint: bool,
+    tears: bool,
     e: Event,
 ) -> Answer
-    requires { let edition = editionOf records joint in
+    requires { let edition = editionOf records joint tears in
         let here = arrays (now up) (now parent) (now depth) (now line) (now held) (now retained) (now writers) (now work) (now store) in
-        ⌜ InWord (geometryOf edition) e × Intact (formOf edition) here × Kin (now parent) (now depth) (now live) (now children)
-        × Reserves (geometryOf edition) (now store) (now reserved) (now identity)
-        × InNumbers edition records joint × (8 < e .kind → joint ≡ true) ⌝ }
+        ⌜ InWord (geometryOf edition) e × Intact (formIn tears (geometryOf edition)) here × Kin (now parent) (now depth) (now live) (now children)
+        × Reserves tears (geometryOf edition) (now store) (now reserved) (now identity)
+        × InNumbers edition records joint tears × (8 < e .kind → joint ≡ true) ⌝ }
     ensures { λ a.
         let before = arrays (now (up .entry)) (now (parent .entry)) (now (depth .entry)) (now (line .entry)) (now (held .entry)) (now (retained .entry)) (now (writers .entry)) (now (work .entry)) (now (store .entry)) in
         let after = arrays (now (up .exit)) (now (parent .exit)) (now (depth .exit)) (now (line .exit)) (now (held .exit)) (now (retained .exit)) (now (writers .exit)) (now (work .exit)) (now (store .exit)) in
-        let edition = editionOf records joint in
-        ⌜ Stepped (formOf edition) before (meaning e) a after × Intact (formOf edition) after ⌝ }
+        let edition = editionOf records joint tears in
+        ⌜ Stepped (formIn tears (geometryOf edition)) before (meaning e) a after × Intact (formIn tears (geometryOf edition)) after ⌝ }
     ensures { λ _. ⌜ Kin (now (parent .exit)) (now (depth .exit)) (now (live .exit)) (now (children .exit)) ⌝ }
-    ensures { λ _. ⌜ Reserves (geometryOf (editionOf records joint)) (now (store .exit)) (now (reserved .exit)) (now (identity .exit)) ⌝ }
+    ensures { λ _. ⌜ Reserves tears (geometryOf (editionOf records joint tears)) (now (store .exit)) (now (reserved .exit)) (now (identity .exit)) ⌝ }
 {
     let kind = e.kind;
     let t = e.transaction;
@@ -310,7 +318,7 @@ pub fn step(
         );
     }
     if kind == 8 {
-        return crashes::recover_event(up, store, records, joint, e.count);
+        return crashes::recover_event(up, store, records, joint, tears, e.count);
     }
     if *up != 1 {
         return Answer {
@@ -383,6 +391,7 @@ pub fn step(
             identity,
             records,
             joint,
+            tears,
             e,
             n,
         ),

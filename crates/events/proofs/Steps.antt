@@ -14,10 +14,10 @@ use Rattle.rules.specs.Event.{Access, lock, write, read}
 use Rattle.rules.specs.State.{lineOf, live}
 use Rattle.rules.specs.Locks.{grantable}
 use Rattle.rules.specs.Versions.{withVersion}
-use Rattle.rules.specs.Form.{Form, atomic}
+use Rattle.rules.specs.Form.{Form}
 use Rattle.rules.specs.Geometry.{Geometry, records}
 use Rattle.rules.specs.Step.{refused, reserved, numberOf, valueOf, locked, wrote, finished, visible}
-use Rattle.rules.specs.Editions.{depths}
+use Rattle.rules.specs.Editions.{depths, formIn}
 use Rattle.sets.specs.Sets.{sets}
 use Rattle.arrays.specs.View.{Owners, anyMode, writeMode, bearersOf, modesOf, Nested, slot, versionsOf, seen}
 use Rattle.arrays.specs.Changes.{barring, openTo, joined, joinedFor}
@@ -31,11 +31,11 @@ use Rattle.state.proofs.Reserves.{reserved-test}
 use Rattle.state.proofs.Steps.{answer, stepped, finishes, unmoved, state-eq, up-is, live-is, holds-is, holds-writing-is, shallow, writer-deep, writer-alone}
 
 -- whether a record is reserved, by the code's test
-pub is-reserved : (g : Geometry) (x : Arrays) (map identity n : ℕ) → records g ≡ n → Reserves g (x .store) map identity
-    → (byte r : ℕ) (b : Bool) → byte ≡ r → r < n → ((g : Geometry) → records g ≡ n → b ≡ named g map byte) → reserved (atomic g) (view (atomic g) x) r ≡ b
-is-reserved g x map identity n e H byte r b q h says =
+pub is-reserved : (tears : Bool) (g : Geometry) (x : Arrays) (map identity n : ℕ) → records g ≡ n → Reserves tears g (x .store) map identity
+    → (byte r : ℕ) (b : Bool) → byte ≡ r → r < n → ((g : Geometry) → records g ≡ n → b ≡ named g map byte) → reserved (formIn tears g) (view (formIn tears g) x) r ≡ b
+is-reserved tears g x map identity n e H byte r b q h says =
     let small : r < records g = subst⁻¹ (λ (m : ℕ). r < m) e h in
-    reserved-test g x map identity H r byte r b (refl, small) (q, subst⁻¹ (λ (m : ℕ). m < records g) q small) (says g e)
+    reserved-test tears g x map identity H r byte r b (refl, small) (q, subst⁻¹ (λ (m : ℕ). m < records g) q small) (says g e)
 
 module _ (f : Form) where
   module _ (x : Arrays) (I : Intact f x) where

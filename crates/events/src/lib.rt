@@ -1,12 +1,12 @@
 // Locks, reads, writes and aborts, in place. The engine's state is a few arrays (crate state tells what each holds); each function is lent those that it
-// needs. It promises, for every edition and for any content of the other arrays, what the rules say of its event.
+// needs. It promises, for every edition, on atomic pages or pages that can tear, and for any content of the other arrays, what the rules say of its event.
 ghost use mathlib.Core.Path.{_≡_};
 ghost use mathlib.Core.Bool.{Bool};
 ghost use mathlib.Core.List.{List};
 ghost use Prim.Native.Nat.{ℕ, _+_, _*_, _<_, _≤_};
 ghost use lib.ListN.{length, getD, take, drop};
 ghost use Rattle.rules.specs.Event.{lock, write, read, abort};
-ghost use Rattle.rules.specs.Editions.{Edition, geometryOf, formOf, InNumbers};
+ghost use Rattle.rules.specs.Editions.{Edition, geometryOf, formIn, InNumbers};
 ghost use Rattle.arrays.specs.Changes.{accessWhen};
 ghost use Rattle.arrays.specs.Kin.{Kin};
 ghost use Rattle.slots.specs.Parts.{Sources};
@@ -31,11 +31,12 @@ pub fn lock_event(
     reading: bool,
 ) -> Answer
     requires { ⌜ (records ≤ 64) × (recordOf r < records) × (length (now held) ≡ 2 * records) × (length (now retained) ≡ 2 * records) ⌝ }
-    ensures { λ a. ⌜ ((k : Edition) (joint : Bool) (up identity : ℕ) (parent depth writers work store : List ℕ) →
+    ensures { λ a. ⌜ ((k : Edition) (joint tears : Bool) (up identity : ℕ) (parent depth writers work store : List ℕ) →
         let before = arrays up parent depth (now (line .entry)) (now (held .entry)) (now (retained .entry)) writers work store in
         let after = arrays up parent depth (now (line .entry)) (now (held .exit)) (now (retained .entry)) writers work store in
-        InNumbers k records joint → Reserves (geometryOf k) store reserved identity
-        → Does (formOf k) (ReadyLeaf (formOf k)) before (transactionOf t) (lock (transactionOf t) (recordOf r) (accessWhen reading)) a after) ⌝ }
+        let form = formIn tears (geometryOf k) in
+        InNumbers k records joint tears → Reserves tears (geometryOf k) store reserved identity
+        → Does form (ReadyLeaf form) before (transactionOf t) (lock (transactionOf t) (recordOf r) (accessWhen reading)) a after) ⌝ }
 {
     if commitpage::names(reserved, records as u8, r.number()) {
         return Answer {
@@ -71,11 +72,12 @@ pub fn read_event(
 ) -> Answer
     requires { ⌜ (o < 32) × (recordOf r < length (now writers)) × (length (now writers) ≤ 64) × (length (now held) ≡ 2 * length (now writers))
         × (length (now work) ≡ 512 * length (now writers)) × (at + 32 ≤ length (now store)) × Sources (now parent) (now depth) ⌝ }
-    ensures { λ a. ⌜ ((k : Edition) (up : ℕ) (line retained : List ℕ) →
+    ensures { λ a. ⌜ ((k : Edition) (tears : Bool) (up : ℕ) (line retained : List ℕ) →
         let stored = now (store .entry) in
         let before = arrays up (now (parent .entry)) (now (depth .entry)) line (now (held .entry)) retained (now (writers .entry)) (now (work .entry)) stored in
-        take 32 (drop at stored) ≡ formOf k .medium .home (formOf k .medium .fromBytes stored) (recordOf r)
-        → Does (formOf k) (ReadyLeaf (formOf k)) before (transactionOf t) (read (transactionOf t) (recordOf r) o) a before) ⌝ }
+        let form = formIn tears (geometryOf k) in
+        take 32 (drop at stored) ≡ form .medium .home (form .medium .fromBytes stored) (recordOf r)
+        → Does form (ReadyLeaf form) before (transactionOf t) (read (transactionOf t) (recordOf r) o) a before) ⌝ }
 {
     if locks::holds(held, t, r) {
         return Answer {
@@ -107,12 +109,13 @@ pub fn write_event(
     requires { ⌜ (o < 32) × (recordOf r < length (now writers)) × (length (now writers) ≤ 64) × (length (now held) ≡ 2 * length (now writers))
         × (length (now work) ≡ 512 * length (now writers)) × (at + 32 ≤ length (now store)) × (0 < getD (now depth) (transactionOf t) 0)
         × Sources (now parent) (now depth) ⌝ }
-    ensures { λ a. ⌜ ((k : Edition) (up : ℕ) (line retained : List ℕ) →
+    ensures { λ a. ⌜ ((k : Edition) (tears : Bool) (up : ℕ) (line retained : List ℕ) →
         let stored = now (store .entry) in
         let before = arrays up (now (parent .entry)) (now (depth .entry)) line (now (held .entry)) retained (now (writers .entry)) (now (work .entry)) stored in
         let after = arrays up (now (parent .entry)) (now (depth .entry)) line (now (held .entry)) retained (now (writers .exit)) (now (work .exit)) stored in
-        take 32 (drop at stored) ≡ formOf k .medium .home (formOf k .medium .fromBytes stored) (recordOf r)
-        → Does (formOf k) (ReadyLeaf (formOf k)) before (transactionOf t) (write (transactionOf t) (recordOf r) o v) a after) ⌝ }
+        let form = formIn tears (geometryOf k) in
+        take 32 (drop at stored) ≡ form .medium .home (form .medium .fromBytes stored) (recordOf r)
+        → Does form (ReadyLeaf form) before (transactionOf t) (write (transactionOf t) (recordOf r) o v) a after) ⌝ }
 {
     if locks::holds_writing(held, t, r) {
         slots::write(parent, depth, writers, work, store, at, t, r, o, v);
@@ -144,10 +147,11 @@ pub fn abort_event(
     requires { ⌜ (length (now parent) ≡ 24) × (length (now depth) ≡ 24) × (length (now line) ≡ 24) × (records ≤ 64)
         × (length (now held) ≡ 2 * records) × (length (now retained) ≡ 2 * records) × (length (now writers) ≡ records)
         × Sources (now parent) (now depth) × Kin (now parent) (now depth) (now live) (now children) ⌝ }
-    ensures { λ a. ⌜ ((k : Edition) (up : ℕ) (work store : List ℕ) →
+    ensures { λ a. ⌜ ((k : Edition) (tears : Bool) (up : ℕ) (work store : List ℕ) →
         let before = arrays up (now (parent .entry)) (now (depth .entry)) (now (line .entry)) (now (held .entry)) (now (retained .entry)) (now (writers .entry)) work store in
         let after = arrays up (now (parent .exit)) (now (depth .exit)) (now (line .exit)) (now (held .exit)) (now (retained .exit)) (now (writers .exit)) work store in
-        Does (formOf k) (Ready (formOf k)) before (transactionOf t) (abort (transactionOf t) report) a after) ⌝ }
+        let form = formIn tears (geometryOf k) in
+        Does form (Ready form) before (transactionOf t) (abort (transactionOf t) report) a after) ⌝ }
     ensures { λ _. ⌜ Kin (now (parent .exit)) (now (depth .exit)) (now (live .exit)) (now (children .exit)) ⌝ }
 {
     let n = t.number();

@@ -13,9 +13,9 @@ use Rattle.laws.proofs.Booleans.{not-false}
 use Rattle.rules.specs.Geometry.{Geometry, records, workSize, wordSize, longest}
 use Rattle.rules.specs.Step.{firstOf}
 use Rattle.rules.specs.Run.{runRefusals, eventsIn}
-use Rattle.rules.specs.Editions.{depths}
+use Rattle.rules.specs.Editions.{depths, formIn}
 use Rattle.rules.proofs.Cuts.{not-lt-under}
-use Rattle.lengths.specs.Lengths.{formIn, storeBytes, workBytes, lengthsRefused, questionRefused, refusalNumber}
+use Rattle.lengths.specs.Lengths.{storeBytes, workBytes, lengthsRefused, questionRefused, refusalNumber}
 use Rattle.lengths.proofs.Sizes.{store-size, work-size}
 
 -- atomic pages or pages that tear, n records, words of s bytes

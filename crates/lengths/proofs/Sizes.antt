@@ -4,8 +4,7 @@ use mathlib.Core.Bool.{Bool, true, false}
 use Prim.Native.Nat.{ℕ, _+_, _*_}
 use native.Mathlib.Omega.{arith}
 use Rattle.rules.specs.Geometry.{Geometry, records, pageCount, workSize}
-use Rattle.rules.specs.Editions.{depths}
-use Rattle.counted.specs.Phase.{mediumOf}
+use Rattle.rules.specs.Editions.{depths, mediumOf}
 use Rattle.lengths.specs.Lengths.{storeBytes, workBytes}
 
 module _ (n : ℕ) (g : Geometry) (many : records g ≡ n) where

@@ -4,14 +4,9 @@ use mathlib.Core.List.{[], _∷_}
 use mathlib.Core.Option.{Option, none, some}
 use Prim.Native.Nat.{ℕ, _+_, _*_, _/_, _%_}
 use Rattle.laws.specs.Tests.{same, under}
-use Rattle.rules.specs.Geometry.{Geometry, longest}
-use Rattle.rules.specs.Form.{Form}
+use Rattle.rules.specs.Geometry.{longest}
 use Rattle.rules.specs.Step.{firstOf}
-use Rattle.counted.specs.Phase.{strideOf, mediumOf}
-
--- a geometry's form with atomic pages, or with pages that tear
-abbrev pub formIn : Bool → Geometry → Form
-formIn tears g = record { geometry = g; medium = mediumOf tears g }
+use Rattle.counted.specs.Phase.{strideOf}
 
 -- the bytes of a store with n records, and of its working buffer
 abbrev pub storeBytes : Bool → ℕ → ℕ

@@ -43,7 +43,7 @@ use Rattle.state.proofs.Steps.{answer, up-is, down-is, not-live, not-live-past}
 use Rattle.state.proofs.Parents.{top-line}
 use Rattle.state.proofs.Reserves.{top-is}
 use Rattle.commits.proofs.Tops.{top-versions}
-use Rattle.crashes.proofs.Falls.{whole-is, map-is, recover-refuses-3, recover-refuses-4}
+use Rattle.crashes.proofs.Falls.{damaged-is, whole-is, map-is, recover-refuses-3, recover-refuses-4}
 use Rattle.commits.specs.Settling.{settling}
 use Rattle.commits.proofs.Commits.{settling-refuses, settling-13, settling-27, settling-ends}
 use Rattle.decisions.proofs.Decisions.{for-is, for-prepared}
@@ -242,9 +242,9 @@ module _ (g : Geometry) (N : ℕ) (many : records g ≡ N) where
     module _ (R : Ready (atomic g) x t) where
       pub top-parent : (p : Plan) → p ≡ nothing → hasChild (view (atomic g) x) t ≡ true → Plans g N x (some event) p
       unfolding planFor
-      top-parent p q h = plans-none x (some event) p q (refused-of x event 10 (λ z. omega arith) (λ z. omega arith) (settling-refuses g x I b t k i R h))
+      top-parent p q h = plans-none x (some event) p q (refused-of x event 10 (λ z. omega arith) (λ z. omega arith) (settling-refuses false g x I b t k i R h))
 
-      module _ (childless : hasChild (view (atomic g) x) t ≡ false) (n j : ℕ) (H : Reserves g (x .store) n j) where
+      module _ (childless : hasChild (view (atomic g) x) t ≡ false) (n j : ℕ) (H : Reserves false g (x .store) n j) where
         abbrev m : ℕ
         m = mapOf g (λ r. setsIn (x .writers) r t)
 
@@ -260,9 +260,9 @@ module _ (g : Geometry) (N : ℕ) (many : records g ≡ N) where
         beneath-plans h = go b (is? (not (same m 0) && not (same n 0)))
           where
             go : (b : Bool) → Is (not (same m 0) && not (same n 0)) → planOf g (view (atomic g) x) (settling b t k i) ≡ []
-            go false q = idle-plan (view (atomic g) x) (commit t k) (line-none (view (atomic g) x .version t) (lineOf (view (atomic g) x .bearer) t) (top-is g x t (R .live) ∙ ne-false (getD (x .depth) t 0) 1 h))
-            go true (yes′ q) = refused-of x (prepare t k i) 13 (λ z. omega arith) (λ z. omega arith) (settling-13 g x I t R childless m n j refl H true k i (λ z. absurd (true≢false z)) q)
-            go true (no′ q) = refused-of x (prepare t k i) 27 (λ z. omega arith) (λ z. omega arith) (settling-27 g x I t R childless m n j refl H true k i (λ z. absurd (true≢false z)) q h)
+            go false q = idle-plan (view (atomic g) x) (commit t k) (line-none (view (atomic g) x .version t) (lineOf (view (atomic g) x .bearer) t) (top-is false g x t (R .live) ∙ ne-false (getD (x .depth) t 0) 1 h))
+            go true (yes′ q) = refused-of x (prepare t k i) 13 (λ z. omega arith) (λ z. omega arith) (settling-13 false g x I t R childless m n j refl H true k i (λ z. absurd (true≢false z)) q)
+            go true (no′ q) = refused-of x (prepare t k i) 27 (λ z. omega arith) (λ z. omega arith) (settling-27 false g x I t R childless m n j refl H true k i (λ z. absurd (true≢false z)) q h)
 
         pub top-beneath : (p : Plan) → p ≡ nothing → getD (x .depth) t 0 ≢ 1 → Plans g N x (some event) p
         unfolding planFor
@@ -271,14 +271,14 @@ module _ (g : Geometry) (N : ℕ) (many : records g ≡ N) where
         module _ (map : ℕ) (mapped : map ≡ mapOf g (λ r. setsIn (x .writers) r t)) (top : getD (x .depth) t 0 ≡ 1) where
           pub top-busy : (p : Plan) → p ≡ nothing → (not (same map 0) && not (same n 0)) ≡ true → Plans g N x (some event) p
           unfolding planFor
-          top-busy p q h = plans-none x (some event) p q (refused-of x event 13 (λ z. omega arith) (λ z. omega arith) (settling-13 g x I t R childless map n j mapped H b k i (λ z. top) h))
+          top-busy p q h = plans-none x (some event) p q (refused-of x event 13 (λ z. omega arith) (λ z. omega arith) (settling-13 false g x I t R childless map n j mapped H b k i (λ z. top) h))
 
           small : map < 2 ^ N
           small = subst (λ (k : ℕ). map < 2 ^ k) many (rw mapped (mapOf-lt g (λ r. setsIn (x .writers) r t)))
 
           taken : (not (same map 0) && not (same n 0)) ≡ false → planOf g (view (atomic g) x) event ≡ acceptedPlan g (view (atomic g) x) event
           unfolding commitsTop
-          taken h = accepted-plan g (view (atomic g) x) event (λ n′ e. concludes _ _ _ n′ (sym (ap (λ (o : Outcome Pages). o .answer) (settling-ends g x I t R childless map n j mapped H b k i h top)) ∙ e))
+          taken h = accepted-plan g (view (atomic g) x) event (λ n′ e. concludes _ _ _ n′ (sym (ap (λ (o : Outcome Pages). o .answer) (settling-ends false g x I t R childless map n j mapped H b k i h top)) ∙ e))
 
           accepted-is : acceptedPlan g (view (atomic g) x) event ≡ writesOf g N (ofTop map b i) (x .work) (x .store)
           unfolding settling acceptedPlan view linePlan
@@ -286,9 +286,9 @@ module _ (g : Geometry) (N : ℕ) (many : records g ≡ N) where
             where
               go : (b : Bool) → acceptedPlan g (view (atomic g) x) (settling b t k i) ≡ writesOf g N (ofTop map b i) (x .work) (x .store)
               go false =
-                  ap (linePlan g (view (atomic g) x .version t)) (top-line (atomic g) x I t top) ∙ ap (commitPlan g) (top-versions g x (I .form) t map mapped top)
+                  ap (linePlan g (view (atomic g) x .version t)) (top-line (atomic g) x I t top) ∙ ap (commitPlan g) (top-versions false g x (I .form) t map mapped top)
                   ∙ commit-writes map (x .work) (x .store) small i
-              go true = ap (λ (v : ℕ → Option Page). preparePlan g v i) (top-versions g x (I .form) t map mapped top) ∙ prepare-writes map (x .work) (x .store) small i
+              go true = ap (λ (v : ℕ → Option Page). preparePlan g v i) (top-versions false g x (I .form) t map mapped top) ∙ prepare-writes map (x .work) (x .store) small i
 
           pub top-plans : (p : Plan) → p ≡ ofTop map b i → (not (same map 0) && not (same n 0)) ≡ false → Plans g N x (some event) p
           unfolding planFor
@@ -298,20 +298,20 @@ module _ (g : Geometry) (N : ℕ) (many : records g ≡ N) where
   module _ (x : Arrays) (I : Intact (atomic g) x) (k : ℕ) where
     pub recovery-up : (p : Plan) → p ≡ nothing → x .up ≡ 1 → Plans g N x (some (recover k)) p
     unfolding planFor
-    recovery-up p q h = plans-none x (some (recover k)) p q (refused-of x (recover k) 3 (λ z. omega arith) (λ z. omega arith) (recover-refuses-3 g x I k h))
+    recovery-up p q h = plans-none x (some (recover k)) p q (refused-of x (recover k) 3 (λ z. omega arith) (λ z. omega arith) (recover-refuses-3 (atomic g) x I k h))
 
     module _ (n : x .up ≢ 1) (c : CommitMap) (h : c ≡ understood g (pagesOf (x .store) 0)) where
       pub recovery-damaged : (p : Plan) → p ≡ nothing → c .good ≡ false → Plans g N x (some (recover k)) p
       unfolding planFor
-      recovery-damaged p q e = plans-none x (some (recover k)) p q (refused-of x (recover k) 4 (λ z. omega arith) (λ z. omega arith) (recover-refuses-4 g x I k n c h e))
+      recovery-damaged p q e = plans-none x (some (recover k)) p q (refused-of x (recover k) 4 (λ z. omega arith) (λ z. omega arith) (recover-refuses-4 (atomic g) x I k n (damaged-is false g (x .store) c h e)))
 
       pub recovery-plans : (p : Plan) → p ≡ ofRecovery (c .map) → c .good ≡ true → Plans g N x (some (recover k)) p
       unfolding planFor acceptedPlan view recovers
       recovery-plans p q e = record {
         writes =
             ap (λ (p : Plan). writesOf g N p (x .work) (x .store)) q
-            ∙ sym (accepted-plan g (view (atomic g) x) (recover k) (λ n′ z. concludes _ _ _ n′ (sym (ap (λ (o : Outcome Pages). o .answer) (recover-done (atomic g) (view (atomic g) x) k (down-is (atomic g) x n) (whole-is g (x .store) c h e))) ∙ z))
-            ∙ recover-writes (c .map) (x .work) (x .store) (map-is g (x .store) c h));
+            ∙ sym (accepted-plan g (view (atomic g) x) (recover k) (λ n′ z. concludes _ _ _ n′ (sym (ap (λ (o : Outcome Pages). o .answer) (recover-done (atomic g) (view (atomic g) x) k (down-is (atomic g) x n) (whole-is false g (x .store) c h e))) ∙ z))
+            ∙ recover-writes (c .map) (x .work) (x .store) (map-is false g (x .store) c h));
       }
 
   -- A DECISION
@@ -320,10 +320,10 @@ module _ (g : Geometry) (N : ℕ) (many : records g ≡ N) where
     unfolding planFor
     decision-down p q h = plans-none x (some (decide d k i)) p q (refused-by (view (atomic g) x) (decide d k i) 2 (decide-down (atomic g) (view (atomic g) x) (down-is (atomic g) x h) d k i))
 
-    module _ (up : x .up ≡ 1) (m n : ℕ) (H : Reserves g (x .store) m n) (b : Bool) (test : b ≡ (not (same m 0) && same n i)) where
+    module _ (up : x .up ≡ 1) (m n : ℕ) (H : Reserves false g (x .store) m n) (b : Bool) (test : b ≡ (not (same m 0) && same n i)) where
       accepted-as : acceptedPlan g (view (atomic g) x) (decide d k i) ≡ decisionPlan g (pagesOf (x .store)) d b
       unfolding acceptedPlan view
-      accepted-as = ap (decisionPlan g (pagesOf (x .store)) d) (for-is g x I up m n i H b test)
+      accepted-as = ap (decisionPlan g (pagesOf (x .store)) d) (for-is false g x I up m n i H b test)
 
       pub decision-other : (p : Plan) → p ≡ nothing → b ≡ false → Plans g N x (some (decide d k i)) p
       unfolding planFor decisionPlan
@@ -336,7 +336,7 @@ module _ (g : Geometry) (N : ℕ) (many : records g ≡ N) where
             ap (λ (p : Plan). writesOf g N p (x .work) (x .store)) q
             ∙ sym (ap (λ (u : Bool). planBy g (view (atomic g) x) (decide d k i) (cond (not u) (some 2) none)) (up-is (atomic g) x up)
             ∙ accepted-as ∙ ap (decisionPlan g (pagesOf (x .store)) d) e
-            ∙ decide-writes m (x .work) (x .store) d n (for-prepared g (x .store) m n i b H test e));
+            ∙ decide-writes m (x .work) (x .store) d n (for-prepared false g (x .store) m n i b H test e));
       }
 
   -- BETWEEN THE CODE AND THE RULES

@@ -10,7 +10,8 @@ ghost use Rattle.laws.specs.Counting.{those};
 ghost use Rattle.rules.specs.Geometry.{Geometry};
 ghost use Rattle.rules.specs.Store.{named};
 ghost use Rattle.rules.specs.Event.{recover, decide};
-ghost use Rattle.rules.specs.Editions.{Edition, geometryOf, formOf, InNumbers};
+ghost use Rattle.rules.specs.Form.{atomic};
+ghost use Rattle.rules.specs.Editions.{Edition, geometryOf, InNumbers};
 ghost use Rattle.device.specs.Plan.{writeAt};
 ghost use Rattle.device.specs.Asked.{told, planFor};
 ghost use Rattle.commitpage.specs.Layout.{Known, Layout};
@@ -227,7 +228,7 @@ fn top_plan(
         × ((u : ℕ) → getD (now parent) u 0 < 32) ⌝ }
     ensures { λ p. ⌜ ((edition : Edition) (joint : Bool) (line held retained work store : List ℕ) (k i : ℕ) →
         let x = arrays up (now (parent .entry)) (now (depth .entry)) line held retained (now (writers .entry)) work store in
-        InNumbers edition records joint → Intact (formOf edition) x → Reserves (geometryOf edition) store reserved i
+        InNumbers edition records joint false → Intact (atomic (geometryOf edition)) x → Reserves false (geometryOf edition) store reserved i
         → Plans (geometryOf edition) records x (some (settling prepares (transactionOf t) k identity)) p) ⌝ }
     ensures { λ p. ⌜ (p .map < 2 ^ records) × (p .prepared ≡ true → records ≡ 16) ⌝ }
 {
@@ -258,7 +259,7 @@ fn recovery_plan(up: u8, store: &[u8], records: usize, joint: bool) -> Plan
     requires { ⌜ Known records × (joint ≡ true → records ≡ 16) × (length (now store) ≡ 32 * (1 + (records + records))) ⌝ }
     ensures { λ p. ⌜ ((edition : Edition) (parent depth line held retained writers work : List ℕ) (k : ℕ) →
         let x = arrays up parent depth line held retained writers work (now (store .entry)) in
-        InNumbers edition records joint → Intact (formOf edition) x → Plans (geometryOf edition) records x (some (recover k)) p) ⌝ }
+        InNumbers edition records joint false → Intact (atomic (geometryOf edition)) x → Plans (geometryOf edition) records x (some (recover k)) p) ⌝ }
     ensures { λ p. ⌜ (p .map < 2 ^ records) × (p .prepared ≡ true → records ≡ 16) ⌝ }
 {
     if up == 1 {
@@ -277,7 +278,7 @@ fn decision_plan(up: u8, records: usize, reserved: u64, identity: u8, commits: b
     requires { ⌜ reserved < 2 ^ records ⌝ }
     ensures { λ p. ⌜ ((edition : Edition) (joint : Bool) (parent depth line held retained writers work store : List ℕ) (k : ℕ) →
         let x = arrays up parent depth line held retained writers work store in
-        InNumbers edition records joint → Intact (formOf edition) x → Reserves (geometryOf edition) store reserved identity
+        InNumbers edition records joint false → Intact (atomic (geometryOf edition)) x → Reserves false (geometryOf edition) store reserved identity
         → Plans (geometryOf edition) records x (some (decide commits k i)) p) ⌝ }
     ensures { λ p. ⌜ (p .map < 2 ^ records) × (p .prepared ≡ true → records ≡ 16) ⌝ }
 {
@@ -305,7 +306,7 @@ fn plan_of(
         × (length (now writers) ≡ records) × (length (now store) ≡ 32 * (1 + (records + records))) × ((u : ℕ) → getD (now parent) u 0 < 32) ⌝ }
     ensures { λ p. ⌜ ((edition : Edition) (line held retained work : List ℕ) →
         let x = arrays up (now (parent .entry)) (now (depth .entry)) line held retained (now (writers .entry)) work (now (store .entry)) in
-        InNumbers edition records joint → Intact (formOf edition) x → Plans (geometryOf edition) records x (meaning e) p) ⌝ }
+        InNumbers edition records joint false → Intact (atomic (geometryOf edition)) x → Plans (geometryOf edition) records x (meaning e) p) ⌝ }
     ensures { λ p. ⌜ (p .map < 2 ^ records) × (p .prepared ≡ true → records ≡ 16) ⌝ }
 {
     let kind = e.kind;
@@ -355,8 +356,8 @@ pub fn page_write(
         × (length (now write) ≡ 33) × ((u : ℕ) → getD (now parent) u 0 < 32) ⌝ }
     ensures { λ r. ⌜ ((edition : Edition) (line held retained : List ℕ) →
         let x = arrays up (now (parent .entry)) (now (depth .entry)) line held retained (now (writers .entry)) (now (work .entry)) (now (store .entry)) in
-        let said = told (writeAt index (planFor (geometryOf edition) (view (formOf edition) x) (meaning e))) (now (write .entry)) in
-        InNumbers edition records joint → Intact (formOf edition) x → (r ≡ said .answer) × (now (write .exit) ≡ said .write)) ⌝ }
+        let said = told (writeAt index (planFor (geometryOf edition) (view (atomic (geometryOf edition)) x) (meaning e))) (now (write .entry)) in
+        InNumbers edition records joint false → Intact (atomic (geometryOf edition)) x → (r ≡ said .answer) × (now (write .exit) ≡ said .write)) ⌝ }
 {
     let p = plan_of(up, parent, depth, writers, store, records, joint, e);
     put_numbered(p, work, store, records, index, write)

@@ -74,6 +74,7 @@ pub fn portion(
             &mut identity,
             16,
             true,
+            false,
             Event::of_word(&table, Event::word_at(events, k)),
         );
         Answer::put(answers, k, a);

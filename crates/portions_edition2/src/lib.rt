@@ -52,6 +52,7 @@ pub fn from_start(store: &mut [u8], events: &[u8], work: &mut [u8], answers: &mu
             &mut identity,
             64,
             false,
+            false,
             Edition2::of_word(&table, Edition2::word_at(events, k)),
         );
         Answer::put(answers, k, a);

@@ -17,14 +17,15 @@ use Rattle.rules.specs.Store.{Page, Pages, named, readCommit, mapIn, damaged, i
 use Rattle.rules.specs.Step.{firstOf}
 use Rattle.rules.specs.Age.{Age, refused, judged, stamp, ageRefusals, ageBy, ageOf}
 use Rattle.rules.specs.Pairs.{damagedPairs}
-use Rattle.counted.specs.Phase.{storeOf, shownIn, lostIn, mediumOf}
+use Rattle.rules.specs.Editions.{mediumOf, formIn}
+use Rattle.counted.specs.Phase.{storeOf, shownIn, lostIn}
 use denote.Enum.Declared.{tagOf}
 use Rattle.numbers.proofs.RecordNamed.{the-type}
 use Rattle.numbers.specs.Named.{recordNamed, recordOf}
 use Rattle.numbers.specs.declared.RecordNamed.{RecordNamed}
 use Rattle.numbers.specs.declared.RecordNamed.the-variants as R
 use Rattle.numbers.specs.declared.RecordNumber.{RecordNumber}
-use Rattle.lengths.specs.Lengths.{formIn, storeBytes}
+use Rattle.lengths.specs.Lengths.{storeBytes}
 use Rattle.lengths.proofs.Sizes.{store-size, pages-are}
 use Rattle.commitpage.specs.Heard.{understood}
 use Rattle.commitpage.specs.declared.CommitMap.{CommitMap}

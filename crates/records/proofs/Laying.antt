@@ -14,10 +14,11 @@ use Rattle.rules.specs.Store.{Page, Pages, pagesOf, flat, fresh}
 use Rattle.rules.specs.Commit.{sets, written, applied}
 use Rattle.rules.specs.Pairs.{Pairs, whole, pairBytes, pairsOf, flatPairs, putAll, tearFirst, cutPairs}
 use Rattle.rules.specs.Run.{layFresh}
+use Rattle.rules.specs.Editions.{mediumOf, formIn}
 use Rattle.rules.proofs.Pages.{flat-pagesOf}
 use Rattle.rules.proofs.PairBytes.{to-from}
-use Rattle.counted.specs.Phase.{StoreOf, storeOf, strideOf, mediumOf, leftBy}
-use Rattle.lengths.specs.Lengths.{formIn, storeBytes}
+use Rattle.counted.specs.Phase.{StoreOf, storeOf, strideOf, leftBy}
+use Rattle.lengths.specs.Lengths.{storeBytes}
 use Rattle.lengths.proofs.Sizes.{store-size, pages-are}
 use Rattle.records.specs.Laying.{keptAs, keptAt, LaidTo}
 

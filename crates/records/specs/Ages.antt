@@ -7,7 +7,7 @@ use lib.ListN.{take}
 use Rattle.laws.specs.Bytes.{number}
 use Rattle.rules.specs.Geometry.{Geometry}
 use Rattle.rules.specs.Age.{Age, ahead, live, stale, refused, judged}
-use Rattle.counted.specs.Phase.{mediumOf}
+use Rattle.rules.specs.Editions.{mediumOf}
 use Rattle.age.specs.Meaning.{meaning}
 use Rattle.records.specs.declared.Told.{Told}
 use Rattle.records.specs.declared.Told.the-variants as T

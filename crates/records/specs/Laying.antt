@@ -7,7 +7,8 @@ use lib.ListN.{length}
 use Rattle.rules.specs.Geometry.{Geometry}
 use Rattle.rules.specs.Store.{Page, fresh}
 use Rattle.rules.specs.Pairs.{Pair, whole}
-use Rattle.counted.specs.Phase.{StoreOf, storeOf, mediumOf}
+use Rattle.rules.specs.Editions.{mediumOf}
+use Rattle.counted.specs.Phase.{StoreOf, storeOf}
 
 -- a page as a store keeps it: as it is, or in both copies of a pair that is good
 abbrev pub Kept : Bool → Type 0

@@ -1,13 +1,16 @@
 -- The geometries that there are satisfy what the formats ask; edition 2 and the form whose pages tear have no prepare, decide or query.
 use native.Mathlib.Bridge.{le-by-compare, IsLe}
 use mathlib.Core.Path.{_≡_, refl}
-use mathlib.Core.Bool.{false≢true}
+use mathlib.Core.Bool.{Bool, true, false, false≢true}
 use mathlib.Core.Option.{none}
 use Prim.Native.Nat.{ℕ, _<_}
-use Rattle.rules.specs.Geometry.{Proper, open-geometry}
+use Rattle.rules.specs.Geometry.{Geometry, Proper, open-geometry}
 use Rattle.rules.specs.Store.{Page, Pages, readCommit, readPrepared, isDamaged, damaged}
 use Rattle.rules.specs.Event.{fields, decode}
-use Rattle.rules.specs.Editions.{geometry1, geometry2, geometryPairs}
+use Rattle.rules.specs.Editions.{geometry1, geometry2, geometryPairs, mediumOf}
+use Rattle.rules.proofs.Medium.{MediumLaws}
+use Rattle.rules.proofs.AtomicPages.{atomic-laws}
+use Rattle.rules.proofs.PairedPages.{paired-laws}
 use Rattle.rules.proofs.Plain.{no-kind, none-prepared, plain-damaged}
 
 pub proper1 : Proper geometry1
@@ -45,6 +48,11 @@ proper-pairs = record {
   word-whole = refl;
   count-wide = le-by-compare 35 64 tt;
 }
+
+-- the laws of a geometry's medium
+pub medium-laws : (tears : Bool) (g : Geometry) → Proper g → g .tears ≡ tears → MediumLaws g (mediumOf tears g)
+medium-laws false g proper e = atomic-laws g proper
+medium-laws true g proper e = paired-laws g proper e
 
 -- kinds 9 to 11 are bad, and a page in state 3 is damaged: no such page is read as prepared, and any page that has no map is damaged
 pub no-kind2 : (w : ℕ) → 8 < fields geometry2 w .kind → decode geometry2 w ≡ none

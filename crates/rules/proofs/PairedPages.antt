@@ -193,7 +193,7 @@ module _ (g : Geometry) where
     unmoved c s = record { same-identity = free c ∙ sym (free s); same-pending = λ r. none-pending g plain (shown c) r ∙ sym (none-pending g plain (shown s) r) }
 
     -- calm is: every pair good and alike, and the commit page empty
-    calm-emptied : (s : Pairs) → isCalm (pairedPages g) s ≡ true → emptiedPairs g s ≡ true
+    pub calm-emptied : (s : Pairs) → isCalm (pairedPages g) s ≡ true → emptiedPairs g s ≡ true
     unfolding isCalm isBusy
     calm-emptied s e = or-cases (emptiedPairs g s) (isBusy (identityIn (readPrepared g (shown s 0)))) e (λ h. h) (λ h. absurd (false≢true (sym (ap isBusy (free s)) ∙ h)))
 

@@ -3,8 +3,8 @@ use mathlib.Core.Path.{_≡_}
 use mathlib.Core.Bool.{Bool, true, false}
 use Prim.Native.Nat.{ℕ, _*_}
 use Rattle.rules.specs.Geometry.{Geometry, pageSize, records}
-use Rattle.rules.specs.Form.{Form, atomic}
-use Rattle.rules.specs.Pairs.{inPairs}
+use Rattle.rules.specs.Form.{Form, Medium, atomicPages, atomic}
+use Rattle.rules.specs.Pairs.{pairedPages, inPairs}
 
 -- sixteen records, event words of four bytes, a store of 33 pages
 abbrev pub geometry1 : Geometry
@@ -38,26 +38,37 @@ geometryPairs = record {
 abbrev pub editionPairs : Form
 editionPairs = inPairs geometryPairs
 
--- The editions by name. (A form holds a type, so that a contract can't speak of all forms; it can speak of all of these.)
+-- a geometry's medium and its form, on atomic pages or on pages that can tear
+abbrev pub mediumOf : Bool → Geometry → Medium
+mediumOf false g = atomicPages g
+mediumOf true g = pairedPages g
+
+abbrev pub formIn : Bool → Geometry → Form
+formIn tears g = record { geometry = g; medium = mediumOf tears g }
+
+-- The editions and forms by name. (A form holds a type, so that a contract can't speak of all forms; it can speak of all of these.)
 pub data Edition : Type 0 where
-  first second : Edition
+  first second paired : Edition
 
 abbrev pub geometryOf : Edition → Geometry
 geometryOf first = geometry1
 geometryOf second = geometry2
+geometryOf paired = geometryPairs
 
 abbrev pub formOf : Edition → Form
-formOf k = atomic (geometryOf k)
+formOf k = formIn (geometryOf k .tears) (geometryOf k)
 
--- An edition in the numbers that the code gets: how many records there are, and whether transactions can be prepared and decided.
-pub record InNumbers (k : Edition) (n : ℕ) (joint : Bool) : Type 0 where
+-- An edition in the numbers that the code gets: how many records there are, whether transactions can be prepared and decided, and whether pages can tear.
+pub record InNumbers (k : Edition) (n : ℕ) (joint tears : Bool) : Type 0 where
   pub many : records (geometryOf k) ≡ n
   pub two-phase : geometryOf k .joint ≡ joint
+  pub torn : geometryOf k .tears ≡ tears
 
 -- the edition that these numbers tell
-abbrev pub editionOf : ℕ → Bool → Edition
-editionOf n true = first
-editionOf n false = second
+abbrev pub editionOf : ℕ → Bool → Bool → Edition
+editionOf n true tears = first
+editionOf n false true = paired
+editionOf n false false = second
 
 -- Edition 1's numbers that follow from its depth limit, as numbers that compute: how deep transactions nest, the pages of the working buffer, and its
 -- bytes (`workSize geometry1`).

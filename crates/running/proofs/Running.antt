@@ -11,12 +11,12 @@ use Rattle.rules.specs.Form.{Form}
 use Rattle.rules.specs.Step.{firstOf, StateOf}
 use Rattle.rules.specs.State.{down}
 use Rattle.rules.specs.Run.{runRefusals, runAll, runBy, run, eventsIn, words, play, answerBytes}
-use Rattle.rules.specs.Editions.{depths}
+use Rattle.rules.specs.Editions.{depths, formIn}
 use Rattle.history.specs.Demand3.{Demand-3, Demand-3-holds, Plays}
 use Rattle.serial.specs.OneAtATime.{One-run-at-a-time, One-run-at-a-time-holds}
 use Rattle.state.specs.Whole.{Arrays, view}
 use Rattle.state.specs.Portion.{played, Portion}
-use Rattle.lengths.specs.Lengths.{formIn, lengthsRefused, refusalNumber}
+use Rattle.lengths.specs.Lengths.{lengthsRefused, refusalNumber}
 use Rattle.lengths.proofs.Lengths.{by-lengths, lengths-of}
 use Rattle.running.specs.Running.{Ran}
 

@@ -6,7 +6,7 @@ use mathlib.Core.Option.{Option, some}
 use Prim.Native.Nat.{ℕ, _*_, _<_, _≤_}
 use lib.ListN.{getD, length}
 use Rattle.laws.specs.Tests.{same}
-use Rattle.rules.specs.Store.{pagesOf, readPrepared}
+use Rattle.rules.specs.Store.{readPrepared}
 use Rattle.rules.specs.Event.{Event}
 use Rattle.rules.specs.State.{Bearers, lineOf, mem}
 use Rattle.rules.specs.Step as rules
@@ -18,6 +18,7 @@ use Rattle.rules.specs.Form.{Form}
 use Rattle.sets.specs.Sets.{sets}
 use Rattle.arrays.specs.View.{bearersOf, modesOf, Nested, versionsOf}
 use Rattle.commitpage.specs.Heard.{overheard}
+use Rattle.counted.specs.Phase.{storeOf, shownIn}
 use Rattle.event.specs.declared.Answer.{Answer}
 
 -- up is 1, else the engine is down
@@ -102,8 +103,8 @@ module _ (f : Form) where
 
 -- What the store says of a prepared transaction, kept beside the arrays: the map of the records that it changed, 0 where none is prepared, and its
 -- identity.
-abbrev pub Reserves : Geometry → List ℕ → ℕ → ℕ → Type 0
-Reserves g store map identity = overheard (readPrepared g (pagesOf store 0)) ≡ record { map = map; identity = identity }
+abbrev pub Reserves : Bool → Geometry → List ℕ → ℕ → ℕ → Type 0
+Reserves tears g store map identity = overheard (readPrepared g (shownIn tears (storeOf tears store) 0)) ≡ record { map = map; identity = identity }
 
 -- The sentence that the events' contracts share: from arrays that are intact, and a transaction of which it is known what it can do, the event leads
 -- on as the rules say.

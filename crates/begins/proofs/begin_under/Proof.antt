@@ -3,7 +3,7 @@ use Prim.Native.Nat.{_-_}
 use native.Mathlib.Omega.{arith}
 use Rattle.arrays.proofs.Kin.{kin-lowest}
 use Rattle.begins.proofs.Begins.{full-steps, named-of, free-place, begin-kin, begin-placed}
-use Rattle.rules.specs.Editions.{first, formOf}
+use Rattle.rules.specs.Editions.{first, formOf, geometryOf, formIn}
 use borrow.Author.Needs.{needs}
 use Rattle.begins.proofs.begin_under.Statement.{statement}
 use Rattle.begins.proofs.begin_under.Tie as tie
@@ -12,7 +12,7 @@ first-free-requires : tie.Need-first-free-requires
 first-free-requires c κs = search needs
 
 returns : tie.Need-returns
-returns c = (λ k up held retained writers work store I u. let a = c .before .before .before .args in let depth-at = c .before .before .before .pre .1 in full-steps (formOf k) _ I u (a .p) _ (a .above) (omega arith) (named-of (formOf k) _ (a .p) (a .d) (c .before .before .before .pre .1) (c .before .before .before .pre .3)) (kin-lowest _ _ _ _ _ (c .before .before .before .pre .7) (c .before .first-free .ensures)) (c .before .before .before .pre .2) (c .if1 .taken), c .before .before .before .pre .7)
+returns c = (λ k tears up held retained writers work store I u. let a = c .before .before .before .args in let depth-at = c .before .before .before .pre .1 in full-steps (formIn tears (geometryOf k)) _ I u (a .p) _ (a .above) (omega arith) (named-of (formIn tears (geometryOf k)) _ (a .p) (a .d) (c .before .before .before .pre .1) (c .before .before .before .pre .3)) (kin-lowest _ _ _ _ _ (c .before .before .before .pre .7) (c .before .first-free .ensures)) (c .before .before .before .pre .2) (c .if1 .taken), c .before .before .before .pre .7)
 
 add-place : tie.Need-add-place
 add-place c = search needs
@@ -25,7 +25,7 @@ enrol-requires c κs = let p = c .before .before .before .before .before .before
 
 returns-2 : tie.Need-returns-2
 returns-2 c = let a = c .before .before .before .before .before .before .before .before .before .before .args in let e = c .before .before .before .place .ensures in let f = c .enrol .ensures in let q = kin-lowest _ _ _ _ _ (c .before .before .before .before .before .before .before .before .before .before .pre .7) (c .before .before .before .before .before .before .before .before .first-free .ensures) in (
-  λ k up held retained writers work store I u. begin-placed (formOf k) _ I u (a .p) (a .d) _ (a .above) (omega arith) (c .before .before .before .before .before .before .before .before .before .before .pre .1) (c .before .before .before .before .before .before .before .before .before .before .pre .3) q (c .before .before .before .before .before .before .before .before .before .before .pre .2) (c .before .before .before .before .before .before .before .if1 .left) _ _ _ (e .0) (e .1) (e .2),
+  λ k tears up held retained writers work store I u. begin-placed (formIn tears (geometryOf k)) _ I u (a .p) (a .d) _ (a .above) (omega arith) (c .before .before .before .before .before .before .before .before .before .before .pre .1) (c .before .before .before .before .before .before .before .before .before .before .pre .3) q (c .before .before .before .before .before .before .before .before .before .before .pre .2) (c .before .before .before .before .before .before .before .if1 .left) _ _ _ (e .0) (e .1) (e .2),
   begin-kin (formOf first) _ _ _ _ _ _ _ _ _ _ (a .d) (c .before .before .before .before .before .before .before .before .before .before .pre .7) (c .before .before .before .before .before .before .before .before .before .before .pre .5) (c .before .before .before .before .before .before .before .before .before .before .pre .6) q (c .before .before .before .before .before .before .before .if1 .left) (c .before .before .before .before .before .before .before .before .before .before .pre .4) (e .0) (e .1) (f .0) (f .1),
 )
 

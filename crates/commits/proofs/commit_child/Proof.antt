@@ -49,7 +49,7 @@ returns : tie.Need-returns
 returns c = let a = c .before .before .before .before .before .before .before .before .before .before .before .before .before .before .before .before .before .before .before .before .before .before .before .before .before .before .args in let e = c .retire .ensures in let f = c .before .before .before .before .before .before .before .before .before .before .before .pass .ensures in let g = c .before .before .before .before .before .before .before .before .before .before .before .before .before .before .before .before .before .before .lift .ensures in let q = c .before .before .before .before .before .before .before .before .before .before .before .before .before .before .before .before .before .before .before .before .before .before .before .before .before .before .pre .10 in let s = c .before .before .before .before .strike .ensures in
     let n = getD (a .depth .now) (a .t) 0 - 2 in
     let m = c .before .before .before .before .before .before .before .before .before .before .before .before .before .before .before .before .before .before .before .before .before .before .before .before .before .before .pre .9 in let deep : getD (a .depth .now) (a .t) 0 ≡ suc (suc n) = omega (arith, m, q) in (
-      λ edition up k store I R childless. child-steps (geometryOf edition) _ I (a .t) R childless k n deep _ (c .before .before .before .before .before .before .before .before .before .before .before .before .before .before .before .before .before .before .before .before .before .before .before .before .before .before .pre .7) _ _ _ _ _ _ _ (e .0) (e .1) (e .2) (f .0) (f .1) (g .1)
+      λ edition tears up k store I R childless. child-steps tears (geometryOf edition) _ I (a .t) R childless k n deep _ (c .before .before .before .before .before .before .before .before .before .before .before .before .before .before .before .before .before .before .before .before .before .before .before .before .before .before .pre .7) _ _ _ _ _ _ _ (e .0) (e .1) (e .2) (f .0) (f .1) (g .1)
           (g .0 ∙ ap (λ (m : ℕ). lifted (sets (a .writers .now)) (a .t) m (pagesOf (a .work .now))) (q ∙ deep)) (search needs),
       kin-retired _ _ _ _ _ _ _ _ (a .t) _ (c .before .before .before .before .before .before .before .before .before .before .before .before .before .before .before .before .before .before .before .before .before .before .before .before .before .before .pre .12) refl (c .before .before .before .before .before .before .before .before .before .before .before .before .before .before .before .before .before .before .before .before .before .before .before .before .before .before .pre .12 .named (a .t)) (e .0) (e .1) (s .0) (s .1),
     )

@@ -21,7 +21,7 @@ same-length-3 : tie.Need-same-length-3
 same-length-3 c = search needs
 
 returns : tie.Need-returns
-returns c = (λ edition e C work store store′ I R n q L size. top-cut (geometryOf edition) _ I (c .before .before .before .before .before .before .before .before .before .before .before .before .before .before .before .before .before .before .before .before .args .t) R n e C q store′ _ _ L size (c .before .before .before .before .before .before .before .before .before .before .before .before .before .before .before .before .if1 .taken) _ (c .before .before .before .before .before .before .before .before .before .before .before .before .before .before .before .before .before .before .before .before .pre .7) _ _ _ _ _ _ _ (c .before .before .before .before .before .before .fall .ensures .0), c .before .before .before .before .before .before .fall .ensures .1)
+returns c = (λ edition tears e C work store store′ I R n q L size. top-cut tears (geometryOf edition) _ I (c .before .before .before .before .before .before .before .before .before .before .before .before .before .before .before .before .before .before .before .before .args .t) R n e C q store′ _ _ L size (c .before .before .before .before .before .before .before .before .before .before .before .before .before .before .before .before .if1 .taken) _ (c .before .before .before .before .before .before .before .before .before .before .before .before .before .before .before .before .before .before .before .before .pre .7) _ _ _ _ _ _ _ (c .before .before .before .before .before .before .fall .ensures .0), c .before .before .before .before .before .before .fall .ensures .1)
 
 single-requires : tie.Need-single-requires
 single-requires c κs = search needs
@@ -49,7 +49,7 @@ same-length-6 c = search needs
 
 returns-2 : tie.Need-returns-2
 returns-2 c = let e = c .retire .ensures in let f = c .before .before .before .before .before .before .before .before .before .before .before .before .before .before .discard .ensures in let s = c .before .before .before .before .strike .ensures in (
-  λ edition v C work store store′ I R n q L size. top-steps (geometryOf edition) _ I (c .before .before .before .before .before .before .before .before .before .before .before .before .before .before .before .before .before .before .before .before .before .before .before .args .t) R n v C q store′ _ _ L size (c .before .before .before .before .before .before .before .before .before .before .before .before .before .before .before .before .before .before .before .if1 .left) _ (c .before .before .before .before .before .before .before .before .before .before .before .before .before .before .before .before .before .before .before .before .before .before .before .pre .7) _ _ _ _ _ _ _ (c .before .before .before .before .before .before .before .before .before .before .before .before .before .before .before .single .ensures) (e .0) (e .1) (e .2) (f .0) (f .1) (f .2),
+  λ edition tears v C work store store′ I R n q L size. top-steps tears (geometryOf edition) _ I (c .before .before .before .before .before .before .before .before .before .before .before .before .before .before .before .before .before .before .before .before .before .before .before .args .t) R n v C q store′ _ _ L size (c .before .before .before .before .before .before .before .before .before .before .before .before .before .before .before .before .before .before .before .if1 .left) _ (c .before .before .before .before .before .before .before .before .before .before .before .before .before .before .before .before .before .before .before .before .before .before .before .pre .7) _ _ _ _ _ _ _ (c .before .before .before .before .before .before .before .before .before .before .before .before .before .before .before .single .ensures) (e .0) (e .1) (e .2) (f .0) (f .1) (f .2),
   kin-retired _ _ _ _ _ _ _ _ (c .before .before .before .before .before .before .before .before .before .before .before .before .before .before .before .before .before .before .before .before .before .before .before .args .t) _ (c .before .before .before .before .before .before .before .before .before .before .before .before .before .before .before .before .before .before .before .before .before .before .before .pre .8) refl (c .before .before .before .before .before .before .before .before .before .before .before .before .before .before .before .before .before .before .before .before .before .before .before .pre .8 .named (c .before .before .before .before .before .before .before .before .before .before .before .before .before .before .before .before .before .before .before .before .before .before .before .args .t)) (e .0) (e .1) (s .0) (s .1),
 )
 

@@ -14,7 +14,7 @@ read-held-requires : tie.Need-read-held-requires
 read-held-requires c κs = search needs
 
 returns-2 : tie.Need-returns-2
-returns-2 c = (λ edition N e. sym (c .read-held .ensures .0 _ (layout-of edition _ _ N) (N .two-phase)), λ e. clash (not-false _ (c .before .if1 .left)) e)
+returns-2 c = (λ edition N e. sym (c .read-held .ensures .0 _ (layout-of edition _ _ _ N) (N .two-phase)), λ e. clash (not-false _ (c .before .if1 .left)) e)
 
 pub reread-spec : {M : Type 1} → statement M
 reread-spec =

@@ -19,7 +19,7 @@ same-length c = search needs
 returns : tie.Need-returns
 unfolding same
 returns c = (
-  λ edition N I R n H. (settling-13 (geometryOf edition) _ I _ R n _ _ _ (c .before .before .map-of .ensures .0 _ (N .many)) H (c .before .before .before .before .before .before .before .before .before .args .prepares) (c .before .before .before .before .before .before .before .before .before .args .k) (c .before .before .before .before .before .before .before .before .before .args .i) (λ e. sym (c .before .before .before .before .before .before .before .before .before .pre .12) ∙ c .before .before .before .before .before .before .before .before .before .pre .13 e) (c .if1 .taken), H),
+  λ edition N I R n H. (settling-13 (c .before .before .before .before .before .before .before .before .before .args .tears) (geometryOf edition) _ I _ R n _ _ _ (c .before .before .map-of .ensures .0 _ (N .many)) H (c .before .before .before .before .before .before .before .before .before .args .prepares) (c .before .before .before .before .before .before .before .before .before .args .k) (c .before .before .before .before .before .before .before .before .before .args .i) (λ e. sym (c .before .before .before .before .before .before .before .before .before .pre .12) ∙ c .before .before .before .before .before .before .before .before .before .pre .13 e) (c .if1 .taken), H),
   c .before .before .before .before .before .before .before .before .before .pre .14,
 )
 
@@ -29,12 +29,12 @@ same-length-2 c = search needs
 returns-2 : tie.Need-returns-2
 unfolding same
 returns-2 c = (
-  λ edition N I R n H. (settling-27 (geometryOf edition) _ I _ R n _ _ _ (c .before .before .before .map-of .ensures .0 _ (N .many)) H (c .before .before .before .before .before .before .before .before .before .before .args .prepares) (c .before .before .before .before .before .before .before .before .before .before .args .k) (c .before .before .before .before .before .before .before .before .before .before .args .i) (λ e. sym (c .before .before .before .before .before .before .before .before .before .before .pre .12) ∙ c .before .before .before .before .before .before .before .before .before .before .pre .13 e) (c .before .if1 .left) (λ e. c .if2 .taken (c .before .before .before .before .before .before .before .before .before .before .pre .12 ∙ e)), H),
+  λ edition N I R n H. (settling-27 (c .before .before .before .before .before .before .before .before .before .before .args .tears) (geometryOf edition) _ I _ R n _ _ _ (c .before .before .before .map-of .ensures .0 _ (N .many)) H (c .before .before .before .before .before .before .before .before .before .before .args .prepares) (c .before .before .before .before .before .before .before .before .before .before .args .k) (c .before .before .before .before .before .before .before .before .before .before .args .i) (λ e. sym (c .before .before .before .before .before .before .before .before .before .before .pre .12) ∙ c .before .before .before .before .before .before .before .before .before .before .pre .13 e) (c .before .if1 .left) (λ e. c .if2 .taken (c .before .before .before .before .before .before .before .before .before .before .pre .12 ∙ e)), H),
   c .before .before .before .before .before .before .before .before .before .before .pre .14,
 )
 
 write-pages-requires : tie.Need-write-pages-requires
-write-pages-requires c κs = (c .before .before .before .before .before .before .before .before .before .before .before .pre .1, λ e. c .before .before .before .before .before .before .before .before .before .before .before .pre .2 (c .before .before .before .before .before .before .before .before .before .before .before .pre .3 e), c .before .before .before .before .map-of .ensures .1, c .before .before .before .before .before .before .before .before .before .before .before .pre .11, c .before .before .before .before .before .before .before .before .before .before .before .pre .10)
+write-pages-requires c κs = (c .before .before .before .before .before .before .before .before .before .before .before .pre .1, λ e. c .before .before .before .before .before .before .before .before .before .before .before .pre .2 (c .before .before .before .before .before .before .before .before .before .before .before .pre .3 e), λ e. c .before .before .before .before .before .before .before .before .before .before .before .pre .15 (c .before .before .before .before .before .before .before .before .before .before .before .pre .3 e), c .before .before .before .before .map-of .ensures .1, c .before .before .before .before .before .before .before .before .before .before .before .pre .11, c .before .before .before .before .before .before .before .before .before .before .before .pre .10)
 
 reread-requires : tie.Need-reread-requires
 reread-requires c κs = (c .before .before .before .before .before .before .before .before .before .before .before .before .before .before .before .before .before .pre .1, c .before .before .before .before .before .before .before .before .before .before .before .before .before .before .before .before .before .pre .2, search needs)
@@ -59,10 +59,10 @@ unfolding same
 returns-3 c = (
   λ edition N I R n H.
       let g = geometryOf edition in
-      let G = layout-of edition _ _ N in
-      let ends = settling-ends g _ I _ R n _ _ _ (c .before .before .before .before .before .before .before .before .before .before .before .before .before .before .before .before .before .before .before .before .before .before .before .before .before .before .before .map-of .ensures .0 _ (N .many)) H (c .before .before .before .before .before .before .before .before .before .before .before .before .before .before .before .before .before .before .before .before .before .before .before .before .before .before .before .before .before .before .before .before .before .before .args .prepares) (c .before .before .before .before .before .before .before .before .before .before .before .before .before .before .before .before .before .before .before .before .before .before .before .before .before .before .before .before .before .before .before .before .before .before .args .k) (c .before .before .before .before .before .before .before .before .before .before .before .before .before .before .before .before .before .before .before .before .before .before .before .before .before .before .before .before .before .before .before .before .before .before .args .i) (c .before .before .before .before .before .before .before .before .before .before .before .before .before .before .before .before .before .before .before .before .before .before .before .before .before .if1 .left) (sym (c .before .before .before .before .before .before .before .before .before .before .before .before .before .before .before .before .before .before .before .before .before .before .before .before .before .before .before .before .before .before .before .before .before .before .pre .12) ∙ c .before .before .before .before .before .before .before .before .before .before .before .before .before .before .before .before .before .before .before .before .before .before .before .before .if2 .left) in
-      let T = c .before .before .before .before .before .before .end-top .ensures .0 edition _ _ _ _ _ I R n ends (c .before .before .before .before .before .before .before .before .before .before .before .before .before .before .before .before .before .before .before .before .before .before .write-pages .ensures g G) (search needs) in
-      (T, settling-reserves g _ I _ R n _ _ _ (c .before .before .before .before .before .before .before .before .before .before .before .before .before .before .before .before .before .before .before .before .before .before .before .before .before .before .before .map-of .ensures .0 _ (N .many)) H (G .proper) _ _ (c .before .before .before .before .before .before .before .before .before .before .before .before .before .before .before .before .before .before .before .before .before .before .before .before .before .before .before .before .before .before .before .before .before .before .args .prepares) (c .before .before .before .before .before .before .before .before .before .before .before .before .before .before .before .before .before .before .before .before .before .before .before .before .before .before .before .before .before .before .before .before .before .before .args .k) (c .before .before .before .before .before .before .before .before .before .before .before .before .before .before .before .before .before .before .before .before .before .before .before .before .before .before .before .before .before .before .before .before .before .before .args .i) _ _ T (c .before .before .before .before .before .before .before .before .before .before .before .before .before .before .before .before .reread .ensures .0 edition N) (c .before .before .before .before .before .before .before .before .before .before .before .before .before .before .before .before .reread .ensures .1)),
+      let G = layout-of edition _ _ _ N in
+      let ends = settling-ends (c .before .before .before .before .before .before .before .before .before .before .before .before .before .before .before .before .before .before .before .before .before .before .before .before .before .before .before .before .before .before .before .before .before .before .args .tears) g _ I _ R n _ _ _ (c .before .before .before .before .before .before .before .before .before .before .before .before .before .before .before .before .before .before .before .before .before .before .before .before .before .before .before .map-of .ensures .0 _ (N .many)) H (c .before .before .before .before .before .before .before .before .before .before .before .before .before .before .before .before .before .before .before .before .before .before .before .before .before .before .before .before .before .before .before .before .before .before .args .prepares) (c .before .before .before .before .before .before .before .before .before .before .before .before .before .before .before .before .before .before .before .before .before .before .before .before .before .before .before .before .before .before .before .before .before .before .args .k) (c .before .before .before .before .before .before .before .before .before .before .before .before .before .before .before .before .before .before .before .before .before .before .before .before .before .before .before .before .before .before .before .before .before .before .args .i) (c .before .before .before .before .before .before .before .before .before .before .before .before .before .before .before .before .before .before .before .before .before .before .before .before .before .if1 .left) (sym (c .before .before .before .before .before .before .before .before .before .before .before .before .before .before .before .before .before .before .before .before .before .before .before .before .before .before .before .before .before .before .before .before .before .before .pre .12) ∙ c .before .before .before .before .before .before .before .before .before .before .before .before .before .before .before .before .before .before .before .before .before .before .before .before .if2 .left) in
+      let T = c .before .before .before .before .before .before .end-top .ensures .0 edition (c .before .before .before .before .before .before .before .before .before .before .before .before .before .before .before .before .before .before .before .before .before .before .before .before .before .before .before .before .before .before .before .before .before .before .args .tears) _ _ _ _ _ I R n ends (c .before .before .before .before .before .before .before .before .before .before .before .before .before .before .before .before .before .before .before .before .before .before .write-pages .ensures g G) (search needs) in
+      (T, settling-reserves (c .before .before .before .before .before .before .before .before .before .before .before .before .before .before .before .before .before .before .before .before .before .before .before .before .before .before .before .before .before .before .before .before .before .before .args .tears) g _ I _ R n _ _ _ (c .before .before .before .before .before .before .before .before .before .before .before .before .before .before .before .before .before .before .before .before .before .before .before .before .before .before .before .map-of .ensures .0 _ (N .many)) H (G .proper) (N .torn) _ _ (c .before .before .before .before .before .before .before .before .before .before .before .before .before .before .before .before .before .before .before .before .before .before .before .before .before .before .before .before .before .before .before .before .before .before .args .prepares) (c .before .before .before .before .before .before .before .before .before .before .before .before .before .before .before .before .before .before .before .before .before .before .before .before .before .before .before .before .before .before .before .before .before .before .args .k) (c .before .before .before .before .before .before .before .before .before .before .before .before .before .before .before .before .before .before .before .before .before .before .before .before .before .before .before .before .before .before .before .before .before .before .args .i) _ _ T (c .before .before .before .before .before .before .before .before .before .before .before .before .before .before .before .before .reread .ensures .0 edition N) (c .before .before .before .before .before .before .before .before .before .before .before .before .before .before .before .before .reread .ensures .1)),
   c .before .before .before .before .before .before .end-top .ensures .1,
 )
 

@@ -1,6 +1,6 @@
 -- Everything is cleared.
 use Prim.Native.Nat.{_-_}
-use Rattle.rules.specs.Editions.{formOf}
+use Rattle.rules.specs.Editions.{geometryOf, formIn}
 use Rattle.crashes.proofs.Falls.{crash-steps}
 use borrow.Author.Needs.{needs}
 use Rattle.crashes.proofs.crash_event.Statement.{statement}
@@ -19,7 +19,7 @@ same-length-3 : tie.Need-same-length-3
 same-length-3 c = search needs
 
 returns : tie.Need-returns
-returns c = (λ edition work store I. crash-steps (formOf edition) _ (I .form) _ (c .before .before .before .before .before .before .before .before .before .before .before .before .before .before .before .before .before .before .before .pre .3) _ _ _ _ _ _ _ (c .before .before .before .before .before .before .fall .ensures .0), c .before .before .before .before .before .before .fall .ensures .1)
+returns c = (λ edition tears work store I. crash-steps (formIn tears (geometryOf edition)) _ (I .form) _ (c .before .before .before .before .before .before .before .before .before .before .before .before .before .before .before .before .before .before .before .pre .3) _ _ _ _ _ _ _ (c .before .before .before .before .before .before .fall .ensures .0), c .before .before .before .before .before .before .fall .ensures .1)
 
 pub crash-event-spec : {M : Type 1} → statement M
 crash-event-spec =

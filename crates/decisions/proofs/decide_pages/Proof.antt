@@ -1,4 +1,5 @@
 -- By the decision.
+use mathlib.Core.Bool.{false}
 use Prim.Native.Nat.{_-_}
 use Rattle.decisions.proofs.Decisions.{by-decision}
 use borrow.Author.Needs.{needs}
@@ -12,7 +13,7 @@ same-length : tie.Need-same-length
 same-length c = search needs
 
 returns : tie.Need-returns
-returns c = λ g G H. by-decision g _ _ _ _ _ _ _ (c .before .before .before .before .if1 .taken) (c .before .before .commit-decided .ensures g G H)
+returns c = λ g G H. by-decision false g _ _ _ _ _ _ _ (c .before .before .before .before .if1 .taken) (c .before .before .commit-decided .ensures g G H)
 
 abort-decided-requires : tie.Need-abort-decided-requires
 abort-decided-requires c κs = search needs
@@ -21,7 +22,7 @@ same-length-2 : tie.Need-same-length-2
 same-length-2 c = search needs
 
 returns-2 : tie.Need-returns-2
-returns-2 c = λ g G H. by-decision g _ _ _ _ _ _ _ (c .before .before .before .before .if1 .left) (c .before .before .abort-decided .ensures g G)
+returns-2 c = λ g G H. by-decision false g _ _ _ _ _ _ _ (c .before .before .before .before .if1 .left) (c .before .before .abort-decided .ensures g G)
 
 pub decide-pages-spec : {M : Type 1} → statement M
 decide-pages-spec =

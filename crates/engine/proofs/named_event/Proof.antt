@@ -7,7 +7,7 @@ use Rattle.engine.proofs.ByKind.{unknown-steps, leaf-of, waits-steps, k
 use Rattle.engine.proofs.Numbers.{record-is, no-record, transaction-small}
 use Rattle.state.proofs.Parents.{child-test}
 use Rattle.state.proofs.Steps.{not-live, sources}
-use Rattle.rules.specs.Editions.{editionOf, formOf}
+use Rattle.rules.specs.Editions.{editionOf, geometryOf, formIn}
 use Rattle.crashes.proofs.Editions.{known-of, few}
 use Rattle.engine.proofs.Lengths.{held-length, retained-length, writers-length, work-length, store-length}
 use borrow.Author.Needs.{needs}
@@ -21,8 +21,8 @@ element-copy-out-if1 : tie.Need-element-copy-out-if1
 element-copy-out-if1 c = let h = transaction-small (c .before .before .before .before .before .before .args .t) in let e = c .before .before .before .before .before .before .pre .0 in search needs
 
 returns : tie.Need-returns
-returns c = let k = editionOf (c .before .before .before .before .before .before .before .before .args .records) (c .before .before .before .before .before .before .before .before .args .joint) in
-    (unknown-steps (formOf k) _ (c .before .before .before .before .before .before .before .before .args .e) (c .before .before .before .before .before .before .before .before .pre .6) (c .before .before .before .before .before .before .before .before .pre .1) (c .before .before .before .before .before .before .before .before .pre .2) (c .before .before .before .before .before .before .before .before .pre .3) (c .before .before .before .before .before .before .before .before .pre .4) (c .before .before .before .before .before .before .before .before .pre .7) (not-live (formOf k) _ (c .before .before .before .before .before .before .before .before .args .e .transaction) (c .if1 .taken)), (c .before .before .before .before .before .before .before .before .pre .8, c .before .before .before .before .before .before .before .before .pre .9))
+returns c = let k = editionOf (c .before .before .before .before .before .before .before .before .args .records) (c .before .before .before .before .before .before .before .before .args .joint) (c .before .before .before .before .before .before .before .before .args .tears) in
+    (unknown-steps (formIn (c .before .before .before .before .before .before .before .before .args .tears) (geometryOf k)) _ (c .before .before .before .before .before .before .before .before .args .e) (c .before .before .before .before .before .before .before .before .pre .6) (c .before .before .before .before .before .before .before .before .pre .1) (c .before .before .before .before .before .before .before .before .pre .2) (c .before .before .before .before .before .before .before .before .pre .3) (c .before .before .before .before .before .before .before .before .pre .4) (c .before .before .before .before .before .before .before .before .pre .7) (not-live (formIn (c .before .before .before .before .before .before .before .before .args .tears) (geometryOf k)) _ (c .before .before .before .before .before .before .before .before .args .e .transaction) (c .if1 .taken)), (c .before .before .before .before .before .before .before .before .pre .8, c .before .before .before .before .before .before .before .before .pre .9))
 
 end-event-requires : tie.Need-end-event-requires
 end-event-requires c κs =
@@ -52,8 +52,8 @@ has-child-requires : tie.Need-has-child-requires
 has-child-requires c κs = c .before .before .before .before .before .before .before .before .before .before .pre .5 .transaction
 
 returns-3 : tie.Need-returns-3
-returns-3 c = let k = editionOf (c .before .before .before .before .before .before .before .before .before .before .before .before .args .records) (c .before .before .before .before .before .before .before .before .before .before .before .before .args .joint) in
-    (waits-steps (formOf k) _ (c .before .before .before .before .before .before .before .before .before .before .before .before .args .e .transaction) _ (child-test (formOf k) _ _ _ _ _ (c .before .before .before .before .before .before .before .before .before .before .before .before .pre .8) (c .before .before .before .before .before .before .before .before .before .before .before .before .pre .5 .transaction) (c .before .has-child .ensures)) (c .if3 .taken) (c .before .before .before .before .before .before .before .before .before .before .before .before .args .e) refl (c .before .before .before .before .before .before .before .before .before .before .before .before .pre .6) (c .before .before .before .before .before .before .before .before .before .before .before .before .pre .1) (omega arith) (record { up = c .before .before .before .before .before .before .before .before .before .before .before .before .pre .7; live = omega arith }), (c .before .before .before .before .before .before .before .before .before .before .before .before .pre .8, c .before .before .before .before .before .before .before .before .before .before .before .before .pre .9))
+returns-3 c = let k = editionOf (c .before .before .before .before .before .before .before .before .before .before .before .before .args .records) (c .before .before .before .before .before .before .before .before .before .before .before .before .args .joint) (c .before .before .before .before .before .before .before .before .before .before .before .before .args .tears) in
+    (waits-steps (formIn (c .before .before .before .before .before .before .before .before .before .before .before .before .args .tears) (geometryOf k)) _ (c .before .before .before .before .before .before .before .before .before .before .before .before .args .e .transaction) _ (child-test (formIn (c .before .before .before .before .before .before .before .before .before .before .before .before .args .tears) (geometryOf k)) _ _ _ _ _ (c .before .before .before .before .before .before .before .before .before .before .before .before .pre .8) (c .before .before .before .before .before .before .before .before .before .before .before .before .pre .5 .transaction) (c .before .has-child .ensures)) (c .if3 .taken) (c .before .before .before .before .before .before .before .before .before .before .before .before .args .e) refl (c .before .before .before .before .before .before .before .before .before .before .before .before .pre .6) (c .before .before .before .before .before .before .before .before .before .before .before .before .pre .1) (omega arith) (record { up = c .before .before .before .before .before .before .before .before .before .before .before .before .pre .7; live = omega arith }), (c .before .before .before .before .before .before .before .before .before .before .before .before .pre .8, c .before .before .before .before .before .before .before .before .before .before .before .before .pre .9))
 
 cast-checked : tie.Need-cast-checked
 cast-checked c = search needs
@@ -65,13 +65,13 @@ enum-known-r : tie.Need-enum-known-r
 enum-known-r c = search needs
 
 record-event-requires : tie.Need-record-event-requires
-record-event-requires c κs = let k = editionOf (c .before .before .before .before .before .before .before .before .before .before .before .before .before .before .before .before .before .before .before .before .before .before .before .before .before .args .records) (c .before .before .before .before .before .before .before .before .before .before .before .before .before .before .before .before .before .before .before .before .before .before .before .before .before .args .joint) in
+record-event-requires c κs = let k = editionOf (c .before .before .before .before .before .before .before .before .before .before .before .before .before .before .before .before .before .before .before .before .before .before .before .before .before .args .records) (c .before .before .before .before .before .before .before .before .before .before .before .before .before .before .before .before .before .before .before .before .before .before .before .before .before .args .joint) (c .before .before .before .before .before .before .before .before .before .before .before .before .before .before .before .before .before .before .before .before .before .before .before .before .before .args .tears) in
     let F = c .before .before .before .before .before .before .before .before .before .before .before .before .before .before .before .before .before .before .before .before .before .before .before .before .before .pre .6 .form in let N = c .before .before .before .before .before .before .before .before .before .before .before .before .before .before .before .before .before .before .before .before .before .before .before .before .before .pre .10 in
-    let small = few _ (known-of k _ _ N) in
+    let small = few _ (known-of k _ _ _ N) in
     let r = record-is _ (c .before .before .before .before .before .before .before .before .before .before .before .before .before .before .before .before .before .before .before .before .before .before .before .before .before .args .e .rec) _ small (sym (c .before .before .before .before .before .before .before .before .before .before .r .given .1) ∙ c .before .before .before .before .before .before .before .before .before .before .before .before .checked .ensures) in
     let alive : 0 < getD (c .before .before .before .before .before .before .before .before .before .before .before .before .before .before .before .before .before .before .before .before .before .before .before .before .before .args .depth .now) (c .before .before .before .before .before .before .before .before .before .before .before .before .before .before .before .before .before .before .before .before .before .before .before .before .before .args .e .transaction) 0 = omega arith in
     let live = subst⁻¹ (λ (n : ℕ). 0 < getD (c .before .before .before .before .before .before .before .before .before .before .before .before .before .before .before .before .before .before .before .before .before .before .before .before .before .args .depth .now) n 0) (c .before .before .before .before .before .before .before .before .before .before .before .before .before .before .before .before .before .before .before .before .before .before .before .before .before .pre .0) alive in
-    (c .before .before .before .before .before .before .before .before .before .before .before .before .before .before .before .before .before .before .before .before .before .before .before .before .before .pre .0, r .0, c .before .before .before .before .before .before .before .before .before .before .before .before .before .before .before .before .before .before .before .before .before .before .before .before .before .pre .1, omega arith, c .before .before .before .before .before .before .before .before .before .before .before .before .before .before .before .before .before .before .before .before .before .before .before .before .before .pre .5 .offset, omega arith, small, held-length k _ _ N _ F, retained-length k _ _ N _ F, writers-length k _ _ N _ F, work-length k _ _ N _ F, store-length k _ _ N _ F, live, sources (formOf k) _ (c .before .before .before .before .before .before .before .before .before .before .before .before .before .before .before .before .before .before .before .before .before .before .before .before .before .pre .6))
+    (c .before .before .before .before .before .before .before .before .before .before .before .before .before .before .before .before .before .before .before .before .before .before .before .before .before .pre .0, r .0, c .before .before .before .before .before .before .before .before .before .before .before .before .before .before .before .before .before .before .before .before .before .before .before .before .before .pre .1, omega arith, c .before .before .before .before .before .before .before .before .before .before .before .before .before .before .before .before .before .before .before .before .before .before .before .before .before .pre .5 .offset, omega arith, small, held-length k _ _ _ N _ F, retained-length k _ _ _ N _ F, writers-length k _ _ _ N _ F, work-length k _ _ _ N _ F, store-length k _ _ _ N _ F, live, sources (formIn (c .before .before .before .before .before .before .before .before .before .before .before .before .before .before .before .before .before .before .before .before .before .before .before .before .before .args .tears) (geometryOf k)) _ (c .before .before .before .before .before .before .before .before .before .before .before .before .before .before .before .before .before .before .before .before .before .before .before .before .before .pre .6))
 
 enum-told : tie.Need-enum-told
 enum-told c = search needs
@@ -92,10 +92,10 @@ same-length-10 : tie.Need-same-length-10
 same-length-10 c = search needs
 
 returns-4 : tie.Need-returns-4
-returns-4 c = let k = editionOf (c .before .before .before .before .before .before .before .before .before .before .before .before .before .before .before .before .before .before .before .before .before .before .before .before .before .before .before .before .before .before .before .before .args .records) (c .before .before .before .before .before .before .before .before .before .before .before .before .before .before .before .before .before .before .before .before .before .before .before .before .before .before .before .before .before .before .before .before .args .joint) in
-    let leaf = leaf-of (formOf k) _ (c .before .before .before .before .before .before .before .before .before .before .before .before .before .before .before .before .before .before .before .before .before .before .before .before .before .before .before .before .before .before .before .before .args .e .transaction) _ (child-test (formOf k) _ _ _ _ _ (c .before .before .before .before .before .before .before .before .before .before .before .before .before .before .before .before .before .before .before .before .before .before .before .before .before .before .before .before .before .before .before .before .pre .8) (c .before .before .before .before .before .before .before .before .before .before .before .before .before .before .before .before .before .before .before .before .before .before .before .before .before .before .before .before .before .before .before .before .pre .5 .transaction) (c .before .before .before .before .before .before .before .before .before .before .before .before .before .before .before .before .before .before .before .before .before .has-child .ensures)) (c .before .before .before .before .before .before .before .before .before .before .before .before .before .before .before .before .before .before .before .before .if3 .left) (record { up = c .before .before .before .before .before .before .before .before .before .before .before .before .before .before .before .before .before .before .before .before .before .before .before .before .before .before .before .before .before .before .before .before .pre .7; live = omega arith }) _ (c .before .before .before .before .before .before .before .before .before .before .before .before .before .before .before .before .before .before .before .before .before .before .before .before .before .before .before .before .before .before .before .before .pre .0) in
+returns-4 c = let k = editionOf (c .before .before .before .before .before .before .before .before .before .before .before .before .before .before .before .before .before .before .before .before .before .before .before .before .before .before .before .before .before .before .before .before .args .records) (c .before .before .before .before .before .before .before .before .before .before .before .before .before .before .before .before .before .before .before .before .before .before .before .before .before .before .before .before .before .before .before .before .args .joint) (c .before .before .before .before .before .before .before .before .before .before .before .before .before .before .before .before .before .before .before .before .before .before .before .before .before .before .before .before .before .before .before .before .args .tears) in
+    let leaf = leaf-of (formIn (c .before .before .before .before .before .before .before .before .before .before .before .before .before .before .before .before .before .before .before .before .before .before .before .before .before .before .before .before .before .before .before .before .args .tears) (geometryOf k)) _ (c .before .before .before .before .before .before .before .before .before .before .before .before .before .before .before .before .before .before .before .before .before .before .before .before .before .before .before .before .before .before .before .before .args .e .transaction) _ (child-test (formIn (c .before .before .before .before .before .before .before .before .before .before .before .before .before .before .before .before .before .before .before .before .before .before .before .before .before .before .before .before .before .before .before .before .args .tears) (geometryOf k)) _ _ _ _ _ (c .before .before .before .before .before .before .before .before .before .before .before .before .before .before .before .before .before .before .before .before .before .before .before .before .before .before .before .before .before .before .before .before .pre .8) (c .before .before .before .before .before .before .before .before .before .before .before .before .before .before .before .before .before .before .before .before .before .before .before .before .before .before .before .before .before .before .before .before .pre .5 .transaction) (c .before .before .before .before .before .before .before .before .before .before .before .before .before .before .before .before .before .before .before .before .before .has-child .ensures)) (c .before .before .before .before .before .before .before .before .before .before .before .before .before .before .before .before .before .before .before .before .if3 .left) (record { up = c .before .before .before .before .before .before .before .before .before .before .before .before .before .before .before .before .before .before .before .before .before .before .before .before .before .before .before .before .before .before .before .before .pre .7; live = omega arith }) _ (c .before .before .before .before .before .before .before .before .before .before .before .before .before .before .before .before .before .before .before .before .before .before .before .before .before .before .before .before .before .before .before .before .pre .0) in
     let T = c .before .before .before .before .before .before .record-event .ensures k _ _ _ (c .before .before .before .before .before .before .before .before .before .before .before .before .before .before .before .before .before .before .before .before .before .before .before .before .before .before .before .before .before .before .before .before .pre .10) (c .before .before .before .before .before .before .before .before .before .before .before .before .before .before .before .before .before .before .before .before .before .before .before .before .before .before .before .before .before .before .before .before .pre .6) leaf (c .before .before .before .before .before .before .before .before .before .before .before .before .before .before .before .before .before .before .before .before .before .before .before .before .before .before .before .before .before .before .before .before .pre .9) in
-    (T, (c .before .before .before .before .before .before .before .before .before .before .before .before .before .before .before .before .before .before .before .before .before .before .before .before .before .before .before .before .before .before .before .before .pre .8, keeps-reserved k _ _ (c .before .before .before .before .before .before .before .before .before .before .before .before .before .before .before .before .before .before .before .before .before .before .before .before .before .before .before .before .before .before .before .before .args .e) _ _ _ (λ z. omega arith) (λ z. omega arith) (c .before .before .before .before .before .before .before .before .before .before .before .before .before .before .before .before .before .before .before .before .before .before .before .before .before .before .before .before .before .before .before .before .pre .6) (c .before .before .before .before .before .before .before .before .before .before .before .before .before .before .before .before .before .before .before .before .before .before .before .before .before .before .before .before .before .before .before .before .pre .9) T))
+    (T, (c .before .before .before .before .before .before .before .before .before .before .before .before .before .before .before .before .before .before .before .before .before .before .before .before .before .before .before .before .before .before .before .before .pre .8, keeps-reserved k _ _ _ (c .before .before .before .before .before .before .before .before .before .before .before .before .before .before .before .before .before .before .before .before .before .before .before .before .before .before .before .before .before .before .before .before .pre .10) _ _ (c .before .before .before .before .before .before .before .before .before .before .before .before .before .before .before .before .before .before .before .before .before .before .before .before .before .before .before .before .before .before .before .before .args .e) _ _ _ (λ z. omega arith) (λ z. omega arith) (c .before .before .before .before .before .before .before .before .before .before .before .before .before .before .before .before .before .before .before .before .before .before .before .before .before .before .before .before .before .before .before .before .pre .6) (c .before .before .before .before .before .before .before .before .before .before .before .before .before .before .before .before .before .before .before .before .before .before .before .before .before .before .before .before .before .before .before .before .pre .9) T))
 
 returns-5 : tie.Need-returns-5
 returns-5 c = let h = no-record _ (c .before .before .before .before .before .before .before .before .before .before .before .before .before .before .before .args .e .rec) (sym (c .enum-told .given .1) ∙ c .before .before .checked .ensures) in let r = c .before .before .before .before .before .before .before .before .before .before .before .before .before .before .before .pre .5 .rec in let m = c .before .before .before .before .before .before .before .before .before .before .before .before .before .before .before .pre .10 .many in absurd (omega arith)

@@ -6,13 +6,14 @@ use native.Mathlib.Omega.{arith}
 use mathlib.Core.Option.{some}
 use Rattle.rules.specs.Event.{decide}
 use Rattle.event.proofs.Meaning.{means-bad, means-begin, means-crash, means-recover, means-decide, means-query}
-use Rattle.engine.proofs.ByKind.{to-abort, to-commit, down-steps, unknown-steps, keeps, keeps-reserved}
+use Rattle.engine.proofs.ByKind.{to-abort, to-commit, down-steps, unknown-steps, keeps, keeps-reserved, decided-whole}
 use Rattle.engine.proofs.Numbers.{transaction-is, no-transaction}
 use Rattle.state.proofs.Steps.{retold, unmoved, sources, not-live-past}
 use Rattle.state.proofs.Rules.{bad-refused}
 use Rattle.rules.specs.Step.{step}
-use Rattle.rules.specs.Editions.{editionOf, geometryOf, formOf}
-use Rattle.crashes.proofs.Editions.{known-of, joint-of, few}
+use Rattle.rules.specs.Editions.{editionOf, geometryOf, formIn, InNumbers}
+use Rattle.crashes.proofs.Editions.{known-of, joint-of, whole-of, few}
+use Rattle.commits.proofs.Commits.{whole-length}
 use Rattle.decisions.proofs.Decisions.{map-small}
 use Rattle.engine.proofs.Lengths.{held-length, retained-length, writers-length, store-length}
 use borrow.Author.Needs.{needs}
@@ -20,11 +21,11 @@ use Rattle.engine.proofs.step.Statement.{statement}
 use Rattle.engine.proofs.step.Tie as tie
 
 returns : tie.Need-returns
-returns c = let k = editionOf (c .before .before .before .before .before .before .args .records) (c .before .before .before .before .before .before .args .joint) in let R = c .before .before .before .before .before .before .pre .0 .kind in
-    (keeps k _ _ (c .before .before .before .before .before .before .pre .4) _ _ (c .before .before .before .before .before .before .args .e) _ (c .before .before .before .before .before .before .pre .5) (c .before .before .before .before .before .before .pre .0) (c .before .before .before .before .before .before .pre .1) (unmoved (formOf k) _ _ 1 (c .before .before .before .before .before .before .pre .1 .form) (ap (step (formOf k) _) (means-bad (c .before .before .before .before .before .before .args .e) (c .if1 .taken)) ∙ bad-refused (formOf k) _)), (c .before .before .before .before .before .before .pre .2, c .before .before .before .before .before .before .pre .3))
+returns c = let k = editionOf (c .before .before .before .before .before .before .args .records) (c .before .before .before .before .before .before .args .joint) (c .before .before .before .before .before .before .args .tears) in let R = c .before .before .before .before .before .before .pre .0 .kind in
+    (keeps k _ _ _ (c .before .before .before .before .before .before .pre .4) _ _ (c .before .before .before .before .before .before .args .e) _ (c .before .before .before .before .before .before .pre .5) (c .before .before .before .before .before .before .pre .0) (c .before .before .before .before .before .before .pre .1) (unmoved (formIn (c .before .before .before .before .before .before .args .tears) (geometryOf k)) _ _ 1 (c .before .before .before .before .before .before .pre .1 .form) (ap (step (formIn (c .before .before .before .before .before .before .args .tears) (geometryOf k)) _) (means-bad (c .before .before .before .before .before .before .args .e) (c .if1 .taken)) ∙ bad-refused (formIn (c .before .before .before .before .before .before .args .tears) (geometryOf k)) _)), (c .before .before .before .before .before .before .pre .2, c .before .before .before .before .before .before .pre .3))
 
 crash-event-requires : tie.Need-crash-event-requires
-crash-event-requires c κs = let k = editionOf (c .before .before .before .before .before .before .before .before .before .before .before .before .before .before .before .before .args .records) (c .before .before .before .before .before .before .before .before .before .before .before .before .before .before .before .before .args .joint) in let F = c .before .before .before .before .before .before .before .before .before .before .before .before .before .before .before .before .pre .1 .form in let N = c .before .before .before .before .before .before .before .before .before .before .before .before .before .before .before .before .pre .4 in (few _ (known-of k _ _ N), held-length k _ _ N _ F, retained-length k _ _ N _ F, writers-length k _ _ N _ F)
+crash-event-requires c κs = let k = editionOf (c .before .before .before .before .before .before .before .before .before .before .before .before .before .before .before .before .args .records) (c .before .before .before .before .before .before .before .before .before .before .before .before .before .before .before .before .args .joint) (c .before .before .before .before .before .before .before .before .before .before .before .before .before .before .before .before .args .tears) in let F = c .before .before .before .before .before .before .before .before .before .before .before .before .before .before .before .before .pre .1 .form in let N = c .before .before .before .before .before .before .before .before .before .before .before .before .before .before .before .before .pre .4 in (few _ (known-of k _ _ _ N), held-length k _ _ _ N _ F, retained-length k _ _ _ N _ F, writers-length k _ _ _ N _ F)
 
 same-length : tie.Need-same-length
 same-length c = search needs
@@ -36,32 +37,32 @@ same-length-3 : tie.Need-same-length-3
 same-length-3 c = search needs
 
 returns-2 : tie.Need-returns-2
-returns-2 c = let k = editionOf (c .before .before .before .before .before .before .before .before .before .before .before .before .before .before .before .before .before .before .before .before .before .before .before .args .records) (c .before .before .before .before .before .before .before .before .before .before .before .before .before .before .before .before .before .before .before .before .before .before .before .args .joint) in let R = c .before .before .before .before .before .before .before .before .before .before .before .before .before .before .before .before .before .before .before .before .before .before .before .pre .0 .kind in let T = retold (formOf k) _ _ _ _ _ (means-crash (c .before .before .before .before .before .before .before .before .before .before .before .before .before .before .before .before .before .before .before .before .before .before .before .args .e) (c .before .before .before .before .before .before .before .before .before .before .before .before .before .before .before .before .if2 .taken)) (c .before .before .before .before .before .before .crash-event .ensures .0 k _ _ (c .before .before .before .before .before .before .before .before .before .before .before .before .before .before .before .before .before .before .before .before .before .before .before .pre .1)) in
-    (keeps k _ _ (c .before .before .before .before .before .before .before .before .before .before .before .before .before .before .before .before .before .before .before .before .before .before .before .pre .4) _ _ (c .before .before .before .before .before .before .before .before .before .before .before .before .before .before .before .before .before .before .before .before .before .before .before .args .e) _ (c .before .before .before .before .before .before .before .before .before .before .before .before .before .before .before .before .before .before .before .before .before .before .before .pre .5) (c .before .before .before .before .before .before .before .before .before .before .before .before .before .before .before .before .before .before .before .before .before .before .before .pre .0) (c .before .before .before .before .before .before .before .before .before .before .before .before .before .before .before .before .before .before .before .before .before .before .before .pre .1) T, (c .before .before .before .before .before .before .crash-event .ensures .1, keeps-reserved k _ _ (c .before .before .before .before .before .before .before .before .before .before .before .before .before .before .before .before .before .before .before .before .before .before .before .args .e) _ _ _ (λ z. omega arith) (λ z. omega arith) (c .before .before .before .before .before .before .before .before .before .before .before .before .before .before .before .before .before .before .before .before .before .before .before .pre .1) (c .before .before .before .before .before .before .before .before .before .before .before .before .before .before .before .before .before .before .before .before .before .before .before .pre .3) T))
+returns-2 c = let k = editionOf (c .before .before .before .before .before .before .before .before .before .before .before .before .before .before .before .before .before .before .before .before .before .before .before .args .records) (c .before .before .before .before .before .before .before .before .before .before .before .before .before .before .before .before .before .before .before .before .before .before .before .args .joint) (c .before .before .before .before .before .before .before .before .before .before .before .before .before .before .before .before .before .before .before .before .before .before .before .args .tears) in let R = c .before .before .before .before .before .before .before .before .before .before .before .before .before .before .before .before .before .before .before .before .before .before .before .pre .0 .kind in let T = retold (formIn (c .before .before .before .before .before .before .before .before .before .before .before .before .before .before .before .before .before .before .before .before .before .before .before .args .tears) (geometryOf k)) _ _ _ _ _ (means-crash (c .before .before .before .before .before .before .before .before .before .before .before .before .before .before .before .before .before .before .before .before .before .before .before .args .e) (c .before .before .before .before .before .before .before .before .before .before .before .before .before .before .before .before .if2 .taken)) (c .before .before .before .before .before .before .crash-event .ensures .0 k (c .before .before .before .before .before .before .before .before .before .before .before .before .before .before .before .before .before .before .before .before .before .before .before .args .tears) _ _ (c .before .before .before .before .before .before .before .before .before .before .before .before .before .before .before .before .before .before .before .before .before .before .before .pre .1)) in
+    (keeps k _ _ _ (c .before .before .before .before .before .before .before .before .before .before .before .before .before .before .before .before .before .before .before .before .before .before .before .pre .4) _ _ (c .before .before .before .before .before .before .before .before .before .before .before .before .before .before .before .before .before .before .before .before .before .before .before .args .e) _ (c .before .before .before .before .before .before .before .before .before .before .before .before .before .before .before .before .before .before .before .before .before .before .before .pre .5) (c .before .before .before .before .before .before .before .before .before .before .before .before .before .before .before .before .before .before .before .before .before .before .before .pre .0) (c .before .before .before .before .before .before .before .before .before .before .before .before .before .before .before .before .before .before .before .before .before .before .before .pre .1) T, (c .before .before .before .before .before .before .crash-event .ensures .1, keeps-reserved k _ _ _ (c .before .before .before .before .before .before .before .before .before .before .before .before .before .before .before .before .before .before .before .before .before .before .before .pre .4) _ _ (c .before .before .before .before .before .before .before .before .before .before .before .before .before .before .before .before .before .before .before .before .before .before .before .args .e) _ _ _ (λ z. omega arith) (λ z. omega arith) (c .before .before .before .before .before .before .before .before .before .before .before .before .before .before .before .before .before .before .before .before .before .before .before .pre .1) (c .before .before .before .before .before .before .before .before .before .before .before .before .before .before .before .before .before .before .before .before .before .before .before .pre .3) T))
 
 recover-event-requires : tie.Need-recover-event-requires
-recover-event-requires c κs = let k = editionOf (c .before .before .before .before .before .before .before .before .before .before .args .records) (c .before .before .before .before .before .before .before .before .before .before .args .joint) in let F = c .before .before .before .before .before .before .before .before .before .before .pre .1 .form in let N = c .before .before .before .before .before .before .before .before .before .before .pre .4 in (known-of k _ _ N, joint-of k _ _ N, store-length k _ _ N _ F)
+recover-event-requires c κs = let k = editionOf (c .before .before .before .before .before .before .before .before .before .before .args .records) (c .before .before .before .before .before .before .before .before .before .before .args .joint) (c .before .before .before .before .before .before .before .before .before .before .args .tears) in let F = c .before .before .before .before .before .before .before .before .before .before .pre .1 .form in let N = c .before .before .before .before .before .before .before .before .before .before .pre .4 in (known-of k _ _ _ N, joint-of k _ _ _ N, store-length k _ _ _ N _ F)
 
 same-length-4 : tie.Need-same-length-4
 same-length-4 c = search needs
 
 returns-3 : tie.Need-returns-3
-returns-3 c = let k = editionOf (c .before .before .before .before .before .before .before .before .before .before .before .before .before .args .records) (c .before .before .before .before .before .before .before .before .before .before .before .before .before .args .joint) in let R = c .before .before .before .before .before .before .before .before .before .before .before .before .before .pre .0 .kind in let T = retold (formOf k) _ _ _ _ _ (means-recover (c .before .before .before .before .before .before .before .before .before .before .before .before .before .args .e) (c .before .before .before .before .before .if3 .taken)) (c .before .before .recover-event .ensures k _ _ _ _ _ _ _ (c .before .before .before .before .before .before .before .before .before .before .before .before .before .pre .4) (c .before .before .before .before .before .before .before .before .before .before .before .before .before .pre .1)) in
-    (keeps k _ _ (c .before .before .before .before .before .before .before .before .before .before .before .before .before .pre .4) _ _ (c .before .before .before .before .before .before .before .before .before .before .before .before .before .args .e) _ (c .before .before .before .before .before .before .before .before .before .before .before .before .before .pre .5) (c .before .before .before .before .before .before .before .before .before .before .before .before .before .pre .0) (c .before .before .before .before .before .before .before .before .before .before .before .before .before .pre .1) T, (c .before .before .before .before .before .before .before .before .before .before .before .before .before .pre .2, keeps-reserved k _ _ (c .before .before .before .before .before .before .before .before .before .before .before .before .before .args .e) _ _ _ (λ z. omega arith) (λ z. omega arith) (c .before .before .before .before .before .before .before .before .before .before .before .before .before .pre .1) (c .before .before .before .before .before .before .before .before .before .before .before .before .before .pre .3) T))
+returns-3 c = let k = editionOf (c .before .before .before .before .before .before .before .before .before .before .before .before .before .args .records) (c .before .before .before .before .before .before .before .before .before .before .before .before .before .args .joint) (c .before .before .before .before .before .before .before .before .before .before .before .before .before .args .tears) in let R = c .before .before .before .before .before .before .before .before .before .before .before .before .before .pre .0 .kind in let T = retold (formIn (c .before .before .before .before .before .before .before .before .before .before .before .before .before .args .tears) (geometryOf k)) _ _ _ _ _ (means-recover (c .before .before .before .before .before .before .before .before .before .before .before .before .before .args .e) (c .before .before .before .before .before .if3 .taken)) (c .before .before .recover-event .ensures k _ _ _ _ _ _ _ (c .before .before .before .before .before .before .before .before .before .before .before .before .before .pre .4) (c .before .before .before .before .before .before .before .before .before .before .before .before .before .pre .1)) in
+    (keeps k _ _ _ (c .before .before .before .before .before .before .before .before .before .before .before .before .before .pre .4) _ _ (c .before .before .before .before .before .before .before .before .before .before .before .before .before .args .e) _ (c .before .before .before .before .before .before .before .before .before .before .before .before .before .pre .5) (c .before .before .before .before .before .before .before .before .before .before .before .before .before .pre .0) (c .before .before .before .before .before .before .before .before .before .before .before .before .before .pre .1) T, (c .before .before .before .before .before .before .before .before .before .before .before .before .before .pre .2, keeps-reserved k _ _ _ (c .before .before .before .before .before .before .before .before .before .before .before .before .before .pre .4) _ _ (c .before .before .before .before .before .before .before .before .before .before .before .before .before .args .e) _ _ _ (λ z. omega arith) (λ z. omega arith) (c .before .before .before .before .before .before .before .before .before .before .before .before .before .pre .1) (c .before .before .before .before .before .before .before .before .before .before .before .before .before .pre .3) T))
 
 returns-4 : tie.Need-returns-4
-returns-4 c = let k = editionOf (c .before .before .before .before .before .before .before .before .before .before .args .records) (c .before .before .before .before .before .before .before .before .before .before .args .joint) in let R = c .before .before .before .before .before .before .before .before .before .before .pre .0 .kind in
-    (keeps k _ _ (c .before .before .before .before .before .before .before .before .before .before .pre .4) _ _ (c .before .before .before .before .before .before .before .before .before .before .args .e) _ (c .before .before .before .before .before .before .before .before .before .before .pre .5) (c .before .before .before .before .before .before .before .before .before .before .pre .0) (c .before .before .before .before .before .before .before .before .before .before .pre .1) (down-steps (formOf k) _ (c .before .before .before .before .before .before .before .before .before .before .args .e) (c .before .before .before .before .before .before .before .before .before .before .pre .1) (omega arith) R (c .before .before .before .if2 .left) (c .before .before .if3 .left) (c .if4 .taken)), (c .before .before .before .before .before .before .before .before .before .before .pre .2, c .before .before .before .before .before .before .before .before .before .before .pre .3))
+returns-4 c = let k = editionOf (c .before .before .before .before .before .before .before .before .before .before .args .records) (c .before .before .before .before .before .before .before .before .before .before .args .joint) (c .before .before .before .before .before .before .before .before .before .before .args .tears) in let R = c .before .before .before .before .before .before .before .before .before .before .pre .0 .kind in
+    (keeps k _ _ _ (c .before .before .before .before .before .before .before .before .before .before .pre .4) _ _ (c .before .before .before .before .before .before .before .before .before .before .args .e) _ (c .before .before .before .before .before .before .before .before .before .before .pre .5) (c .before .before .before .before .before .before .before .before .before .before .pre .0) (c .before .before .before .before .before .before .before .before .before .before .pre .1) (down-steps (formIn (c .before .before .before .before .before .before .before .before .before .before .args .tears) (geometryOf k)) _ (c .before .before .before .before .before .before .before .before .before .before .args .e) (c .before .before .before .before .before .before .before .before .before .before .pre .1) (omega arith) R (c .before .before .before .if2 .left) (c .before .before .if3 .left) (c .if4 .taken)), (c .before .before .before .before .before .before .before .before .before .before .pre .2, c .before .before .before .before .before .before .before .before .before .before .pre .3))
 
 begin-event-requires : tie.Need-begin-event-requires
-begin-event-requires c κs = let k = editionOf (c .before .before .before .before .before .before .before .before .before .before .before .before .before .before .before .before .args .records) (c .before .before .before .before .before .before .before .before .before .before .before .before .before .before .before .before .args .joint) in (c .before .before .before .before .before .before .before .before .before .before .before .before .before .before .before .before .pre .0 .transaction, c .before .before .before .before .before .before .before .before .before .before .before .before .before .before .before .before .pre .1 .form .depths, c .before .before .before .before .before .before .before .before .before .before .before .before .before .before .before .before .pre .1 .form .long, sources (formOf k) _ (c .before .before .before .before .before .before .before .before .before .before .before .before .before .before .before .before .pre .1) .shallow, c .before .before .before .before .before .before .before .before .before .before .before .before .before .before .before .before .pre .1 .form .parents, c .before .before .before .before .before .before .before .before .before .before .before .before .before .before .before .before .pre .2)
+begin-event-requires c κs = let k = editionOf (c .before .before .before .before .before .before .before .before .before .before .before .before .before .before .before .before .args .records) (c .before .before .before .before .before .before .before .before .before .before .before .before .before .before .before .before .args .joint) (c .before .before .before .before .before .before .before .before .before .before .before .before .before .before .before .before .args .tears) in (c .before .before .before .before .before .before .before .before .before .before .before .before .before .before .before .before .pre .0 .transaction, c .before .before .before .before .before .before .before .before .before .before .before .before .before .before .before .before .pre .1 .form .depths, c .before .before .before .before .before .before .before .before .before .before .before .before .before .before .before .before .pre .1 .form .long, sources (formIn (c .before .before .before .before .before .before .before .before .before .before .before .before .before .before .before .before .args .tears) (geometryOf k)) _ (c .before .before .before .before .before .before .before .before .before .before .before .before .before .before .before .before .pre .1) .shallow, c .before .before .before .before .before .before .before .before .before .before .before .before .before .before .before .before .pre .1 .form .parents, c .before .before .before .before .before .before .before .before .before .before .before .before .before .before .before .before .pre .2)
 
 returns-5 : tie.Need-returns-5
-returns-5 c = let k = editionOf (c .before .before .before .before .before .before .before .before .before .before .before .before .before .before .before .before .before .args .records) (c .before .before .before .before .before .before .before .before .before .before .before .before .before .before .before .before .before .args .joint) in let R = c .before .before .before .before .before .before .before .before .before .before .before .before .before .before .before .before .before .pre .0 .kind in let T = retold (formOf k) _ _ _ _ _ (means-begin (c .before .before .before .before .before .before .before .before .before .before .before .before .before .before .before .before .before .args .e) (c .before .before .before .before .before .before .if5 .taken)) (c .begin-event .ensures .0 k _ _ _ _ _ _ (c .before .before .before .before .before .before .before .before .before .before .before .before .before .before .before .before .before .pre .1) (c .before .before .before .before .before .before .before .if4 .left)) in
-    (keeps k _ _ (c .before .before .before .before .before .before .before .before .before .before .before .before .before .before .before .before .before .pre .4) _ _ (c .before .before .before .before .before .before .before .before .before .before .before .before .before .before .before .before .before .args .e) _ (c .before .before .before .before .before .before .before .before .before .before .before .before .before .before .before .before .before .pre .5) (c .before .before .before .before .before .before .before .before .before .before .before .before .before .before .before .before .before .pre .0) (c .before .before .before .before .before .before .before .before .before .before .before .before .before .before .before .before .before .pre .1) T, (c .begin-event .ensures .1, keeps-reserved k _ _ (c .before .before .before .before .before .before .before .before .before .before .before .before .before .before .before .before .before .args .e) _ _ _ (λ z. omega arith) (λ z. omega arith) (c .before .before .before .before .before .before .before .before .before .before .before .before .before .before .before .before .before .pre .1) (c .before .before .before .before .before .before .before .before .before .before .before .before .before .before .before .before .before .pre .3) T))
+returns-5 c = let k = editionOf (c .before .before .before .before .before .before .before .before .before .before .before .before .before .before .before .before .before .args .records) (c .before .before .before .before .before .before .before .before .before .before .before .before .before .before .before .before .before .args .joint) (c .before .before .before .before .before .before .before .before .before .before .before .before .before .before .before .before .before .args .tears) in let R = c .before .before .before .before .before .before .before .before .before .before .before .before .before .before .before .before .before .pre .0 .kind in let T = retold (formIn (c .before .before .before .before .before .before .before .before .before .before .before .before .before .before .before .before .before .args .tears) (geometryOf k)) _ _ _ _ _ (means-begin (c .before .before .before .before .before .before .before .before .before .before .before .before .before .before .before .before .before .args .e) (c .before .before .before .before .before .before .if5 .taken)) (c .begin-event .ensures .0 k (c .before .before .before .before .before .before .before .before .before .before .before .before .before .before .before .before .before .args .tears) _ _ _ _ _ _ (c .before .before .before .before .before .before .before .before .before .before .before .before .before .before .before .before .before .pre .1) (c .before .before .before .before .before .before .before .if4 .left)) in
+    (keeps k _ _ _ (c .before .before .before .before .before .before .before .before .before .before .before .before .before .before .before .before .before .pre .4) _ _ (c .before .before .before .before .before .before .before .before .before .before .before .before .before .before .before .before .before .args .e) _ (c .before .before .before .before .before .before .before .before .before .before .before .before .before .before .before .before .before .pre .5) (c .before .before .before .before .before .before .before .before .before .before .before .before .before .before .before .before .before .pre .0) (c .before .before .before .before .before .before .before .before .before .before .before .before .before .before .before .before .before .pre .1) T, (c .begin-event .ensures .1, keeps-reserved k _ _ _ (c .before .before .before .before .before .before .before .before .before .before .before .before .before .before .before .before .before .pre .4) _ _ (c .before .before .before .before .before .before .before .before .before .before .before .before .before .before .before .before .before .args .e) _ _ _ (λ z. omega arith) (λ z. omega arith) (c .before .before .before .before .before .before .before .before .before .before .before .before .before .before .before .before .before .pre .1) (c .before .before .before .before .before .before .before .before .before .before .before .before .before .before .before .before .before .pre .3) T))
 
 decide-event-requires : tie.Need-decide-event-requires
-decide-event-requires c κs = let k = editionOf (c .before .before .before .before .before .before .before .before .before .before .before .before .before .before .before .before .before .before .before .before .before .before .before .before .before .before .before .args .records) (c .before .before .before .before .before .before .before .before .before .before .before .before .before .before .before .before .before .before .before .before .before .before .before .before .before .before .before .args .joint) in let F = c .before .before .before .before .before .before .before .before .before .before .before .before .before .before .before .before .before .before .before .before .before .before .before .before .before .before .before .pre .1 .form in let N = c .before .before .before .before .before .before .before .before .before .before .before .before .before .before .before .before .before .before .before .before .before .before .before .before .before .before .before .pre .4 in (known-of k _ _ N, joint-of k _ _ N, subst (λ (m : ℕ). c .before .before .before .before .before .before .before .before .before .before .before .before .before .before .before .before .before .before .before .before .before .before .before .before .before .before .before .args .reserved .now < 2 ^ m) (N .many) (map-small (geometryOf k) _ _ _ (c .before .before .before .before .before .before .before .before .before .before .before .before .before .before .before .before .before .before .before .before .before .before .before .before .before .before .before .pre .3)), held-length k _ _ N _ F, retained-length k _ _ N _ F, writers-length k _ _ N _ F, store-length k _ _ N _ F, c .before .before .before .before .before .before .before .before .before .before .before .before .before .before .before .before .before .before .before .before .before .before .before .before .before .before .before .pre .2)
+decide-event-requires c κs = let k = editionOf (c .before .before .before .before .before .before .before .before .before .before .before .before .before .before .before .before .before .before .before .before .before .before .before .before .before .before .before .args .records) (c .before .before .before .before .before .before .before .before .before .before .before .before .before .before .before .before .before .before .before .before .before .before .before .before .before .before .before .args .joint) (c .before .before .before .before .before .before .before .before .before .before .before .before .before .before .before .before .before .before .before .before .before .before .before .before .before .before .before .args .tears) in let F = c .before .before .before .before .before .before .before .before .before .before .before .before .before .before .before .before .before .before .before .before .before .before .before .before .before .before .before .pre .1 .form in let N = c .before .before .before .before .before .before .before .before .before .before .before .before .before .before .before .before .before .before .before .before .before .before .before .before .before .before .before .pre .4 in (known-of k _ _ _ N, joint-of k _ _ _ N, subst (λ (m : ℕ). c .before .before .before .before .before .before .before .before .before .before .before .before .before .before .before .before .before .before .before .before .before .before .before .before .before .before .before .args .reserved .now < 2 ^ m) (N .many) (map-small (c .before .before .before .before .before .before .before .before .before .before .before .before .before .before .before .before .before .before .before .before .before .before .before .before .before .before .before .args .tears) (geometryOf k) _ _ _ (c .before .before .before .before .before .before .before .before .before .before .before .before .before .before .before .before .before .before .before .before .before .before .before .before .before .before .before .pre .3)), held-length k _ _ _ N _ F, retained-length k _ _ _ N _ F, writers-length k _ _ _ N _ F, whole-length (c .before .before .before .before .before .before .before .before .before .before .before .before .before .before .before .before .before .before .before .before .before .before .before .before .before .before .before .args .tears) _ _ (whole-of k _ _ _ N (c .before .before .before .before .before .before .before .before .before .before .before .before .before .before .before .before .before .before .before .before .before .before .before .before .before .before .before .pre .5 (omega arith))) (store-length k _ _ _ N _ F), c .before .before .before .before .before .before .before .before .before .before .before .before .before .before .before .before .before .before .before .before .before .before .before .before .before .before .before .pre .2)
 
 same-length-5 : tie.Need-same-length-5
 same-length-5 c = search needs
@@ -76,13 +77,14 @@ same-length-8 : tie.Need-same-length-8
 same-length-8 c = search needs
 
 returns-6 : tie.Need-returns-6
-returns-6 c = let k = editionOf (c .before .before .before .before .before .before .before .before .before .before .before .before .before .before .before .before .before .before .before .before .before .before .before .before .before .before .before .before .before .before .before .before .before .before .before .before .args .records) (c .before .before .before .before .before .before .before .before .before .before .before .before .before .before .before .before .before .before .before .before .before .before .before .before .before .before .before .before .before .before .before .before .before .before .before .before .args .joint) in
-    let P = c .before .before .before .before .before .before .before .before .decide-event .ensures .0 k _ (c .before .before .before .before .before .before .before .before .before .before .before .before .before .before .before .before .before .before .before .before .before .before .before .before .before .before .before .before .before .before .before .before .before .before .before .before .pre .4) (c .before .before .before .before .before .before .before .before .before .before .before .before .before .before .before .before .before .before .before .before .before .before .before .before .before .before .before .before .before .before .before .before .before .before .before .before .pre .1) (c .before .before .before .before .before .before .before .before .before .before .before .before .before .before .before .before .before .before .before .before .before .before .before .before .before .before .if4 .left) (c .before .before .before .before .before .before .before .before .before .before .before .before .before .before .before .before .before .before .before .before .before .before .before .before .before .before .before .before .before .before .before .before .before .before .before .before .pre .3) in
+returns-6 c = let k = editionOf (c .before .before .before .before .before .before .before .before .before .before .before .before .before .before .before .before .before .before .before .before .before .before .before .before .before .before .before .before .before .before .before .before .before .before .before .before .args .records) (c .before .before .before .before .before .before .before .before .before .before .before .before .before .before .before .before .before .before .before .before .before .before .before .before .before .before .before .before .before .before .before .before .before .before .before .before .args .joint) (c .before .before .before .before .before .before .before .before .before .before .before .before .before .before .before .before .before .before .before .before .before .before .before .before .before .before .before .before .before .before .before .before .before .before .before .before .args .tears) in
+    let whole = whole-of k _ _ _ (c .before .before .before .before .before .before .before .before .before .before .before .before .before .before .before .before .before .before .before .before .before .before .before .before .before .before .before .before .before .before .before .before .before .before .before .before .pre .4) (c .before .before .before .before .before .before .before .before .before .before .before .before .before .before .before .before .before .before .before .before .before .before .before .before .before .before .before .before .before .before .before .before .before .before .before .before .pre .5 (omega arith)) in
+    let P = decided-whole (c .before .before .before .before .before .before .before .before .before .before .before .before .before .before .before .before .before .before .before .before .before .before .before .before .before .before .before .before .before .before .before .before .before .before .before .before .args .tears) (geometryOf k) _ _ _ _ _ _ _ _ whole (c .before .before .before .before .before .before .before .before .decide-event .ensures .0 k _ (subst (InNumbers k (c .before .before .before .before .before .before .before .before .before .before .before .before .before .before .before .before .before .before .before .before .before .before .before .before .before .before .before .before .before .before .before .before .before .before .before .before .args .records) (c .before .before .before .before .before .before .before .before .before .before .before .before .before .before .before .before .before .before .before .before .before .before .before .before .before .before .before .before .before .before .before .before .before .before .before .before .args .joint)) whole (c .before .before .before .before .before .before .before .before .before .before .before .before .before .before .before .before .before .before .before .before .before .before .before .before .before .before .before .before .before .before .before .before .before .before .before .before .pre .4))) (c .before .before .before .before .before .before .before .before .before .before .before .before .before .before .before .before .before .before .before .before .before .before .before .before .before .before .before .before .before .before .before .before .before .before .before .before .pre .1) (c .before .before .before .before .before .before .before .before .before .before .before .before .before .before .before .before .before .before .before .before .before .before .before .before .before .before .if4 .left) (c .before .before .before .before .before .before .before .before .before .before .before .before .before .before .before .before .before .before .before .before .before .before .before .before .before .before .before .before .before .before .before .before .before .before .before .before .pre .3) in
     let means = means-decide (c .before .before .before .before .before .before .before .before .before .before .before .before .before .before .before .before .before .before .before .before .before .before .before .before .before .before .before .before .before .before .before .before .before .before .before .before .args .e) (c .before .before .before .before .before .before .before .before .before .before .before .before .before .before .before .before .before .before .before .before .before .before .before .if7 .taken) ∙ ap (λ (d : Bool). some (decide d (c .before .before .before .before .before .before .before .before .before .before .before .before .before .before .before .before .before .before .before .before .before .before .before .before .before .before .before .before .before .before .before .before .before .before .before .before .args .e .count) (c .before .before .before .before .before .before .before .before .before .before .before .before .before .before .before .before .before .before .before .before .before .before .before .before .before .before .before .before .before .before .before .before .before .before .before .before .args .e .value))) (to-abort (c .before .before .before .before .before .before .before .before .before .before .before .before .before .before .before .before .before .before .before .before .before .before .before .before .before .before .before .before .before .before .before .before .before .before .before .before .args .e .offset) (c .before .before .before .before .before .before .before .before .before .before .before .before .before .before .before .before .before .before .before .before .before .if8 .taken)) in
-    (keeps k _ _ (c .before .before .before .before .before .before .before .before .before .before .before .before .before .before .before .before .before .before .before .before .before .before .before .before .before .before .before .before .before .before .before .before .before .before .before .before .pre .4) _ _ (c .before .before .before .before .before .before .before .before .before .before .before .before .before .before .before .before .before .before .before .before .before .before .before .before .before .before .before .before .before .before .before .before .before .before .before .before .args .e) _ (c .before .before .before .before .before .before .before .before .before .before .before .before .before .before .before .before .before .before .before .before .before .before .before .before .before .before .before .before .before .before .before .before .before .before .before .before .pre .5) (c .before .before .before .before .before .before .before .before .before .before .before .before .before .before .before .before .before .before .before .before .before .before .before .before .before .before .before .before .before .before .before .before .before .before .before .before .pre .0) (c .before .before .before .before .before .before .before .before .before .before .before .before .before .before .before .before .before .before .before .before .before .before .before .before .before .before .before .before .before .before .before .before .before .before .before .before .pre .1) (retold (formOf k) _ _ _ _ _ means (P .0)), (c .before .before .before .before .before .before .before .before .decide-event .ensures .1, P .1))
+    (keeps k _ _ _ (c .before .before .before .before .before .before .before .before .before .before .before .before .before .before .before .before .before .before .before .before .before .before .before .before .before .before .before .before .before .before .before .before .before .before .before .before .pre .4) _ _ (c .before .before .before .before .before .before .before .before .before .before .before .before .before .before .before .before .before .before .before .before .before .before .before .before .before .before .before .before .before .before .before .before .before .before .before .before .args .e) _ (c .before .before .before .before .before .before .before .before .before .before .before .before .before .before .before .before .before .before .before .before .before .before .before .before .before .before .before .before .before .before .before .before .before .before .before .before .pre .5) (c .before .before .before .before .before .before .before .before .before .before .before .before .before .before .before .before .before .before .before .before .before .before .before .before .before .before .before .before .before .before .before .before .before .before .before .before .pre .0) (c .before .before .before .before .before .before .before .before .before .before .before .before .before .before .before .before .before .before .before .before .before .before .before .before .before .before .before .before .before .before .before .before .before .before .before .before .pre .1) (retold (formIn (c .before .before .before .before .before .before .before .before .before .before .before .before .before .before .before .before .before .before .before .before .before .before .before .before .before .before .before .before .before .before .before .before .before .before .before .before .args .tears) (geometryOf k)) _ _ _ _ _ means (P .0)), (c .before .before .before .before .before .before .before .before .decide-event .ensures .1, P .1))
 
 decide-event-requires-2 : tie.Need-decide-event-requires-2
-decide-event-requires-2 c κs = let k = editionOf (c .before .before .before .before .before .before .before .before .before .before .before .before .before .before .before .before .before .before .before .before .before .before .before .before .before .before .before .args .records) (c .before .before .before .before .before .before .before .before .before .before .before .before .before .before .before .before .before .before .before .before .before .before .before .before .before .before .before .args .joint) in let F = c .before .before .before .before .before .before .before .before .before .before .before .before .before .before .before .before .before .before .before .before .before .before .before .before .before .before .before .pre .1 .form in let N = c .before .before .before .before .before .before .before .before .before .before .before .before .before .before .before .before .before .before .before .before .before .before .before .before .before .before .before .pre .4 in (known-of k _ _ N, joint-of k _ _ N, subst (λ (m : ℕ). c .before .before .before .before .before .before .before .before .before .before .before .before .before .before .before .before .before .before .before .before .before .before .before .before .before .before .before .args .reserved .now < 2 ^ m) (N .many) (map-small (geometryOf k) _ _ _ (c .before .before .before .before .before .before .before .before .before .before .before .before .before .before .before .before .before .before .before .before .before .before .before .before .before .before .before .pre .3)), held-length k _ _ N _ F, retained-length k _ _ N _ F, writers-length k _ _ N _ F, store-length k _ _ N _ F, c .before .before .before .before .before .before .before .before .before .before .before .before .before .before .before .before .before .before .before .before .before .before .before .before .before .before .before .pre .2)
+decide-event-requires-2 c κs = let k = editionOf (c .before .before .before .before .before .before .before .before .before .before .before .before .before .before .before .before .before .before .before .before .before .before .before .before .before .before .before .args .records) (c .before .before .before .before .before .before .before .before .before .before .before .before .before .before .before .before .before .before .before .before .before .before .before .before .before .before .before .args .joint) (c .before .before .before .before .before .before .before .before .before .before .before .before .before .before .before .before .before .before .before .before .before .before .before .before .before .before .before .args .tears) in let F = c .before .before .before .before .before .before .before .before .before .before .before .before .before .before .before .before .before .before .before .before .before .before .before .before .before .before .before .pre .1 .form in let N = c .before .before .before .before .before .before .before .before .before .before .before .before .before .before .before .before .before .before .before .before .before .before .before .before .before .before .before .pre .4 in (known-of k _ _ _ N, joint-of k _ _ _ N, subst (λ (m : ℕ). c .before .before .before .before .before .before .before .before .before .before .before .before .before .before .before .before .before .before .before .before .before .before .before .before .before .before .before .args .reserved .now < 2 ^ m) (N .many) (map-small (c .before .before .before .before .before .before .before .before .before .before .before .before .before .before .before .before .before .before .before .before .before .before .before .before .before .before .before .args .tears) (geometryOf k) _ _ _ (c .before .before .before .before .before .before .before .before .before .before .before .before .before .before .before .before .before .before .before .before .before .before .before .before .before .before .before .pre .3)), held-length k _ _ _ N _ F, retained-length k _ _ _ N _ F, writers-length k _ _ _ N _ F, whole-length (c .before .before .before .before .before .before .before .before .before .before .before .before .before .before .before .before .before .before .before .before .before .before .before .before .before .before .before .args .tears) _ _ (whole-of k _ _ _ N (c .before .before .before .before .before .before .before .before .before .before .before .before .before .before .before .before .before .before .before .before .before .before .before .before .before .before .before .pre .5 (omega arith))) (store-length k _ _ _ N _ F), c .before .before .before .before .before .before .before .before .before .before .before .before .before .before .before .before .before .before .before .before .before .before .before .before .before .before .before .pre .2)
 
 same-length-9 : tie.Need-same-length-9
 same-length-9 c = search needs
@@ -97,17 +99,18 @@ same-length-12 : tie.Need-same-length-12
 same-length-12 c = search needs
 
 returns-7 : tie.Need-returns-7
-returns-7 c = let k = editionOf (c .before .before .before .before .before .before .before .before .before .before .before .before .before .before .before .before .before .before .before .before .before .before .before .before .before .before .before .before .before .before .before .before .before .before .before .before .args .records) (c .before .before .before .before .before .before .before .before .before .before .before .before .before .before .before .before .before .before .before .before .before .before .before .before .before .before .before .before .before .before .before .before .before .before .before .before .args .joint) in
-    let P = c .before .before .before .before .before .before .before .before .decide-event2 .ensures .0 k _ (c .before .before .before .before .before .before .before .before .before .before .before .before .before .before .before .before .before .before .before .before .before .before .before .before .before .before .before .before .before .before .before .before .before .before .before .before .pre .4) (c .before .before .before .before .before .before .before .before .before .before .before .before .before .before .before .before .before .before .before .before .before .before .before .before .before .before .before .before .before .before .before .before .before .before .before .before .pre .1) (c .before .before .before .before .before .before .before .before .before .before .before .before .before .before .before .before .before .before .before .before .before .before .before .before .before .before .if4 .left) (c .before .before .before .before .before .before .before .before .before .before .before .before .before .before .before .before .before .before .before .before .before .before .before .before .before .before .before .before .before .before .before .before .before .before .before .before .pre .3) in
+returns-7 c = let k = editionOf (c .before .before .before .before .before .before .before .before .before .before .before .before .before .before .before .before .before .before .before .before .before .before .before .before .before .before .before .before .before .before .before .before .before .before .before .before .args .records) (c .before .before .before .before .before .before .before .before .before .before .before .before .before .before .before .before .before .before .before .before .before .before .before .before .before .before .before .before .before .before .before .before .before .before .before .before .args .joint) (c .before .before .before .before .before .before .before .before .before .before .before .before .before .before .before .before .before .before .before .before .before .before .before .before .before .before .before .before .before .before .before .before .before .before .before .before .args .tears) in
+    let whole = whole-of k _ _ _ (c .before .before .before .before .before .before .before .before .before .before .before .before .before .before .before .before .before .before .before .before .before .before .before .before .before .before .before .before .before .before .before .before .before .before .before .before .pre .4) (c .before .before .before .before .before .before .before .before .before .before .before .before .before .before .before .before .before .before .before .before .before .before .before .before .before .before .before .before .before .before .before .before .before .before .before .before .pre .5 (omega arith)) in
+    let P = decided-whole (c .before .before .before .before .before .before .before .before .before .before .before .before .before .before .before .before .before .before .before .before .before .before .before .before .before .before .before .before .before .before .before .before .before .before .before .before .args .tears) (geometryOf k) _ _ _ _ _ _ _ _ whole (c .before .before .before .before .before .before .before .before .decide-event2 .ensures .0 k _ (subst (InNumbers k (c .before .before .before .before .before .before .before .before .before .before .before .before .before .before .before .before .before .before .before .before .before .before .before .before .before .before .before .before .before .before .before .before .before .before .before .before .args .records) (c .before .before .before .before .before .before .before .before .before .before .before .before .before .before .before .before .before .before .before .before .before .before .before .before .before .before .before .before .before .before .before .before .before .before .before .before .args .joint)) whole (c .before .before .before .before .before .before .before .before .before .before .before .before .before .before .before .before .before .before .before .before .before .before .before .before .before .before .before .before .before .before .before .before .before .before .before .before .pre .4))) (c .before .before .before .before .before .before .before .before .before .before .before .before .before .before .before .before .before .before .before .before .before .before .before .before .before .before .before .before .before .before .before .before .before .before .before .before .pre .1) (c .before .before .before .before .before .before .before .before .before .before .before .before .before .before .before .before .before .before .before .before .before .before .before .before .before .before .if4 .left) (c .before .before .before .before .before .before .before .before .before .before .before .before .before .before .before .before .before .before .before .before .before .before .before .before .before .before .before .before .before .before .before .before .before .before .before .before .pre .3) in
     let means = means-decide (c .before .before .before .before .before .before .before .before .before .before .before .before .before .before .before .before .before .before .before .before .before .before .before .before .before .before .before .before .before .before .before .before .before .before .before .before .args .e) (c .before .before .before .before .before .before .before .before .before .before .before .before .before .before .before .before .before .before .before .before .before .before .before .if7 .taken) ∙ ap (λ (d : Bool). some (decide d (c .before .before .before .before .before .before .before .before .before .before .before .before .before .before .before .before .before .before .before .before .before .before .before .before .before .before .before .before .before .before .before .before .before .before .before .before .args .e .count) (c .before .before .before .before .before .before .before .before .before .before .before .before .before .before .before .before .before .before .before .before .before .before .before .before .before .before .before .before .before .before .before .before .before .before .before .before .args .e .value))) (to-commit (c .before .before .before .before .before .before .before .before .before .before .before .before .before .before .before .before .before .before .before .before .before .before .before .before .before .before .before .before .before .before .before .before .before .before .before .before .args .e .offset) (c .before .before .before .before .before .before .before .before .before .before .before .before .before .before .before .before .before .before .before .before .before .if8 .left)) in
-    (keeps k _ _ (c .before .before .before .before .before .before .before .before .before .before .before .before .before .before .before .before .before .before .before .before .before .before .before .before .before .before .before .before .before .before .before .before .before .before .before .before .pre .4) _ _ (c .before .before .before .before .before .before .before .before .before .before .before .before .before .before .before .before .before .before .before .before .before .before .before .before .before .before .before .before .before .before .before .before .before .before .before .before .args .e) _ (c .before .before .before .before .before .before .before .before .before .before .before .before .before .before .before .before .before .before .before .before .before .before .before .before .before .before .before .before .before .before .before .before .before .before .before .before .pre .5) (c .before .before .before .before .before .before .before .before .before .before .before .before .before .before .before .before .before .before .before .before .before .before .before .before .before .before .before .before .before .before .before .before .before .before .before .before .pre .0) (c .before .before .before .before .before .before .before .before .before .before .before .before .before .before .before .before .before .before .before .before .before .before .before .before .before .before .before .before .before .before .before .before .before .before .before .before .pre .1) (retold (formOf k) _ _ _ _ _ means (P .0)), (c .before .before .before .before .before .before .before .before .decide-event2 .ensures .1, P .1))
+    (keeps k _ _ _ (c .before .before .before .before .before .before .before .before .before .before .before .before .before .before .before .before .before .before .before .before .before .before .before .before .before .before .before .before .before .before .before .before .before .before .before .before .pre .4) _ _ (c .before .before .before .before .before .before .before .before .before .before .before .before .before .before .before .before .before .before .before .before .before .before .before .before .before .before .before .before .before .before .before .before .before .before .before .before .args .e) _ (c .before .before .before .before .before .before .before .before .before .before .before .before .before .before .before .before .before .before .before .before .before .before .before .before .before .before .before .before .before .before .before .before .before .before .before .before .pre .5) (c .before .before .before .before .before .before .before .before .before .before .before .before .before .before .before .before .before .before .before .before .before .before .before .before .before .before .before .before .before .before .before .before .before .before .before .before .pre .0) (c .before .before .before .before .before .before .before .before .before .before .before .before .before .before .before .before .before .before .before .before .before .before .before .before .before .before .before .before .before .before .before .before .before .before .before .before .pre .1) (retold (formIn (c .before .before .before .before .before .before .before .before .before .before .before .before .before .before .before .before .before .before .before .before .before .before .before .before .before .before .before .before .before .before .before .before .before .before .before .before .args .tears) (geometryOf k)) _ _ _ _ _ means (P .0)), (c .before .before .before .before .before .before .before .before .decide-event2 .ensures .1, P .1))
 
 query-event-requires : tie.Need-query-event-requires
 query-event-requires c κs = search needs
 
 returns-8 : tie.Need-returns-8
-returns-8 c = let k = editionOf (c .before .before .before .before .before .before .before .before .before .before .before .before .before .before .before .before .args .records) (c .before .before .before .before .before .before .before .before .before .before .before .before .before .before .before .before .args .joint) in let R = c .before .before .before .before .before .before .before .before .before .before .before .before .before .before .before .before .pre .0 .kind in
-    (keeps k _ _ (c .before .before .before .before .before .before .before .before .before .before .before .before .before .before .before .before .pre .4) _ _ (c .before .before .before .before .before .before .before .before .before .before .before .before .before .before .before .before .args .e) _ (c .before .before .before .before .before .before .before .before .before .before .before .before .before .before .before .before .pre .5) (c .before .before .before .before .before .before .before .before .before .before .before .before .before .before .before .before .pre .0) (c .before .before .before .before .before .before .before .before .before .before .before .before .before .before .before .before .pre .1) (retold (formOf k) _ _ _ _ _ (means-query (c .before .before .before .before .before .before .before .before .before .before .before .before .before .before .before .before .args .e) (omega arith)) (c .query-event .ensures k _ (c .before .before .before .before .before .before .before .before .before .before .before .before .before .before .before .before .pre .1) (c .before .before .before .before .before .before .if4 .left) (c .before .before .before .before .before .before .before .before .before .before .before .before .before .before .before .before .pre .3))), (c .before .before .before .before .before .before .before .before .before .before .before .before .before .before .before .before .pre .2, c .before .before .before .before .before .before .before .before .before .before .before .before .before .before .before .before .pre .3))
+returns-8 c = let k = editionOf (c .before .before .before .before .before .before .before .before .before .before .before .before .before .before .before .before .args .records) (c .before .before .before .before .before .before .before .before .before .before .before .before .before .before .before .before .args .joint) (c .before .before .before .before .before .before .before .before .before .before .before .before .before .before .before .before .args .tears) in let R = c .before .before .before .before .before .before .before .before .before .before .before .before .before .before .before .before .pre .0 .kind in
+    (keeps k _ _ _ (c .before .before .before .before .before .before .before .before .before .before .before .before .before .before .before .before .pre .4) _ _ (c .before .before .before .before .before .before .before .before .before .before .before .before .before .before .before .before .args .e) _ (c .before .before .before .before .before .before .before .before .before .before .before .before .before .before .before .before .pre .5) (c .before .before .before .before .before .before .before .before .before .before .before .before .before .before .before .before .pre .0) (c .before .before .before .before .before .before .before .before .before .before .before .before .before .before .before .before .pre .1) (retold (formIn (c .before .before .before .before .before .before .before .before .before .before .before .before .before .before .before .before .args .tears) (geometryOf k)) _ _ _ _ _ (means-query (c .before .before .before .before .before .before .before .before .before .before .before .before .before .before .before .before .args .e) (omega arith)) (c .query-event .ensures k (c .before .before .before .before .before .before .before .before .before .before .before .before .before .before .before .before .args .tears) _ (c .before .before .before .before .before .before .before .before .before .before .before .before .before .before .before .before .pre .1) (c .before .before .before .before .before .before .if4 .left) (c .before .before .before .before .before .before .before .before .before .before .before .before .before .before .before .before .pre .3))), (c .before .before .before .before .before .before .before .before .before .before .before .before .before .before .before .before .pre .2, c .before .before .before .before .before .before .before .before .before .before .before .before .before .before .before .before .pre .3))
 
 checked-requires : tie.Need-checked-requires
 checked-requires c κs = search needs
@@ -137,11 +140,11 @@ same-length-17 : tie.Need-same-length-17
 same-length-17 c = search needs
 
 returns-9 : tie.Need-returns-9
-returns-9 c = let k = editionOf (c .before .before .before .before .before .before .before .before .before .before .before .before .before .before .before .before .before .before .before .before .before .before .before .before .before .before .before .before .before .before .before .before .before .before .before .before .before .before .before .before .args .records) (c .before .before .before .before .before .before .before .before .before .before .before .before .before .before .before .before .before .before .before .before .before .before .before .before .before .before .before .before .before .before .before .before .before .before .before .before .before .before .before .before .args .joint) in (keeps k _ _ (c .before .before .before .before .before .before .before .before .before .before .before .before .before .before .before .before .before .before .before .before .before .before .before .before .before .before .before .before .before .before .before .before .before .before .before .before .before .before .before .before .pre .4) _ _ (c .before .before .before .before .before .before .before .before .before .before .before .before .before .before .before .before .before .before .before .before .before .before .before .before .before .before .before .before .before .before .before .before .before .before .before .before .before .before .before .before .args .e) _ (c .before .before .before .before .before .before .before .before .before .before .before .before .before .before .before .before .before .before .before .before .before .before .before .before .before .before .before .before .before .before .before .before .before .before .before .before .before .before .before .before .pre .5) (c .before .before .before .before .before .before .before .before .before .before .before .before .before .before .before .before .before .before .before .before .before .before .before .before .before .before .before .before .before .before .before .before .before .before .before .before .before .before .before .before .pre .0) (c .before .before .before .before .before .before .before .before .before .before .before .before .before .before .before .before .before .before .before .before .before .before .before .before .before .before .before .before .before .before .before .before .before .before .before .before .before .before .before .before .pre .1) (c .before .before .before .before .before .before .before .before .before .before .named-event .ensures .0), (c .before .before .before .before .before .before .before .before .before .before .named-event .ensures .1 .0, c .before .before .before .before .before .before .before .before .before .before .named-event .ensures .1 .1))
+returns-9 c = let k = editionOf (c .before .before .before .before .before .before .before .before .before .before .before .before .before .before .before .before .before .before .before .before .before .before .before .before .before .before .before .before .before .before .before .before .before .before .before .before .before .before .before .before .args .records) (c .before .before .before .before .before .before .before .before .before .before .before .before .before .before .before .before .before .before .before .before .before .before .before .before .before .before .before .before .before .before .before .before .before .before .before .before .before .before .before .before .args .joint) (c .before .before .before .before .before .before .before .before .before .before .before .before .before .before .before .before .before .before .before .before .before .before .before .before .before .before .before .before .before .before .before .before .before .before .before .before .before .before .before .before .args .tears) in (keeps k _ _ _ (c .before .before .before .before .before .before .before .before .before .before .before .before .before .before .before .before .before .before .before .before .before .before .before .before .before .before .before .before .before .before .before .before .before .before .before .before .before .before .before .before .pre .4) _ _ (c .before .before .before .before .before .before .before .before .before .before .before .before .before .before .before .before .before .before .before .before .before .before .before .before .before .before .before .before .before .before .before .before .before .before .before .before .before .before .before .before .args .e) _ (c .before .before .before .before .before .before .before .before .before .before .before .before .before .before .before .before .before .before .before .before .before .before .before .before .before .before .before .before .before .before .before .before .before .before .before .before .before .before .before .before .pre .5) (c .before .before .before .before .before .before .before .before .before .before .before .before .before .before .before .before .before .before .before .before .before .before .before .before .before .before .before .before .before .before .before .before .before .before .before .before .before .before .before .before .pre .0) (c .before .before .before .before .before .before .before .before .before .before .before .before .before .before .before .before .before .before .before .before .before .before .before .before .before .before .before .before .before .before .before .before .before .before .before .before .before .before .before .before .pre .1) (c .before .before .before .before .before .before .before .before .before .before .named-event .ensures .0), (c .before .before .before .before .before .before .before .before .before .before .named-event .ensures .1 .0, c .before .before .before .before .before .before .before .before .before .before .named-event .ensures .1 .1))
 
 returns-10 : tie.Need-returns-10
-returns-10 c = let k = editionOf (c .before .before .before .before .before .before .before .before .before .before .before .before .before .before .before .args .records) (c .before .before .before .before .before .before .before .before .before .before .before .before .before .before .before .args .joint) in let R = c .before .before .before .before .before .before .before .before .before .before .before .before .before .before .before .pre .0 .kind in let h = no-transaction (c .before .before .before .before .before .before .before .before .before .before .before .before .before .before .before .args .e .transaction) (sym (c .enum-told .given .1) ∙ c .before .before .checked .ensures) in
-    (keeps k _ _ (c .before .before .before .before .before .before .before .before .before .before .before .before .before .before .before .pre .4) _ _ (c .before .before .before .before .before .before .before .before .before .before .before .before .before .before .before .args .e) _ (c .before .before .before .before .before .before .before .before .before .before .before .before .before .before .before .pre .5) (c .before .before .before .before .before .before .before .before .before .before .before .before .before .before .before .pre .0) (c .before .before .before .before .before .before .before .before .before .before .before .before .before .before .before .pre .1) (unknown-steps (formOf k) _ (c .before .before .before .before .before .before .before .before .before .before .before .before .before .before .before .args .e) (c .before .before .before .before .before .before .before .before .before .before .before .before .before .before .before .pre .1) (omega arith) (omega arith) (c .before .before .before .before .before .before .before .before .if2 .left) (c .before .before .before .before .before .before .before .if3 .left) (c .before .before .before .before .before .if4 .left) (not-live-past (formOf k) _ (c .before .before .before .before .before .before .before .before .before .before .before .before .before .before .before .args .e .transaction) (c .before .before .before .before .before .before .before .before .before .before .before .before .before .before .before .pre .1 .form) h)), (c .before .before .before .before .before .before .before .before .before .before .before .before .before .before .before .pre .2, c .before .before .before .before .before .before .before .before .before .before .before .before .before .before .before .pre .3))
+returns-10 c = let k = editionOf (c .before .before .before .before .before .before .before .before .before .before .before .before .before .before .before .args .records) (c .before .before .before .before .before .before .before .before .before .before .before .before .before .before .before .args .joint) (c .before .before .before .before .before .before .before .before .before .before .before .before .before .before .before .args .tears) in let R = c .before .before .before .before .before .before .before .before .before .before .before .before .before .before .before .pre .0 .kind in let h = no-transaction (c .before .before .before .before .before .before .before .before .before .before .before .before .before .before .before .args .e .transaction) (sym (c .enum-told .given .1) ∙ c .before .before .checked .ensures) in
+    (keeps k _ _ _ (c .before .before .before .before .before .before .before .before .before .before .before .before .before .before .before .pre .4) _ _ (c .before .before .before .before .before .before .before .before .before .before .before .before .before .before .before .args .e) _ (c .before .before .before .before .before .before .before .before .before .before .before .before .before .before .before .pre .5) (c .before .before .before .before .before .before .before .before .before .before .before .before .before .before .before .pre .0) (c .before .before .before .before .before .before .before .before .before .before .before .before .before .before .before .pre .1) (unknown-steps (formIn (c .before .before .before .before .before .before .before .before .before .before .before .before .before .before .before .args .tears) (geometryOf k)) _ (c .before .before .before .before .before .before .before .before .before .before .before .before .before .before .before .args .e) (c .before .before .before .before .before .before .before .before .before .before .before .before .before .before .before .pre .1) (omega arith) (omega arith) (c .before .before .before .before .before .before .before .before .if2 .left) (c .before .before .before .before .before .before .before .if3 .left) (c .before .before .before .before .before .if4 .left) (not-live-past (formIn (c .before .before .before .before .before .before .before .before .before .before .before .before .before .before .before .args .tears) (geometryOf k)) _ (c .before .before .before .before .before .before .before .before .before .before .before .before .before .before .before .args .e .transaction) (c .before .before .before .before .before .before .before .before .before .before .before .before .before .before .before .pre .1 .form) h)), (c .before .before .before .before .before .before .before .before .before .before .before .before .before .before .before .pre .2, c .before .before .before .before .before .before .before .before .before .before .before .before .before .before .before .pre .3))
 
 pub step-spec : {M : Type 1} → statement M
 step-spec =

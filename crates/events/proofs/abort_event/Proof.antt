@@ -11,7 +11,7 @@ use Rattle.slots.proofs.Walk.{parent-below}
 use Rattle.state.specs.Whole.{Ready}
 use Rattle.state.proofs.Steps.{numbered}
 use Rattle.events.proofs.Aborts.{abort-steps-of}
-use Rattle.rules.specs.Editions.{formOf}
+use Rattle.rules.specs.Editions.{geometryOf, formIn}
 use borrow.Author.Needs.{needs}
 use Rattle.events.proofs.abort_event.Statement.{statement}
 use Rattle.events.proofs.abort_event.Tie as tie
@@ -63,7 +63,7 @@ same-length-3 c = search needs
 returns : tie.Need-returns
 unfolding under less
 returns c = let w = c .before .before .before .before .before .before .before .before .before .before .before .before .before .before .before .before .before .before .before .before .before .before .before .before .before .before .before .before .before .before .before .args .report in let e = c .before .before .before .before .end .ensures in let f = c .before .before .before .before .before .before .before .before .before .before .before .before .before .before .discard .ensures in
-    (λ k up work store I R. numbered (formOf k) _ _ _ (λ t r. abort t w) (Ready (formOf k)) _ _ 0 0 (c .before .before .before .before .before .before .before .before .before .before .before .before .before .before .before .before .before .before .before .before .before .before .before .before .before .before .before .number .ensures .0) refl (λ R. abort-steps-of (formOf k) _ (sym (c .before .before .before .before .before .before .before .before .before .before .before .before .before .before .before .before .before .before .before .before .before .before .before .before .before .before .before .before .before .before .before .pre .6) ∙ I .form .writerss) _ I _ _ w R (c .before .before .before .before .before .before .before .before .before .before .before .before .before .before .before .before .before .before .descendants .ensures) _ _ _ _ _ _ _ (c .before .before .before .before .before .before .before .before .before .before .before .before .before .before .before .before .before .before .before .before .before .before .report .ensures) (e .0) (e .1) (e .2) (f .0) (f .1) (f .2)) R, kin-cleared _ _ _ _ _ _ _ _ _ (c .before .before .before .before .before .before .before .before .before .before .before .before .before .before .before .before .before .before .before .before .before .before .before .before .before .before .before .before .before .before .before .pre .8) (e .0) (e .1) (c .before .before .minus .ensures) (c .leave .ensures))
+    (λ k tears up work store I R. numbered (formIn tears (geometryOf k)) _ _ _ (λ t r. abort t w) (Ready (formIn tears (geometryOf k))) _ _ 0 0 (c .before .before .before .before .before .before .before .before .before .before .before .before .before .before .before .before .before .before .before .before .before .before .before .before .before .before .before .number .ensures .0) refl (λ R. abort-steps-of (formIn tears (geometryOf k)) _ (sym (c .before .before .before .before .before .before .before .before .before .before .before .before .before .before .before .before .before .before .before .before .before .before .before .before .before .before .before .before .before .before .before .pre .6) ∙ I .form .writerss) _ I _ _ w R (c .before .before .before .before .before .before .before .before .before .before .before .before .before .before .before .before .before .before .descendants .ensures) _ _ _ _ _ _ _ (c .before .before .before .before .before .before .before .before .before .before .before .before .before .before .before .before .before .before .before .before .before .before .report .ensures) (e .0) (e .1) (e .2) (f .0) (f .1) (f .2)) R, kin-cleared _ _ _ _ _ _ _ _ _ (c .before .before .before .before .before .before .before .before .before .before .before .before .before .before .before .before .before .before .before .before .before .before .before .before .before .before .before .before .before .before .before .pre .8) (e .0) (e .1) (c .before .before .minus .ensures) (c .leave .ensures))
 
 pub abort-event-spec : {M : Type 1} → statement M
 abort-event-spec =

@@ -1,7 +1,7 @@
 -- Who holds the lock in write mode writes its version; else 9.
 use mathlib.Core.Path.{sym, _∙_}
 use Prim.Native.Nat.{_-_}
-use Rattle.rules.specs.Editions.{formOf}
+use Rattle.rules.specs.Editions.{geometryOf, formIn}
 use Rattle.numbers.specs.Named.{transactionOf, recordOf}
 use Rattle.events.proofs.Steps.{write-steps, write-refuses}
 use borrow.Author.Needs.{needs}
@@ -21,14 +21,14 @@ same-length-2 : tie.Need-same-length-2
 same-length-2 c = search needs
 
 returns : tie.Need-returns
-returns c = λ k up line retained h I R.
+returns c = λ k tears up line retained h I R.
     let a = c .before .before .before .before .before .before .before .before .before .before .before .before .before .args in
-    write-steps (formOf k) _ I (transactionOf (a .t)) (recordOf (a .r)) (a .o) (a .v) _ h R (sym (c .before .before .before .before .before .before .before .before .holds-writing .ensures) ∙ c .before .before .before .before .before .before .before .if1 .taken) _ _ (search needs) (c .before .before .before .before .write .ensures)
+    write-steps (formIn tears (geometryOf k)) _ I (transactionOf (a .t)) (recordOf (a .r)) (a .o) (a .v) _ h R (sym (c .before .before .before .before .before .before .before .before .holds-writing .ensures) ∙ c .before .before .before .before .before .before .before .if1 .taken) _ _ (search needs) (c .before .before .before .before .write .ensures)
 
 returns-2 : tie.Need-returns-2
-returns-2 c = λ k up line retained h I R.
+returns-2 c = λ k tears up line retained h I R.
     let a = c .before .before .before .before .before .before .args in
-    write-refuses (formOf k) _ I (transactionOf (a .t)) (recordOf (a .r)) (a .o) (a .v) R (sym (c .before .holds-writing .ensures) ∙ c .if1 .left)
+    write-refuses (formIn tears (geometryOf k)) _ I (transactionOf (a .t)) (recordOf (a .r)) (a .o) (a .v) R (sym (c .before .holds-writing .ensures) ∙ c .if1 .left)
 
 pub write-event-spec : {M : Type 1} → statement M
 write-event-spec =

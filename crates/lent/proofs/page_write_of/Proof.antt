@@ -65,7 +65,7 @@ returns-3 c =
     let D = c .before .before .before .before .before .before .before .before .before .before .before .before .before .before .before .is-state .ensures (a .work .now) (l .work) in
     question-answered (kept (a .e) (a .work .now) (a .store .now)) (a .event .now) (a .write .now) (a .index) fits _ D (not-false _ (c .before .before .before .before .before .before .before .before .before .before .before .before .before .before .if2 .left)) _
     (ap (decode geometry1) (sym (c .before .before .before .before .before .before .before .before .before .word-at .ensures ∙ word-is 4 (a .event .now) (l .event))) ∙ c .before .before .before .before .of-word .ensures .0) _ _
-    (c .before .before .page-write .ensures first (a .e .line) (a .e .held) (a .e .retained) (record { many = layout1 .many; two-phase = refl }) (D .yes (not-false _ (c .before .before .before .before .before .before .before .before .before .before .before .before .before .before .if2 .left)) .0))
+    (c .before .before .page-write .ensures first (a .e .line) (a .e .held) (a .e .retained) (record { many = layout1 .many; two-phase = refl; torn = refl }) (D .yes (not-false _ (c .before .before .before .before .before .before .before .before .before .before .before .before .before .before .if2 .left)) .0))
 
 pub page-write-of-spec : {M : Type 1} → statement M
 page-write-of-spec =

@@ -76,7 +76,7 @@ returns-3 c =
     let E = c .before .before .before .before .before .before .before .before .before .before .before .before .before .before .before .before .before .before .before .before .before .before .from-start .ensures in
     list-asked (a .store .now) (a .events .now) (a .work .now) (a .answers .now) (a .event .now) (a .index) (a .write .now) fits asked (E .before) _ _ (E .begun) (E .leads) (E .leads .intact .form .works ∙ sym (lengths-of false 64 8 _ _ _ _ fits .work)) _
     (ap (decode geometry2) (sym (c .before .before .before .before .before .before .before .before .before .before .before .word-at .ensures ∙ word-is 8 (a .event .now) (question-of 64 8 _ _ _ _ asked .event))) ∙ c .before .before .before .before .of-word .ensures .0) _ _
-    (c .before .before .page-write .ensures second (E .line) (E .held) (E .retained) (record { many = layout2 .many; two-phase = refl }) (E .leads .intact))
+    (c .before .before .page-write .ensures second (E .line) (E .held) (E .retained) (record { many = layout2 .many; two-phase = refl; torn = refl }) (E .leads .intact))
 
 pub nekahuiro-page-write-edition2-spec : {M : Type 1} → statement M
 nekahuiro-page-write-edition2-spec =

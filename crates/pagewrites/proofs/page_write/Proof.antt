@@ -16,7 +16,7 @@ same-length : tie.Need-same-length
 same-length c = search needs
 
 returns : tie.Need-returns
-returns c = λ edition line held retained N I. told-as (c .before .before .before .before .before .before .before .before .before .args .index) (c .before .before .before .before .before .before .before .before .before .args .write .now) (c .before .before .before .before .plan-of .ensures .0 edition line held retained (c .before .before .before .before .before .before .before .before .before .args .work .now) N I .writes) (c .before .before .put-numbered .ensures (geometryOf edition) (layout-of edition _ _ N))
+returns c = λ edition line held retained N I. told-as (c .before .before .before .before .before .before .before .before .before .args .index) (c .before .before .before .before .before .before .before .before .before .args .write .now) (c .before .before .before .before .plan-of .ensures .0 edition line held retained (c .before .before .before .before .before .before .before .before .before .args .work .now) N I .writes) (c .before .before .put-numbered .ensures (geometryOf edition) (layout-of edition _ _ _ N))
 
 pub page-write-spec : {M : Type 1} → statement M
 page-write-spec =

@@ -30,7 +30,7 @@ decision-plan-requires c κs = c .before .before .before .read-held .ensures .1
 
 returns-2 : tie.Need-returns-2
 unfolding same
-returns-2 c = (λ edition line held retained work N I. let e = c .before .before .before .before .before .before .before .args .e in plans-as (geometryOf edition) _ (N .many) _ _ _ _ (means-decide e (c .before .before .if2 .taken) ∙ ap (λ (d : Bool). some (decide d (e .count) (e .value))) (decision-of (e .offset))) (c .decision-plan .ensures .0 edition _ _ _ line held retained _ work _ (e .count) N I (sym (c .before .before .before .before .read-held .ensures .0 (geometryOf edition) (layout-of edition _ _ N) (N .two-phase)))), c .decision-plan .ensures .1)
+returns-2 c = (λ edition line held retained work N I. let e = c .before .before .before .before .before .before .before .args .e in plans-as (geometryOf edition) _ (N .many) _ _ _ _ (means-decide e (c .before .before .if2 .taken) ∙ ap (λ (d : Bool). some (decide d (e .count) (e .value))) (decision-of (e .offset))) (c .decision-plan .ensures .0 edition _ _ _ line held retained _ work _ (e .count) N I (sym (c .before .before .before .before .read-held .ensures .0 (geometryOf edition) (layout-of edition _ _ _ N) (N .two-phase)))), c .decision-plan .ensures .1)
 
 checked-requires : tie.Need-checked-requires
 checked-requires c κs = search needs
@@ -50,7 +50,7 @@ none-requires c κs = search needs
 
 returns-3 : tie.Need-returns-3
 unfolding same
-returns-3 c = (λ edition line held retained work N I. let e = c .before .before .before .before .before .before .before .before .before .before .before .args .e in plans-as (geometryOf edition) _ (N .many) _ _ _ _ (settles e (c .before .before .before .before .before .if3 .taken)) (by-number (geometryOf edition) _ (N .many) _ _ (e .count) _ _ _ _ (transaction-is (e .transaction) _ (sym (c .before .before .t .given .1) ∙ c .before .before .before .before .checked .ensures)) (c .top-plan .ensures .0 edition _ line held retained work _ (e .count) _ N I (sym (c .before .before .before .before .before .before .before .before .read-held .ensures .0 (geometryOf edition) (layout-of edition _ _ N) (N .two-phase))))), c .top-plan .ensures .1)
+returns-3 c = (λ edition line held retained work N I. let e = c .before .before .before .before .before .before .before .before .before .before .before .args .e in plans-as (geometryOf edition) _ (N .many) _ _ _ _ (settles e (c .before .before .before .before .before .if3 .taken)) (by-number (geometryOf edition) _ (N .many) _ _ (e .count) _ _ _ _ (transaction-is (e .transaction) _ (sym (c .before .before .t .given .1) ∙ c .before .before .before .before .checked .ensures)) (c .top-plan .ensures .0 edition _ line held retained work _ (e .count) _ N I (sym (c .before .before .before .before .before .before .before .before .read-held .ensures .0 (geometryOf edition) (layout-of edition _ _ _ N) (N .two-phase))))), c .top-plan .ensures .1)
 
 returns-4 : tie.Need-returns-4
 unfolding same

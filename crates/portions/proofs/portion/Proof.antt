@@ -1,5 +1,6 @@
 -- The loop's invariant: the first k events have been played, their answers stand, and the sets of kin are those of the arrays.
 use mathlib.Core.Path.{_≡_, refl, sym}
+use mathlib.Core.Bool.{false}
 use mathlib.Core.Logic.{inl}
 use Prim.Native.Nat.{_*_, _-_, _/_, _<_, _≤_}
 use native.Mathlib.Omega.{arith}
@@ -23,7 +24,7 @@ abbrev Inv-loop : tie.InvT-loop
 Inv-loop e store₀ events work₀ answers₀ up₀ parent₀ depth₀ line₀ held₀ retained₀ writers₀ live₀ children₀ reserved₀ identity₀ table n k₀ store work answers up parent depth line held retained writers live children reserved identity k =
     (k ≤ n) × (n ≡ length events / 4) × (n ≤ 4096) × (4 * n ≤ length events) × (2 * n ≤ length answers₀)
     × Playing edition1 4 (arrays up₀ parent₀ depth₀ line₀ held₀ retained₀ writers₀ work₀ store₀) events answers₀ n k (arrays up parent depth line held retained writers work store) answers
-    × Kin parent depth live children × Reserves geometry1 store reserved identity
+    × Kin parent depth live children × Reserves false geometry1 store reserved identity
 
 abbrev μ-loop : tie.MeasureT-loop
 μ-loop e store₀ events work₀ answers₀ up₀ parent₀ depth₀ line₀ held₀ retained₀ writers₀ live₀ children₀ reserved₀ identity₀ table n k₀ store work answers up parent depth line held retained writers live children reserved identity k =
@@ -80,7 +81,7 @@ step-requires c κs =
       l .inv .5 .intact,
       l .inv .6,
       l .inv .7,
-      record { many = layout1 .many; two-phase = refl },
+      record { many = layout1 .many; two-phase = refl; torn = refl },
       λ h. refl,
     )
 

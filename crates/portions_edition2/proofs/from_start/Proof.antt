@@ -1,6 +1,6 @@
 -- The loop's invariant: the first k events have been played, their answers stand, and the sets of kin are those of the arrays.
 use mathlib.Core.Path.{_≡_, refl, sym}
-use mathlib.Core.Bool.{true≢false}
+use mathlib.Core.Bool.{true≢false, false}
 use mathlib.Core.List.{List}
 use mathlib.Core.Logic.{inr}
 use Prim.Native.Nat.{ℕ, _*_, _-_, _/_, _<_, _≤_}
@@ -31,7 +31,7 @@ abbrev Inv-loop : tie.InvT-loop
 Inv-loop store₀ events work₀ answers₀ up₀ parent₀ depth₀ line₀ held₀ retained₀ writers₀ live₀ children₀ reserved₀ identity₀ table n k₀ store work answers up parent depth line held retained writers live children reserved identity k =
     (k ≤ n) × (n ≡ length events / 8) × (n ≤ 4096) × (8 * n ≤ length events) × (2 * n ≤ length answers₀)
     × Playing edition2 8 (arrays up₀ parent₀ depth₀ line₀ held₀ retained₀ writers₀ work₀ store₀) events answers₀ n k (arrays up parent depth line held retained writers work store) answers
-    × Kin parent depth live children × Reserves geometry2 store reserved identity
+    × Kin parent depth live children × Reserves false geometry2 store reserved identity
 
 abbrev μ-loop : tie.MeasureT-loop
 μ-loop store₀ events work₀ answers₀ up₀ parent₀ depth₀ line₀ held₀ retained₀ writers₀ live₀ children₀ reserved₀ identity₀ table n k₀ store work answers up parent depth line held retained writers live children reserved identity k =
@@ -88,7 +88,7 @@ step-requires c κs =
       l .inv .5 .intact,
       l .inv .6,
       l .inv .7,
-      record { many = layout2 .many; two-phase = refl },
+      record { many = layout2 .many; two-phase = refl; torn = refl },
       c .of-word .ensures .1 .joint,
     )
 

@@ -2,7 +2,7 @@
 use borrow.Author.Needs.{needs}
 use mathlib.Core.Path.{ap₂, _∙_}
 use Rattle.rules.specs.Age.{ageOf}
-use Rattle.lengths.specs.Lengths.{formIn}
+use Rattle.rules.specs.Editions.{formIn}
 use Rattle.records.proofs.Ages.{answered-judged, answered-refused}
 use Rattle.records.proofs.tell.Statement.{statement}
 use Rattle.records.proofs.tell.Tie as tie
