@@ -4,8 +4,6 @@ ghost use mathlib.Core.Path.{_≡_};
 ghost use Prim.Native.Nat.{_*_, _/_, _≤_};
 ghost use lib.ListN.{length};
 ghost use Rattle.portions_edition2.specs.Lists.{Ended-as};
-use event::Answer;
-use event::edition2::Edition2;
 
 // What is left of the state after a list: all that the page writes of the next event are told from, beside the working buffer and the store.
 pub struct Ended {
@@ -28,35 +26,23 @@ pub fn from_start(store: &mut [u8], events: &[u8], work: &mut [u8], answers: &mu
     let mut held = [0u32; 128];
     let mut retained = [0u32; 128];
     let mut writers = [0u32; 64];
-    let mut live = transactions::live_set(&depth);
-    let mut children = transactions::children_of(&parent, &depth);
-    let p = commit::read_held(&store[..], 64, false, false);
-    let mut reserved = p.map;
-    let mut identity = p.identity;
-    let table = Edition2::table();
-    let n = events.len() / 8;
-    for k in 0..n {
-        let a = engine::step(
-            &mut up,
-            &mut parent,
-            &mut depth,
-            &mut line,
-            &mut live,
-            &mut children,
-            &mut held[..],
-            &mut retained[..],
-            &mut writers[..],
-            work,
-            store,
-            &mut reserved,
-            &mut identity,
-            64,
-            false,
-            false,
-            Edition2::of_word(&table, Edition2::word_at(events, k)),
-        );
-        Answer::put(answers, k, a);
-    }
+    lists::play(
+        &mut up,
+        &mut parent,
+        &mut depth,
+        &mut line,
+        &mut held[..],
+        &mut retained[..],
+        &mut writers[..],
+        work,
+        store,
+        events,
+        answers,
+        64,
+        8,
+        false,
+        false,
+    );
     Ended {
         writers,
         parent,

@@ -1,24 +1,17 @@
--- The loop's invariant: the first k events have been played, their answers stand, and the sets of kin are those of the arrays.
-use mathlib.Core.Path.{_≡_, refl, sym}
-use mathlib.Core.Bool.{true≢false, false}
+-- The list is played on arrays that are all zeros: the start.
+use mathlib.Core.Path.{_≡_, refl}
 use mathlib.Core.List.{List}
 use mathlib.Core.Logic.{inr}
-use Prim.Native.Nat.{ℕ, _*_, _-_, _/_, _<_, _≤_}
-use native.Mathlib.Omega.{arith}
+use Prim.Native.Nat.{ℕ}
 use lib.ListN.{length}
 use borrow.Author.Needs.{needs}
 use Rattle.rules.specs.Geometry.{records, pageCount}
-use Rattle.rules.specs.Editions.{geometry2, edition2, second}
-use Rattle.rules.proofs.AtomicPages.{atomic-laws}
-use Rattle.rules.proofs.Editions.{proper2}
-use Rattle.arrays.specs.Kin.{Kin}
+use Rattle.rules.specs.Editions.{edition2, second}
 use Rattle.commitpage.proofs.Places.{layout2}
 use Rattle.event.proofs.Words.{bytes2}
-use Rattle.state.specs.Whole.{arrays, Intact, Reserves}
+use Rattle.state.specs.Whole.{Intact}
 use Rattle.crashes.proofs.Editions.{served-of}
 use Rattle.crashes.proofs.Falls.{zeros, zeros-intact, zeros-down}
-use Rattle.state.proofs.Parents.{parent-named}
-use Rattle.state.proofs.Playing.{Playing, playing-none, playing-next, playing-all}
 use Rattle.portions_edition2.proofs.from_start.Statement.{statement}
 use Rattle.portions_edition2.proofs.from_start.Tie as tie
 
@@ -27,138 +20,38 @@ begins : (work store : List ℕ) → length work ≡ 32768 → length store ≡ 
 unfolding records pageCount
 begins work store w s = zeros-intact edition2 64 work store (layout2 .many) w s (served-of second)
 
-abbrev Inv-loop : tie.InvT-loop
-Inv-loop store₀ events work₀ answers₀ up₀ parent₀ depth₀ line₀ held₀ retained₀ writers₀ live₀ children₀ reserved₀ identity₀ table n k₀ store work answers up parent depth line held retained writers live children reserved identity k =
-    (k ≤ n) × (n ≡ length events / 8) × (n ≤ 4096) × (8 * n ≤ length events) × (2 * n ≤ length answers₀)
-    × Playing edition2 8 (arrays up₀ parent₀ depth₀ line₀ held₀ retained₀ writers₀ work₀ store₀) events answers₀ n k (arrays up parent depth line held retained writers work store) answers
-    × Kin parent depth live children × Reserves false geometry2 store reserved identity
+slice-aggregate-play : tie.Need-slice-aggregate-play
+slice-aggregate-play c = search needs
 
-abbrev μ-loop : tie.MeasureT-loop
-μ-loop store₀ events work₀ answers₀ up₀ parent₀ depth₀ line₀ held₀ retained₀ writers₀ live₀ children₀ reserved₀ identity₀ table n k₀ store work answers up parent depth line held retained writers live children reserved identity k =
-    n - k
+slice-aggregate-play-2 : tie.Need-slice-aggregate-play-2
+slice-aggregate-play-2 c = search needs
 
-live-set-requires : tie.Need-live-set-requires Inv-loop μ-loop
-live-set-requires c κs = search needs
+slice-aggregate-play-3 : tie.Need-slice-aggregate-play-3
+slice-aggregate-play-3 c = search needs
 
-children-of-requires : tie.Need-children-of-requires Inv-loop μ-loop
-children-of-requires c κs = (search needs, search needs, parent-named edition2 _ (begins (c .before .before .before .before .before .before .before .before .args .work .now) (c .before .before .before .before .before .before .before .before .args .store .now) (c .before .before .before .before .before .before .before .before .pre .1) (c .before .before .before .before .before .before .before .before .pre .0)))
+play-requires : tie.Need-play-requires
+play-requires c κs = let a = c .before .before .before .before .before .before .before .before .before .before .before .before .before .before .args in let p = c .before .before .before .before .before .before .before .before .before .before .before .before .before .before .pre in (begins (a .work .now) (a .store .now) (p .1) (p .0), record { many = layout2 .many; two-phase = refl; torn = refl }, bytes2, inr refl, search needs, search needs)
 
-read-held-requires : tie.Need-read-held-requires Inv-loop μ-loop
-unfolding records pageCount
-read-held-requires c κs = (inr refl, λ e. absurd (true≢false (sym e)), (begins (c .before .before .before .before .before .before .before .before .before .before .args .work .now) (c .before .before .before .before .before .before .before .before .before .before .args .store .now) (c .before .before .before .before .before .before .before .before .before .before .pre .1) (c .before .before .before .before .before .before .before .before .before .before .pre .0)) .form .stores)
+same-length : tie.Need-same-length
+same-length c = search needs
 
-table-requires : tie.Need-table-requires Inv-loop μ-loop
-table-requires c κs = search needs
+same-length-2 : tie.Need-same-length-2
+same-length-2 c = search needs
 
-loop-holds : tie.Need-loop-holds Inv-loop μ-loop
-loop-holds c =
-    let h = c .before .before .before .children-of .ensures in (
-      search needs,
-      refl,
-      omega arith,
-      omega arith,
-      omega arith,
-      playing-none edition2 8 _ _ _ _ (begins (c .before .before .before .before .before .before .before .before .before .before .before .before .args .work .now) (c .before .before .before .before .before .before .before .before .before .before .before .before .args .store .now) (c .before .before .before .before .before .before .before .before .before .before .before .before .pre .1) (c .before .before .before .before .before .before .before .before .before .before .before .before .pre .0)),
-      record { lives = c .before .before .before .before .before .before .live-set .ensures; under = h .1; named = parent-named edition2 _ (begins (c .before .before .before .before .before .before .before .before .before .before .before .before .args .work .now) (c .before .before .before .before .before .before .before .before .before .before .before .before .args .store .now) (c .before .before .before .before .before .before .before .before .before .before .before .before .pre .1) (c .before .before .before .before .before .before .before .before .before .before .before .before .pre .0)); long = h .0 },
-      sym (c .before .read-held .ensures .0 geometry2 layout2 refl),
-    )
-
-slice-aggregate-step : tie.Need-slice-aggregate-step Inv-loop μ-loop
-unfolding records
-slice-aggregate-step c = let h : length (c .before .before .before .before .before .before .before .before .loop .held) ≡ 128 = c .before .before .before .before .before .before .before .before .loop .inv .5 .intact .form .helds in sym h
-
-slice-aggregate-step-2 : tie.Need-slice-aggregate-step-2 Inv-loop μ-loop
-unfolding records
-slice-aggregate-step-2 c = let h : length (c .before .before .before .before .before .before .before .before .before .loop .retained) ≡ 128 = c .before .before .before .before .before .before .before .before .before .loop .inv .5 .intact .form .retaineds in sym h
-
-slice-aggregate-step-3 : tie.Need-slice-aggregate-step-3 Inv-loop μ-loop
-unfolding records
-slice-aggregate-step-3 c = let h : length (c .before .before .before .before .before .before .before .before .before .before .loop .writers) ≡ 64 = c .before .before .before .before .before .before .before .before .before .before .loop .inv .5 .intact .form .writerss in sym h
-
-word-at-requires : tie.Need-word-at-requires Inv-loop μ-loop
-word-at-requires c κs = search needs
-
-of-word-requires : tie.Need-of-word-requires Inv-loop μ-loop
-of-word-requires c κs = c .before .before .before .before .before .before .before .before .before .before .before .before .before .before .before .before .before .table .ensures
-
-step-requires : tie.Need-step-requires Inv-loop μ-loop
-step-requires c κs =
-    let l = c .before .before .before .before .before .before .before .before .before .before .before .before .before .before .before .before .before .loop in (
-      c .of-word .ensures .1,
-      l .inv .5 .intact,
-      l .inv .6,
-      l .inv .7,
-      record { many = layout2 .many; two-phase = refl; torn = refl },
-      c .of-word .ensures .1 .joint,
-    )
-
-put-requires : tie.Need-put-requires Inv-loop μ-loop
-put-requires c κs = let l = c .before .before .before .before .before .before .before .before .before .before .before .before .before .before .before .before .before .before .before .before .before .before .before .before .before .before .loop in let e = l .inv .5 .long in let q : l .k < _ = c .before .before .before .before .before .before .before .before .before .before .before .before .before .before .before .before .before .before .before .before .before .before .before .before .before .loop-test .taken in let b = l .inv .2 in let d = l .inv .4 in (omega arith, omega arith)
-
-add-k : tie.Need-add-k Inv-loop μ-loop
-add-k c = let q = c .before .before .before .before .before .before .before .before .before .before .before .before .before .before .before .before .before .before .before .before .before .before .before .before .before .before .before .before .loop-test .taken in let b = c .before .before .before .before .before .before .before .before .before .before .before .before .before .before .before .before .before .before .before .before .before .before .before .before .before .before .before .before .before .loop .inv .2 in search needs
-
-loop-less : tie.Need-loop-less Inv-loop μ-loop
-loop-less c = let q = c .before .before .before .before .before .before .before .before .before .before .before .before .before .before .before .before .before .before .before .before .before .before .before .before .before .before .before .before .loop-test .taken in search needs
-
-loop-again : tie.Need-loop-again Inv-loop μ-loop
-loop-again c =
-    let l = c .before .before .before .before .before .before .before .before .before .before .before .before .before .before .before .before .before .before .before .before .before .before .before .before .before .before .before .before .before .loop in
-    let a = c .before .before .before .before .before .before .before .before .before .before .before .before .before .before .before .before .before .before .before .before .before .before .before .before .before .before .before .before .before .before .before .before .before .before .before .before .before .before .before .before .before .before .args in
-    let q : l .k < _ = c .before .before .before .before .before .before .before .before .before .before .before .before .before .before .before .before .before .before .before .before .before .before .before .before .before .before .before .before .loop-test .taken in
-    let b = l .inv .0 in (
-      omega arith,
-      l .inv .1,
-      l .inv .2,
-      l .inv .3,
-      l .inv .4,
-      playing-next edition2 8 bytes2 _ _ _ (a .events .now) (a .answers .now) (l .answers) _ _ (l .k) _ _ _ (l .inv .5) q (l .inv .4) (c .before .before .before .before .before .before .before .before .before .before .before .before .before .word-at .ensures) (c .before .before .before .before .before .before .before .before .before .before .before .before .of-word .ensures .0) (c .before .before .before .before .before .before .before .before .before .before .before .step .ensures .0) (c .before .before .put .ensures),
-      c .before .before .before .before .before .before .before .before .before .before .before .step .ensures .1 .0,
-      c .before .before .before .before .before .before .before .before .before .before .before .step .ensures .1 .1,
-    )
-
-same-length : tie.Need-same-length Inv-loop μ-loop
-unfolding records pageCount
-same-length c = let e : length (c .before .loop .store) ≡ 4128 = c .before .loop .inv .5 .intact .form .stores in let s : length (c .before .before .before .before .before .before .before .before .before .before .before .before .before .before .args .store .now) ≡ 4128 = c .before .before .before .before .before .before .before .before .before .before .before .before .before .before .pre .0 in search needs
-
-same-length-2 : tie.Need-same-length-2 Inv-loop μ-loop
-unfolding records pageCount
-same-length-2 c = let e : length (c .before .loop .work) ≡ 32768 = c .before .loop .inv .5 .intact .form .works in let s : length (c .before .before .before .before .before .before .before .before .before .before .before .before .before .before .args .work .now) ≡ 32768 = c .before .before .before .before .before .before .before .before .before .before .before .before .before .before .pre .1 in search needs
-
-same-length-3 : tie.Need-same-length-3 Inv-loop μ-loop
+same-length-3 : tie.Need-same-length-3
 same-length-3 c = search needs
 
-returns : tie.Need-returns Inv-loop μ-loop
-returns c = let l = c .before .loop in record {
-  before = zeros 64 (c .before .before .before .before .before .before .before .before .before .before .before .before .before .before .args .work .now) (c .before .before .before .before .before .before .before .before .before .before .before .before .before .before .args .store .now);
-  begun = zeros-down edition2 64 (c .before .before .before .before .before .before .before .before .before .before .before .before .before .before .args .work .now) (c .before .before .before .before .before .before .before .before .before .before .before .before .before .before .args .store .now);
-  line = l .line;
-  held = l .held;
-  retained = l .retained;
-  leads = playing-all edition2 8 bytes2 (atomic-laws geometry2 proper2 .to-from) _ _ _ _ _ (l .k) _ (omega arith) (l .inv .1) (l .inv .5);
-}
+returns : tie.Need-returns
+returns c = let a = c .before .before .before .before .before .before .before .before .before .before .before .before .before .before .before .before .before .before .before .before .before .before .before .before .args in record { before = zeros 64 (a .work .now) (a .store .now); begun = zeros-down edition2 64 (a .work .now) (a .store .now); line = _; held = _; retained = _; leads = c .before .before .before .before .before .before .before .before .before .play .ensures }
 
 pub from-start-spec : {M : Type 1} → statement M
 from-start-spec =
     tie.close
     (tie.spec
-    Inv-loop
-    μ-loop
-    live-set-requires
-    children-of-requires
-    read-held-requires
-    table-requires
-    loop-holds
-    slice-aggregate-step
-    slice-aggregate-step-2
-    slice-aggregate-step-3
-    word-at-requires
-    of-word-requires
-    step-requires
-    put-requires
-    add-k
-    loop-less
-    loop-again
+    slice-aggregate-play
+    slice-aggregate-play-2
+    slice-aggregate-play-3
+    play-requires
     same-length
     same-length-2
     same-length-3

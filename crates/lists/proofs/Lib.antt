@@ -1,0 +1,2 @@
+-- What the loop's proofs cite of the editions.
+pub mod Words

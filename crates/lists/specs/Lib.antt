@@ -1,0 +1,2 @@
+-- The words of a list.
+pub mod Words
