@@ -1,18 +1,16 @@
--- A store is calm exactly if its pages are whole and the commit page that is shown is empty.
+-- A store is emptied exactly if its pages are whole and the commit page that is shown is empty.
 use mathlib.Core.Path.{_≡_, refl, sym, ap, ap₂, _∙_}
-use mathlib.Core.Bool.{Bool, true, false, _&&_, _||_}
+use mathlib.Core.Bool.{Bool, true, false, _&&_}
 use mathlib.Core.List.{List}
 use mathlib.Core.Option.{Option, none, some}
 use Prim.Native.Nat.{ℕ, _+_, _*_, _≤_}
 use native.Mathlib.Omega.{arith}
 use Rattle.laws.specs.Tests.{same}
+use Rattle.laws.proofs.Booleans.{both}
 use Rattle.rules.specs.Geometry.{Geometry, records, pageCount}
-use Rattle.rules.specs.Store.{Page, pagesOf, readCommit, isEmptied, emptied, identityIn}
-use Rattle.rules.specs.Step.{isBusy}
-use Rattle.rules.specs.Sound.{isCalm}
-use Rattle.rules.specs.Pairs.{shown, pairsOf, emptiedPairs}
+use Rattle.rules.specs.Store.{Page, readCommit, isEmptied, emptied}
+use Rattle.rules.specs.Pairs.{emptiedPairs}
 use Rattle.rules.specs.Editions.{mediumOf}
-use Rattle.rules.proofs.Plain.{none-prepared}
 use Rattle.commitpage.specs.Heard.{heard}
 use Rattle.commitpage.specs.declared.CommitMap.{CommitMap}
 use Rattle.counted.specs.Phase.{storeOf, strideOf, shownIn}
@@ -32,25 +30,22 @@ unfolding emptiedPairs
 emptied-is false g bs = refl
 emptied-is true g bs = refl
 
+-- what is read of a page as a map's: whether it is empty
 empty-is : (o : Option ℕ) → (heard o .good && same (heard o .map) 0) ≡ isEmptied o
 unfolding heard isEmptied
 empty-is none = refl
 empty-is (some map) = refl
 
-pub calm-is : (tears : Bool) (g : Geometry) (n : ℕ) → records g ≡ n → (bs : List ℕ) (b : Bool) (page : Page) (c : CommitMap) → b ≡ wholeIn tears (1 + (n + n)) (storeOf tears bs)
+pub emptied-by : (tears : Bool) (g : Geometry) (n : ℕ) → records g ≡ n → (bs : List ℕ) (b : Bool) (page : Page) (c : CommitMap) → b ≡ wholeIn tears (1 + (n + n)) (storeOf tears bs)
     → page ≡ shownIn tears (storeOf tears bs) 0 → c ≡ heard (readCommit g page) → (b && (c .good && same (c .map) 0)) ≡ mediumOf tears g .emptied (mediumOf tears g .fromBytes bs)
 unfolding emptied pageCount
-calm-is tears g n many bs b page c w p h =
+emptied-by tears g n many bs b page c w p h =
     ap₂ (λ (x y : Bool). x && y) (w ∙ ap (λ (m : ℕ). wholeIn tears m (storeOf tears bs)) (let e : 1 + (n + n) ≡ 1 + (records g + records g) = omega (arith, many) in e))
     (ap (λ (c : CommitMap). c .good && same (c .map) 0) h ∙ empty-is (readCommit g page) ∙ ap (λ (x : Page). isEmptied (readCommit g x)) p)
     ∙ sym (emptied-is tears g bs)
 
-or-false : (b : Bool) → (b || false) ≡ b
-or-false true = refl
-or-false false = refl
-
--- where no transaction can be prepared that is all
-pub calm-plain : (tears : Bool) (g : Geometry) → g .joint ≡ false → (bs : List ℕ) → isCalm (mediumOf tears g) (mediumOf tears g .fromBytes bs) ≡ mediumOf tears g .emptied (mediumOf tears g .fromBytes bs)
-unfolding isCalm isBusy identityIn
-calm-plain false g j bs = rw (none-prepared g j (pagesOf bs 0)) (or-false (emptied g (pagesOf bs)))
-calm-plain true g j bs = rw (none-prepared g j (shown (pairsOf bs) 0)) (or-false (emptiedPairs g (pairsOf bs)))
+-- the commit page that an emptied store shows is empty
+pub emptied-page : (tears : Bool) (g : Geometry) (bs : List ℕ) → mediumOf tears g .emptied (mediumOf tears g .fromBytes bs) ≡ true
+    → isEmptied (readCommit g (shownIn tears (storeOf tears bs) 0)) ≡ true
+unfolding emptied
+emptied-page tears g bs e = both (wholeIn tears (pageCount g) (storeOf tears bs)) _ (sym (emptied-is tears g bs) ∙ e) .1

@@ -1,13 +1,11 @@
-// Whether a store is calm, as it is while it is up and no page write is under way: its commit page is empty, and where pages tear (document 02, L5), "every pair
-// good and alike".
+// Whether a store is emptied, as it is while it is up and nothing is prepared: its commit page is empty, and where pages tear (document 02, L5), "every pair good
+// and alike".
 ghost use mathlib.Core.Path.{_≡_};
-ghost use mathlib.Core.Bool.{false};
 ghost use Prim.Native.Nat.{_+_, _*_, _<_, _≤_};
 ghost use lib.ListN.{length};
 ghost use Rattle.laws.specs.Bytes.{sameList};
 ghost use Rattle.laws.specs.Counting.{all};
 ghost use Rattle.rules.specs.Geometry.{Geometry};
-ghost use Rattle.rules.specs.Sound.{isCalm};
 ghost use Rattle.rules.specs.Pairs.{pairsOf, isGood, isWhole};
 ghost use Rattle.rules.specs.Editions.{mediumOf};
 ghost use Rattle.commitpage.specs.Layout.{Known, Layout};
@@ -83,13 +81,12 @@ fn pages_whole(store: &[u8], tears: bool, pages: usize) -> bool
     true
 }
 
-// Whether a store of n records has an empty commit page and whole pages: whether it is calm, where no transaction can be prepared.
-pub fn is_calm(store: &[u8], tears: bool, n: usize) -> bool
+// Whether a store of n records has an empty commit page and whole pages.
+pub fn is_emptied(store: &[u8], tears: bool, n: usize) -> bool
     requires { ⌜ Known n × (length (now store) ≡ strideOf tears * (1 + (n + n))) ⌝ }
     ensures { λ r.
         let before = now (store .entry) in
-        ⌜ ((g : Geometry) → Layout g n
-        → (r ≡ mediumOf tears g .emptied (mediumOf tears g .fromBytes before)) × (g .joint ≡ false → r ≡ isCalm (mediumOf tears g) (mediumOf tears g .fromBytes before))) ⌝ }
+        ⌜ ((g : Geometry) → Layout g n → r ≡ mediumOf tears g .emptied (mediumOf tears g .fromBytes before)) ⌝ }
 {
     let whole = pages_whole(store, tears, 1 + (n + n));
     let c = commitpage::read_commit(counted::get_page(store, tears, 0), n);

@@ -16,17 +16,18 @@ use Rattle.laws.proofs.Tests.{same?, Same, is, isnt, same-refl, ne-false}
 use Rattle.laws.proofs.Booleans.{clash}
 use Rattle.laws.proofs.Bits.{bits-zero, bits-or}
 use Rattle.rules.specs.Geometry.{Geometry, records, pageSize}
-use Rattle.rules.specs.Store.{Page, pagesOf, named, behindMap, commitPage, readCommit, isEmptied, emptied, Prepared, preparedPage, readPrepared, identityIn, preparedMap}
+use Rattle.rules.specs.Store.{Page, named, behindMap, commitPage, readCommit, isEmptied, Prepared, preparedPage, readPrepared, identityIn, preparedMap}
 use Rattle.rules.specs.Step.{isBusy}
 use Rattle.rules.specs.Sound.{isCalm}
-use Rattle.rules.specs.Editions.{geometry1, edition1, depths}
+use Rattle.rules.specs.Editions.{mediumOf, depths}
 use Rattle.rules.proofs.Map.{named-zero}
 use Rattle.rules.proofs.PreparedPage.{prepared-is}
 use Rattle.sets.specs.Sets.{sets}
 use Rattle.arrays.specs.View.{anyMode}
 use Rattle.arrays.specs.Kin.{livesIn}
-use Rattle.commitpage.specs.Heard.{heard, overheard}
-use Rattle.commitpage.specs.declared.CommitMap.{CommitMap}
+use Rattle.commitpage.specs.Heard.{overheard}
+use Rattle.counted.specs.Phase.{storeOf, shownIn}
+use Rattle.state.proofs.Reserves.{prepared-in}
 use Rattle.clauses.specs.Decides.{Decides}
 use Rattle.clauses.specs.Clauses.{Vacant, Seated, Entry, Within, Lock, Share, UnlockedOf, Unlocked, Phase}
 use Rattle.clauses.proofs.Decides.{decides-as, decides-by, decides-self, decides-and, decides-or, decides-if, decides-unless, decides-same, decides-less, decides-most, decides-within}
@@ -135,12 +136,7 @@ share-decided above beneath held heldWriting retained retainedWriting t one e f 
     (decides-if (bits heldWriting t) (within-word retained above c)))
     (decides-if (bits retained t) (within-either retainedWriting above beneath d))))
 
--- what is read of a page as a map's, and as a prepared transaction's: whether it is empty, whether it is prepared and with which map
-pub empty-is : (o : Option ℕ) → (heard o .good && same (heard o .map) 0) ≡ isEmptied o
-unfolding heard isEmptied
-empty-is none = refl
-empty-is (some m) = refl
-
+-- the map of a prepared transaction
 prepared-map-is : (q : Option Prepared) → overheard q .map ≡ preparedMap q
 unfolding overheard preparedMap
 prepared-map-is none = refl
@@ -165,24 +161,24 @@ empty-none g page e =
     let p : Prepared = record { map = map; identity = number page / 2 ^ (8 * (pageSize - 5)) % 256 } in
     mapless (g .joint) (same map 0) (sameList page (preparedPage g p)) p (emptied-map (sameList page (commitPage g map)) map e)
 
-busy-is : (page : Page) → not (same (preparedMap (readPrepared geometry1 page)) 0) ≡ isBusy (identityIn (readPrepared geometry1 page))
+busy-is : (g : Geometry) (page : Page) → not (same (preparedMap (readPrepared g page)) 0) ≡ isBusy (identityIn (readPrepared g page))
 unfolding preparedMap identityIn isBusy
-busy-is page = go (readPrepared geometry1 page) refl
+busy-is g page = go (readPrepared g page) refl
   where
-    go : (q : Option Prepared) → readPrepared geometry1 page ≡ q → not (same (preparedMap q) 0) ≡ isBusy (identityIn q)
+    go : (q : Option Prepared) → readPrepared g page ≡ q → not (same (preparedMap q) 0) ≡ isBusy (identityIn q)
     go none e = ap not (same-refl 0)
-    go (some p) e = ap not (ne-false (p .map) 0 (prepared-is geometry1 page p e .1 .some-record))
+    go (some p) e = ap not (ne-false (p .map) 0 (prepared-is g page p e .1 .some-record))
 
 -- no map, no record
-pub none-unlocked : (map : ℕ) (held retained : List ℕ) → map ≡ 0 → Decides true (Unlocked map held retained)
-none-unlocked map held retained e = record { yes = λ z r h n. clash n (ap (λ (m : ℕ). named geometry1 m r) e ∙ named-zero geometry1 r); no = λ z f. true≢false z }
+pub none-unlocked : (g : Geometry) (map : ℕ) (held retained : List ℕ) → map ≡ 0 → Decides true (Unlocked g map held retained)
+none-unlocked g map held retained e = record { yes = λ z r h n. clash n (ap (λ (m : ℕ). named g m r) e ∙ named-zero g r); no = λ z f. true≢false z }
 
-pub unlocked-decided : (map : ℕ) (held retained : List ℕ) (r : ℕ) {names : Bool} → names ≡ named geometry1 map r
-    → Decides (not names || same (bitOr (getD held (2 * r) 0) (getD retained (2 * r) 0)) 0) (UnlockedOf map held retained r)
+pub unlocked-decided : (g : Geometry) (map : ℕ) (held retained : List ℕ) (r : ℕ) {names : Bool} → names ≡ named g map r
+    → Decides (not names || same (bitOr (getD held (2 * r) 0) (getD retained (2 * r) 0)) 0) (UnlockedOf g map held retained r)
 unfolding sets anyMode
-unlocked-decided map held retained r e =
+unlocked-decided g map held retained r e =
     rw e
-    (decides-if (named geometry1 map r)
+    (decides-if (named g map r)
     (decides-as
     (λ q u. sym (joined u) ∙ ap (λ (f : ℕ → Bool). f u) q ∙ bits-zero u)
     (λ f. fun-ext (λ u. joined u ∙ f u ∙ sym (bits-zero u)))
@@ -207,27 +203,32 @@ idle-decided live depth e q =
     free t f (is p s _) = p
     free t f (isnt p s _) = clash (f (at t ∙ ap not s)) refl
 
-pub phase-decided : (up : ℕ) (depth held retained store : List ℕ) (c : CommitMap) (map : ℕ) {idle unlocked : Bool}
-    → c ≡ heard (readCommit geometry1 (pagesOf store 0)) → map ≡ overheard (readPrepared geometry1 (pagesOf store 0)) .map
-    → Decides idle ((t : ℕ) → t < 24 → getD depth t 0 ≡ 0) → Decides unlocked (Unlocked map held retained)
-    → Decides
-    (((leb up 1 && (same up 1 || idle)) && (not (same up 1) || ((c .good && same (c .map) 0) || not (same map 0)))) && unlocked)
-    (Phase up depth held retained store)
-unfolding isCalm emptied
-phase-decided up depth held retained store c map e f i u =
-    decides-as
-    (λ x. record { flag = x .0 .0 .0; idle = x .0 .0 .1; calm = x .0 .1; reserved = subst (λ (m : ℕ). Unlocked m held retained) map-is (x .1) })
-    (λ q. (((q .flag, q .idle), q .calm), subst (λ (m : ℕ). Unlocked m held retained) (sym map-is) (q .reserved)))
-    (decides-and
-    (decides-and
-    (decides-and (decides-most up 1) (decides-unless (same up 1) i))
-    (decides-if (same up 1) (decides-by calm-is (decides-self (isCalm (edition1 .medium) (pagesOf store))))))
-    u)
-  where
-    map-is : map ≡ preparedMap (readPrepared geometry1 (pagesOf store 0))
-    map-is = f ∙ prepared-map-is (readPrepared geometry1 (pagesOf store 0))
+-- by whether the store is emptied, and by the map of what is prepared
+module _ (tears : Bool) (g : Geometry) (up : ℕ) (depth held retained store : List ℕ) where
+  abbrev lent : mediumOf tears g .Store
+  lent = mediumOf tears g .fromBytes store
 
-    calm-is : ((c .good && same (c .map) 0) || not (same map 0)) ≡ (isEmptied (readCommit geometry1 (pagesOf store 0)) || isBusy (identityIn (readPrepared geometry1 (pagesOf store 0))))
-    calm-is = ap₂ _||_
-        (ap (λ (m : CommitMap). m .good && same (m .map) 0) e ∙ empty-is (readCommit geometry1 (pagesOf store 0)))
-        (ap (λ (m : ℕ). not (same m 0)) map-is ∙ busy-is (pagesOf store 0))
+  abbrev page : Page
+  page = shownIn tears (storeOf tears store) 0
+
+  pub phase-decided : (map : ℕ) {empty idle unlocked : Bool} → empty ≡ mediumOf tears g .emptied lent → map ≡ overheard (readPrepared g page) .map
+      → Decides idle ((t : ℕ) → t < 24 → getD depth t 0 ≡ 0) → Decides unlocked (Unlocked g map held retained)
+      → Decides
+      (((leb up 1 && (same up 1 || idle)) && (not (same up 1) || (empty || not (same map 0)))) && unlocked)
+      (Phase tears g up depth held retained store)
+  unfolding isCalm
+  phase-decided map {empty} e f i u =
+      decides-as
+      (λ x. record { flag = x .0 .0 .0; idle = x .0 .0 .1; calm = x .0 .1; reserved = subst (λ (m : ℕ). Unlocked g m held retained) map-is (x .1) })
+      (λ q. (((q .flag, q .idle), q .calm), subst (λ (m : ℕ). Unlocked g m held retained) (sym map-is) (q .reserved)))
+      (decides-and
+      (decides-and
+      (decides-and (decides-most up 1) (decides-unless (same up 1) i))
+      (decides-if (same up 1) (decides-by calm-is (decides-self (isCalm (mediumOf tears g) lent)))))
+      u)
+    where
+      map-is : map ≡ preparedMap (readPrepared g page)
+      map-is = f ∙ prepared-map-is (readPrepared g page)
+
+      calm-is : (empty || not (same map 0)) ≡ (mediumOf tears g .emptied lent || isBusy (mediumOf tears g .prepared lent))
+      calm-is = ap₂ _||_ e (ap (λ (m : ℕ). not (same m 0)) map-is ∙ busy-is g page ∙ ap isBusy (sym (prepared-in tears g store)))

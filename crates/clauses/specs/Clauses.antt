@@ -7,12 +7,13 @@ use mathlib.Core.Logic.{_⊎_}
 use Prim.Native.Nat.{ℕ, suc, _<_, _≤_}
 use lib.ListN.{getD}
 use Rattle.laws.specs.Tests.{same}
-use Rattle.rules.specs.Geometry.{transactions, nobody}
-use Rattle.rules.specs.Store.{pagesOf, named, readPrepared, preparedMap}
+use Rattle.rules.specs.Geometry.{Geometry, transactions, nobody}
+use Rattle.rules.specs.Store.{named, readPrepared, preparedMap}
 use Rattle.rules.specs.Sound.{isCalm}
-use Rattle.rules.specs.Editions.{geometry1, edition1}
+use Rattle.rules.specs.Editions.{geometry1, mediumOf}
 use Rattle.sets.specs.Sets.{sets}
 use Rattle.arrays.specs.View.{anyMode, writeMode}
+use Rattle.counted.specs.Phase.{storeOf, shownIn}
 
 -- a free number has parent 0 and no line
 pub record Vacant (parent line : List ℕ) (t : ℕ) : Type 0 where
@@ -94,17 +95,17 @@ abbrev pub Lined : List ℕ → List ℕ → List ℕ → Type 0
 Lined line held retained = (r : ℕ) → r < 16 → LinedOf line held retained r
 
 -- nobody has the lock of record r, if a map names it
-abbrev pub UnlockedOf : ℕ → List ℕ → List ℕ → ℕ → Type 0
-UnlockedOf map held retained r = named geometry1 map r ≡ true → (u : ℕ) → (anyMode (sets held) r u || anyMode (sets retained) r u) ≡ false
+abbrev pub UnlockedOf : Geometry → ℕ → List ℕ → List ℕ → ℕ → Type 0
+UnlockedOf g map held retained r = named g map r ≡ true → (u : ℕ) → (anyMode (sets held) r u || anyMode (sets retained) r u) ≡ false
 
 -- nobody has a lock of the records that a map names
-abbrev pub Unlocked : ℕ → List ℕ → List ℕ → Type 0
-Unlocked map held retained = (r : ℕ) → r < 16 → UnlockedOf map held retained r
+abbrev pub Unlocked : Geometry → ℕ → List ℕ → List ℕ → Type 0
+Unlocked g map held retained = (r : ℕ) → r < 16 → UnlockedOf g map held retained r
 
--- up is 0 or 1; nothing is live while down; the commit page is empty or prepared while up; nobody has a lock of a record that the prepared
--- transaction changed
-pub record Phase (up : ℕ) (depth held retained store : List ℕ) : Type 0 where
+-- up is 0 or 1; nothing is live while down; while up the commit page is empty or prepared, and where pages tear every pair is good and alike; nobody has a
+-- lock of a record that the prepared transaction changed
+pub record Phase (tears : Bool) (g : Geometry) (up : ℕ) (depth held retained store : List ℕ) : Type 0 where
   pub flag : up ≤ 1
   pub idle : same up 1 ≡ false → (t : ℕ) → t < transactions → getD depth t 0 ≡ 0
-  pub calm : same up 1 ≡ true → isCalm (edition1 .medium) (pagesOf store) ≡ true
-  pub reserved : Unlocked (preparedMap (readPrepared geometry1 (pagesOf store 0))) held retained
+  pub calm : same up 1 ≡ true → isCalm (mediumOf tears g) (mediumOf tears g .fromBytes store) ≡ true
+  pub reserved : Unlocked g (preparedMap (readPrepared g (shownIn tears (storeOf tears store) 0))) held retained

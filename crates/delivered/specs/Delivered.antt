@@ -1,23 +1,24 @@
 -- WHAT IS DELIVERED, under one name. The contracts of the open operations tie the code to the rules: a run is `run`, a portion is `portion`. Here stands what
--- follows from the rules, one field for each theorem that is promised: of every edition, and of edition 1 alone.
+-- follows from the rules, one field for each theorem that is promised: of every edition and form, and of some of them alone.
 use mathlib.Core.Path.{_≡_}
 use mathlib.Core.Bool.{true, false}
 use mathlib.Core.List.{List}
 use mathlib.Core.Option.{Option}
 use Prim.Native.Nat.{ℕ}
+use lib.Dec.{T}
 use lib.ListN.{length}
-use Rattle.rules.specs.Geometry.{Geometry}
-use Rattle.rules.specs.Form.{atomic}
+use Rattle.rules.specs.Form.{Form}
 use Rattle.rules.specs.Event.{Event}
 use Rattle.rules.specs.State.{down}
 use Rattle.rules.specs.Step.{StateOf, refused, step}
 use Rattle.rules.specs.Run.{play}
 use Rattle.rules.specs.Sound.{Sound}
-use Rattle.rules.specs.Editions.{Edition, geometryOf, edition1, edition2, geometryPairs, editionPairs}
+use Rattle.rules.specs.Pairs.{Pairs, mended, pairsOf, OneBadAtMost}
+use Rattle.rules.specs.Editions.{Edition, geometryOf, formOf, edition1, edition2, geometryPairs, editionPairs}
 use Rattle.history.specs.Demand3.{Demand-3-holds}
 use Rattle.history.specs.Claims.{Reads-overlay, Commit-survives}
 use Rattle.history.specs.Survival.{Survives-in-k}
-use Rattle.serial.specs.OneAtATime.{One-at-a-time-holds, One-run-at-a-time-holds}
+use Rattle.serial.specs.OneAtATime.{One-run-at-a-time-holds}
 use Rattle.device.specs.Device.{Happening, Device-holds}
 use Rattle.device_pairs.specs.Device.{Happening as TornHappening, listOf, allFit, Torn-device-holds}
 use Rattle.agreement.specs.Agreement.{Agreement, Fresh}
@@ -27,53 +28,61 @@ use Rattle.calls.specs.Chained.{Singled-out, Written-one-way, Refused-untouched
 use Rattle.trials_rows.specs.Rows.{numbers1, AllHold, AllGo}
 use Rattle.trials.specs.Trials.{trials}
 use Rattle.trials_edition2.specs.Edition2Trials.{numbers2, trials2, played2}
+use Rattle.trials_pairs.specs.TornRows.{numbersPairs, allHold, allSo}
+use Rattle.trials_pairs.specs.TornTrials.{commitRows, wholeRows, recoveryRows, againRows}
+use Rattle.trials_pairs.specs.PairTrials.{mendRows, calmRows, trialsOfPairs, playedPairs}
 
--- Of a run over any start store, of any length of list, in an edition on atomic pages.
-pub record Promised-of-runs (g : Geometry) : Type 0 where
+-- Of a run over any start store, of any length of list, in a form.
+pub record Promised-of-runs (f : Form) : Type 0 where
   -- A refusal changes nothing.
-  pub refused-keeps : (s : StateOf (atomic g)) (e : Option Event) (n : ℕ) → step (atomic g) s e .answer ≡ refused n → step (atomic g) s e .state ≡ s
+  pub refused-keeps : (s : StateOf f) (e : Option Event) (n : ℕ) → step f s e .answer ≡ refused n → step f s e .state ≡ s
   -- Every state that a list reaches is sound: locks, versions, lines and depths go together.
-  pub sound : (store : List ℕ) → length store ≡ atomic g .medium .size → (ws : List ℕ) → Sound (atomic g) (play (atomic g) (down (atomic g .medium .fromBytes store)) ws .state)
+  pub sound : (store : List ℕ) → length store ≡ f .medium .size → (ws : List ℕ) → Sound f (play f (down (f .medium .fromBytes store)) ws .state)
   -- The central law: what a live transaction reads is the start's value under the writes that it may see.
-  pub reads : (store ws : List ℕ) → length store ≡ atomic g .medium .size → Reads-overlay (atomic g) store ws
-  -- A top transaction survives exactly if it changed nothing or k is at least n + 1.
-  pub survives-in-k : (store ws more : List ℕ) (w t c : ℕ) → length store ≡ atomic g .medium .size → Survives-in-k (atomic g) store ws more w t c
-  -- What is settled stays, through crashes and recoveries, however many and wherever each is cut.
-  pub commit-survives : (store ws more : List ℕ) → length store ≡ atomic g .medium .size → Commit-survives (atomic g) store ws more
+  pub reads : (store ws : List ℕ) → length store ≡ f .medium .size → Reads-overlay f store ws
+  -- A top transaction survives exactly if it changed nothing or k is at least n + 1; where pages tear, a torn write whose first copy is new counts in k.
+  pub survives-in-k : (store ws more : List ℕ) (w t c : ℕ) → length store ≡ f .medium .size → Survives-in-k f store ws more w t c
+  -- What is settled stays, through crashes and recoveries, however many and wherever each is cut or torn.
+  pub commit-survives : (store ws more : List ℕ) → length store ≡ f .medium .size → Commit-survives f store ws more
   -- Demand 3: exactly the surviving writes, in list order; and nothing of the lost ones shows.
-  pub demand-3 : Demand-3-holds (atomic g)
+  pub demand-3 : Demand-3-holds f
   -- All is as if one transaction came at a time.
-  pub one-at-a-time : One-run-at-a-time-holds (atomic g)
-  -- The same of a medium that is written page by page while the power may go.
-  pub device : (store : List ℕ) → length store ≡ atomic g .medium .size → (hs : List Happening) → Device-holds g store hs
+  pub one-at-a-time : One-run-at-a-time-holds f
 
--- Of calls of nekahuiro_portion, each on what the last one left.
-pub record Promised-of-portions : Type 0 where
+-- Of calls that play a portion, each on what the last one left.
+pub record Promised-of-portions (f : Form) : Type 0 where
   -- Each call singles out its answer and every byte but those of the working buffer that no live version has.
-  pub singled-out : Singled-out
+  pub singled-out : Singled-out f
   -- The lent struct is a function of the state.
-  pub written-one-way : Written-one-way
+  pub written-one-way : Written-one-way f
   -- A refused call leaves every byte.
-  pub refused-untouched : Refused-untouched
+  pub refused-untouched : Refused-untouched f
   -- No call in a chain is refused with 25; demand 3, the central law, the crash claim and the serial order hold over the joined list.
-  pub calls : Calls-hold
+  pub calls : Calls-hold f
   -- A list may be cut into portions anywhere.
-  pub cut-anywhere : Cut-anywhere
+  pub cut-anywhere : Cut-anywhere f
 
--- Of runs over pages that can tear (document 02, L5), each kept as a pair of copies.
+-- Of pages that can tear (document 02, L5), each kept as a pair of copies.
 pub record Promised-of-torn-pages : Type 0 where
-  pub reads : (store ws : List ℕ) → length store ≡ editionPairs .medium .size → Reads-overlay editionPairs store ws
-  pub survives-in-k : (store ws more : List ℕ) (w t c : ℕ) → length store ≡ editionPairs .medium .size → Survives-in-k editionPairs store ws more w t c
-  pub commit-survives : (store ws more : List ℕ) → length store ≡ editionPairs .medium .size → Commit-survives editionPairs store ws more
-  pub demand-3 : Demand-3-holds editionPairs
-  pub one-at-a-time : One-at-a-time-holds editionPairs
+  -- Mending twice equals once.
+  pub mend-mend : (s : Pairs) → mended (mended s) ≡ mended s
+  -- From a start store with at most one bad copy in each pair, every store of a run has that.
+  pub one-bad-kept : (store : List ℕ) → length store ≡ editionPairs .medium .size → OneBadAtMost geometryPairs (pairsOf store)
+      → (ws : List ℕ) → OneBadAtMost geometryPairs (play editionPairs (down (pairsOf store)) ws .state .store)
   -- Wherever the power goes among copy writes, between two or within one, the medium is what the rules' tears leave.
   pub device : (store : List ℕ) → length store ≡ 2178 → (hs : List TornHappening) → allFit geometryPairs (listOf geometryPairs hs) ≡ true → Torn-device-holds geometryPairs store hs
+  -- Each tear at each write of a commit and of a recovery, and torn again, by computing.
+  pub torn-rows : T (allHold editionPairs commitRows) × T (allHold editionPairs wholeRows) × T (allHold editionPairs recoveryRows) × T (allHold editionPairs againRows)
+  pub rows : T (allHold editionPairs mendRows) × T (allSo editionPairs calmRows) × AllHold editionPairs numbersPairs trialsOfPairs × AllGo editionPairs numbersPairs playedPairs
 
 -- THE WHOLE.
 pub record Delivered : Type 1 where
-  pub runs : (k : Edition) → geometryOf k .tears ≡ false → Promised-of-runs (geometryOf k)
-  pub portions : Promised-of-portions
+  -- of every edition and form
+  pub runs : (k : Edition) → Promised-of-runs (formOf k)
+  -- of a medium that is written page by page while the power may go
+  pub device : (k : Edition) → geometryOf k .tears ≡ false → (store : List ℕ) → length store ≡ formOf k .medium .size → (hs : List Happening) → Device-holds (geometryOf k) store hs
+  pub portions : Promised-of-portions edition1
+  pub portions-torn : Promised-of-portions editionPairs
   pub torn-pages : Promised-of-torn-pages
   -- Truck and depot never hold opposite decisions.
   pub agreement : Agreement edition1 (Fresh edition1)

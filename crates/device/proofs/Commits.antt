@@ -87,14 +87,14 @@ module _ (g : Geometry) where
     line-either t j ok (a ∷ []) c = top-either t j (top-clear t ok (c refl))
     line-either t j ok (a ∷ y ∷ l) c = nothing-either t j
 
-    by-either : (t n j : ℕ) (p : Option ℕ) → refusal (atomic g) s (commit t n) ≡ p → AllOrNone t (carried j (planBy g s (commit t n) p) (s .store))
+    by-either : (t n j : ℕ) (p : Option ℕ) → refusal (atomic g) s (commit t n) ≡ p → AllOrNone t (carried j (planBy false g s (commit t n) p) (s .store))
     unfolding planBy acceptedPlan
     by-either t n j none q = line-either t j (commit-ok (atomic g) s t n q) (lineOf (s .bearer) t) (commit-clear (atomic g) s t n q)
     by-either t n j (some m) q = nothing-either t j
 
     commit-either : (t n k : ℕ) → AllOrNone t (carried k (dueOf g s (some (commit t n))) (s .store))
     unfolding dueOf planOf countOf
-    commit-either t n k = rw (carried-take k n (planBy g s (commit t n) (refusal (atomic g) s (commit t n))) (s .store)) (by-either t n (lesser k n) (refusal (atomic g) s (commit t n)) refl)
+    commit-either t n k = rw (carried-take k n (planBy false g s (commit t n) (refusal (atomic g) s (commit t n))) (s .store)) (by-either t n (lesser k n) (refusal (atomic g) s (commit t n)) refl)
 
     top-done : (t n v : ℕ) → CommitOk s t → isClear g (atomicPages g) (s .store) (s .version t) ≡ true → commitsTop (atomic g) s t (commitAt g (s .store) (s .version t) n) .answer ≡ done v → (r : ℕ)
         → settled g (commitsTop (atomic g) s t (commitAt g (s .store) (s .version t) n) .state .store) r ≡ else (s .version t r) (settled g (s .store) r)

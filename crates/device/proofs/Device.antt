@@ -135,7 +135,7 @@ module _ (g : Geometry) where
   pub played-store : (s : StateOf (atomic g)) (o : Option Event) → carried (length (dueOf g s o)) (dueOf g s o) (s .store) ≡ step (atomic g) s o .state .store
   unfolding dueOf step
   played-store s none = carried-none 0 (s .store)
-  played-store s (some e) = carried-whole (countOf e) (planOf g s e) (s .store) ∙ sym (step-store g s e)
+  played-store s (some e) = carried-whole (countOf e) (planOf false g s e) (s .store) ∙ sym (step-store g s e)
 
   bad-keeps : (s : StateOf (atomic g)) (w k : ℕ) → decode g w ≡ none → s .store ≡ step (atomic g) s (decode g (cutWord g w k none)) .state .store
   unfolding cutWord step
@@ -148,8 +148,8 @@ module _ (g : Geometry) where
   failed-store s w k none q = carried-none k (s .store) ∙ bad-keeps s w k q
   failed-store s w k (some e) q =
       let n = lesser k (countOf e) in
-      carried-take k (countOf e) (planOf g s e) (s .store)
-      ∙ rw (cut-decodes w k e q, step-store g s (withCount n e), plan-counts g s n e, count-lesser k e)
+      carried-take k (countOf e) (planOf false g s e) (s .store)
+      ∙ rw (cut-decodes w k e q, step-store g s (withCount n e), plan-counts false g s n e, count-lesser k e)
 
   -- the machine goes on as the rules say, and the medium is its store
   pub record Follows (d : Device g) (s : StateOf (atomic g)) : Type 0 where

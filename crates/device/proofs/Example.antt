@@ -42,7 +42,7 @@ abbrev zeros : Page
 zeros = replicate 32 0
 
 -- intention pages, commit page, home pages, empty commit page
-pub plan : planOf geometry1 (deviceAfter geometry1 store setup .memory) (commit 0 63)
+pub plan : planOf false geometry1 (deviceAfter geometry1 store setup .memory) (commit 0 63)
     ≡ sets 1 a ∷ sets 2 b ∷ sets 0 (commitPage geometry1 0xC000) ∷ sets 17 a ∷ sets 18 b ∷ sets 0 (commitPage geometry1 0) ∷ []
 unfolding open-tests open-counting open-functions open-bytes open-geometry open-store open-event open-state open-locks open-versions open-commit open-step open-run open-plan open-device
 plan = refl
@@ -54,12 +54,12 @@ waiting = record { map = 0xC000; identity = 9 }
 abbrev prepared : StateOf (atomic geometry1)
 prepared = deviceAfter geometry1 store (setup ++ (played (prepare 0 63 9) ∷ [])) .memory
 
-pub prepare-plan : planOf geometry1 (deviceAfter geometry1 store setup .memory) (prepare 0 63 9) ≡ sets 1 a ∷ sets 2 b ∷ sets 0 (preparedPage geometry1 waiting) ∷ []
+pub prepare-plan : planOf false geometry1 (deviceAfter geometry1 store setup .memory) (prepare 0 63 9) ≡ sets 1 a ∷ sets 2 b ∷ sets 0 (preparedPage geometry1 waiting) ∷ []
 unfolding open-tests open-counting open-functions open-bytes open-geometry open-store open-event open-state open-locks open-versions open-commit open-step open-run open-plan open-device
 prepare-plan = refl
 
-pub decide-plans : (planOf geometry1 prepared (decide true 63 9) ≡ sets 0 (commitPage geometry1 0xC000) ∷ sets 17 a ∷ sets 18 b ∷ sets 0 (commitPage geometry1 0) ∷ [])
-    × (planOf geometry1 prepared (decide false 63 9) ≡ sets 0 (commitPage geometry1 0) ∷ []) × (planOf geometry1 prepared (decide true 63 8) ≡ [])
+pub decide-plans : (planOf false geometry1 prepared (decide true 63 9) ≡ sets 0 (commitPage geometry1 0xC000) ∷ sets 17 a ∷ sets 18 b ∷ sets 0 (commitPage geometry1 0) ∷ [])
+    × (planOf false geometry1 prepared (decide false 63 9) ≡ sets 0 (commitPage geometry1 0) ∷ []) × (planOf false geometry1 prepared (decide true 63 8) ≡ [])
 unfolding open-tests open-counting open-functions open-bytes open-geometry open-store open-event open-state open-locks open-versions open-commit open-step open-run open-plan open-device
 decide-plans = (refl, refl, refl)
 

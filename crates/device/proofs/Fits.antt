@@ -42,7 +42,7 @@ module _ (g : Geometry) (s : StateOf (atomic g)) (S : Sound (atomic g) s) (Z : S
   line-fits v paged (a ∷ []) = commit-fits v paged
   line-fits v paged (a ∷ y ∷ l) = tt
 
-  by-fits : (e : Event) (p : Option ℕ) → Fit (pageCount g) (planBy g s e p)
+  by-fits : (e : Event) (p : Option ℕ) → Fit (pageCount g) (planBy false g s e p)
   unfolding planBy acceptedPlan Fit
   by-fits e (some n) = tt
   by-fits (begin p) none = tt
@@ -57,6 +57,6 @@ module _ (g : Geometry) (s : StateOf (atomic g)) (S : Sound (atomic g) s) (Z : S
   by-fits (decide d k i) none = decision-fits d _
   by-fits (query i) none = tt
 
-  pub plan-fits : (e : Event) → Fit (pageCount g) (planOf g s e)
+  pub plan-fits : (e : Event) → Fit (pageCount g) (planOf false g s e)
   unfolding planOf
   plan-fits e = by-fits e (refusal (atomic g) s e)

@@ -12,7 +12,7 @@ use Rattle.laws.proofs.Tests.{ne-false}
 use Rattle.rules.specs.Geometry.{Geometry, records}
 use Rattle.rules.specs.Store.{Page, Pages, Prepared, intention, mapOf, isNamed, isReserved}
 use Rattle.rules.specs.Versions.{isSome}
-use Rattle.rules.specs.Editions.{geometry1, geometry2}
+use Rattle.rules.specs.Editions.{geometry1, geometry2, formIn}
 use Rattle.laws.specs.Counting.{those}
 use Rattle.laws.proofs.Those.{count-le, those-length}
 use lib.Seq.{take-all}
@@ -24,7 +24,7 @@ use Rattle.rules.specs.Step.{refused, numberOf, valueOf, StateOf, Outcome, ende
 use Rattle.rules.proofs.Cuts.{not-lt-under, commitDue, recoverDue, commit-length, recover-length}
 use Rattle.rules.proofs.Prepares.{prepareDue, prepare-length}
 use Rattle.rules.proofs.Acceptance.{refused-number, act-answer, accepted-acts, Judged, acts, refuses, judge?}
-use Rattle.device.specs.Plan.{carried, lesser, countOf, withCount, linePlan, decisionPlan, acceptedPlan, planBy, planOf, dueOf, writeAt, Planned}
+use Rattle.device.specs.Plan.{carried, lesser, countOf, withCount, linePlan, decisionPlan, pagesIn, acceptedPlan, planBy, planOf, dueOf, writeAt, Planned}
 
 pub carried-is : (k : ℕ) (ws : List PageWrite) (m : Pages) → carried k ws m ≡ applied (take k ws) m
 unfolding carried applied
@@ -91,6 +91,127 @@ planned-none k m o e v n = record {
   number = n ∙ sym (not-lt-under k 0 (omega arith));
 }
 
+-- HOW LONG A PLAN IS at most
+module _ (g : Geometry) where
+  due-commit : (n : ℕ) → n ≤ records g → commitDue n ≤ 2 * records g + 2
+  unfolding commitDue
+  due-commit n h = go (same n 0)
+    where
+      go : (b : Bool) → cond b 0 (2 * n + 2) ≤ 2 * records g + 2
+      go true = omega arith
+      go false = omega arith
+
+  due-next : (n : ℕ) → n ≤ records g → cond (same n 0) 0 (n + 1) ≤ records g + 1
+  due-next n h = go (same n 0)
+    where
+      go : (b : Bool) → cond b 0 (n + 1) ≤ records g + 1
+      go true = omega arith
+      go false = omega arith
+
+  those-short : (p : ℕ → Bool) → length (those (records g) p) ≤ records g
+  those-short p = rw (those-length (records g) p) (count-le (records g) p)
+
+  commit-short : (v : ℕ → Option Page) → length (commitPlan g v) ≤ 2 * records g + 2
+  commit-short v = rw (commit-length g (pageIn v) (mapOf g (λ r. isSome (v r))) (those (records g) (λ r. isSome (v r)))) (due-commit _ (those-short (λ r. isSome (v r))))
+
+  homes-short : (m : Pages) (p : ℕ → Bool) → length (recoverWrites g (λ r. m (intention r)) (those (records g) p)) ≤ records g + 1
+  unfolding recoverDue
+  homes-short m p = rw (recover-length g (λ r. m (intention r)) (those (records g) p)) (due-next _ (those-short p))
+
+  recover-short : (m : Pages) → length (recoverPlan g m) ≤ 2 * records g + 2
+  recover-short m = let h = homes-short m (isNamed g m) in omega arith
+
+  prepare-short : (v : ℕ → Option Page) (i : ℕ) → length (preparePlan g v i) ≤ 2 * records g + 2
+  unfolding prepareDue
+  prepare-short v i =
+      let p : Prepared = record { map = mapOf g (λ r. isSome (v r)); identity = i } in
+      let h = due-next _ (those-short (λ r. isSome (v r))) in
+      rw (prepare-length g (pageIn v) p (those (records g) (λ r. isSome (v r)))) (omega (arith, h))
+
+  decision-short : (m : Pages) (d b : Bool) → length (decisionPlan g m d b) ≤ 2 * records g + 2
+  unfolding decisionPlan decideWrites
+  decision-short m d false = omega arith
+  decision-short m false true = omega arith
+  decision-short m true true = let h = homes-short m (isReserved g m) in omega arith
+
+  line-short : (v : ℕ → Option Page) (l : List ℕ) → length (linePlan g v l) ≤ 2 * records g + 2
+  unfolding linePlan
+  line-short v [] = commit-short v
+  line-short v (a ∷ []) = commit-short v
+  line-short v (a ∷ y ∷ l) = omega arith
+
+-- ON EITHER MEDIUM
+module _ (tears : Bool) (g : Geometry) (s : StateOf (formIn tears g)) where
+  plan-acts : (e : Event) → refusal (formIn tears g) s e ≡ none → planOf tears g s e ≡ acceptedPlan tears g s e
+  unfolding planOf planBy
+  plan-acts e q = rw q
+
+  plan-refused : (e : Event) (n : ℕ) → refusal (formIn tears g) s e ≡ some n → planOf tears g s e ≡ []
+  unfolding planOf planBy
+  plan-refused e n q = rw q
+
+  -- by the outcome: what is answered with a refusal writes nothing, what isn't writes what is planned
+  pub refused-plan : (e : Event) (n : ℕ) → step (formIn tears g) s (some e) .answer ≡ refused n → planOf tears g s e ≡ []
+  refused-plan e n h = go (judge? (formIn tears g) s e)
+    where
+      go : Judged (formIn tears g) s e → planOf tears g s e ≡ []
+      go (acts q z) = absurd (act-answer (formIn tears g) s e n (sym (ap (λ o. o .answer) z) ∙ h))
+      go (refuses m q z) = plan-refused e m q
+
+  pub accepted-plan : (e : Event) → ((n : ℕ) → step (formIn tears g) s (some e) .answer ≢ refused n) → planOf tears g s e ≡ acceptedPlan tears g s e
+  accepted-plan e h = plan-acts e (accepted-acts (formIn tears g) s e h .0)
+
+  -- the plan asks for no count
+  pub plan-counts : (k : ℕ) (e : Event) → planOf tears g s (withCount k e) ≡ planOf tears g s e
+  unfolding planOf planBy withCount acceptedPlan refusal refusals
+  plan-counts k (begin p) = refl
+  plan-counts k (lock t r a) = refl
+  plan-counts k (write t r o v) = refl
+  plan-counts k (read t r o) = refl
+  plan-counts k (commit t n) = go (refusal (formIn tears g) s (commit t n))
+    where
+      go : (p : Option ℕ) → planBy tears g s (commit t k) p ≡ planBy tears g s (commit t n) p
+      go none = refl
+      go (some m) = refl
+  plan-counts k (abort t w) = refl
+  plan-counts k crash = refl
+  plan-counts k (recover n) = go (refusal (formIn tears g) s (recover n))
+    where
+      go : (p : Option ℕ) → planBy tears g s (recover k) p ≡ planBy tears g s (recover n) p
+      go none = refl
+      go (some m) = refl
+  plan-counts k (prepare t n i) = go (refusal (formIn tears g) s (prepare t n i))
+    where
+      go : (p : Option ℕ) → planBy tears g s (prepare t k i) p ≡ planBy tears g s (prepare t n i) p
+      go none = refl
+      go (some m) = refl
+  plan-counts k (decide d n i) = go (refusal (formIn tears g) s (decide d n i))
+    where
+      go : (p : Option ℕ) → planBy tears g s (decide d k i) p ≡ planBy tears g s (decide d n i) p
+      go none = refl
+      go (some m) = refl
+  plan-counts k (query i) = refl
+
+  by-short : (e : Event) (p : Option ℕ) → length (planBy tears g s e p) ≤ 2 * records g + 2
+  unfolding planBy acceptedPlan
+  by-short e (some n) = omega arith
+  by-short (begin p) none = omega arith
+  by-short (lock t r a) none = omega arith
+  by-short (write t r o v) none = omega arith
+  by-short (read t r o) none = omega arith
+  by-short (commit t k) none = line-short g (s .version t) (lineOf (s .bearer) t)
+  by-short (abort t w) none = omega arith
+  by-short crash none = omega arith
+  by-short (recover k) none = recover-short g (pagesIn tears g (s .store))
+  by-short (prepare t k i) none = prepare-short g (s .version t) i
+  by-short (decide d k i) none = decision-short g (pagesIn tears g (s .store)) d _
+  by-short (query i) none = omega arith
+
+  pub plan-short : (e : Event) → length (planOf tears g s e) ≤ 2 * records g + 2
+  unfolding planOf
+  plan-short e = by-short e (refusal (formIn tears g) s e)
+
+-- ON ATOMIC PAGES
 module _ (g : Geometry) (s : StateOf (atomic g)) where
   -- the plans are what the rules' commit and recovery cut
   pub commit-cuts : (v : ℕ → Option Page) (k : ℕ) → commitAt g (s .store) v k ≡ cutAt k (commitPlan g v) (s .store)
@@ -139,103 +260,53 @@ module _ (g : Geometry) (s : StateOf (atomic g)) where
       go : (1 ≤ n) × (n ≤ 27) × (n ≢ 11) → same n 11 ≡ false
       go h = ne-false n 11 (h .2)
 
-  plan-acts : (e : Event) → refusal (atomic g) s e ≡ none → planOf g s e ≡ acceptedPlan g s e
-  unfolding planOf planBy
-  plan-acts e q = rw q
-
-  plan-refused : (e : Event) (n : ℕ) → refusal (atomic g) s e ≡ some n → planOf g s e ≡ []
-  unfolding planOf planBy
-  plan-refused e n q = rw q
-
-  -- by the outcome: what is answered with a refusal writes nothing, what isn't writes what is planned
-  pub refused-plan : (e : Event) (n : ℕ) → step (atomic g) s (some e) .answer ≡ refused n → planOf g s e ≡ []
-  refused-plan e n h = go (judge? (atomic g) s e)
-    where
-      go : Judged (atomic g) s e → planOf g s e ≡ []
-      go (acts q z) = absurd (act-answer (atomic g) s e n (sym (ap (λ (o : Outcome Pages). o .answer) z) ∙ h))
-      go (refuses m q z) = plan-refused e m q
-
-  pub accepted-plan : (e : Event) → ((n : ℕ) → step (atomic g) s (some e) .answer ≢ refused n) → planOf g s e ≡ acceptedPlan g s e
-  accepted-plan e h = plan-acts e (accepted-acts (atomic g) s e h .0)
-
   -- THE PLAN'S LAW, of a commit and of a recovery, for every count
-  pub commit-planned : (t k : ℕ) → Planned k (planOf g s (commit t k)) (s .store) (step (atomic g) s (some (commit t k)))
+  pub commit-planned : (t k : ℕ) → Planned k (planOf false g s (commit t k)) (s .store) (step (atomic g) s (some (commit t k)))
   unfolding act acceptedPlan
   commit-planned t k = go (judge? (atomic g) s (commit t k))
     where
-      go : Judged (atomic g) s (commit t k) → Planned k (planOf g s (commit t k)) (s .store) (step (atomic g) s (some (commit t k)))
-      go (acts q z) = rw (plan-acts (commit t k) q, z) (planned-line t k (lineOf (s .bearer) t))
-      go (refuses n q z) = rw (plan-refused (commit t k) n q) (planned-refused k (commit t k) n z)
+      go : Judged (atomic g) s (commit t k) → Planned k (planOf false g s (commit t k)) (s .store) (step (atomic g) s (some (commit t k)))
+      go (acts q z) = rw (plan-acts false g s (commit t k) q, z) (planned-line t k (lineOf (s .bearer) t))
+      go (refuses n q z) = rw (plan-refused false g s (commit t k) n q) (planned-refused k (commit t k) n z)
 
-  pub recover-planned : (k : ℕ) → Planned k (planOf g s (recover k)) (s .store) (step (atomic g) s (some (recover k)))
+  pub recover-planned : (k : ℕ) → Planned k (planOf false g s (recover k)) (s .store) (step (atomic g) s (some (recover k)))
   unfolding act acceptedPlan
   recover-planned k = go (judge? (atomic g) s (recover k))
     where
-      go : Judged (atomic g) s (recover k) → Planned k (planOf g s (recover k)) (s .store) (step (atomic g) s (some (recover k)))
-      go (acts q z) = rw (plan-acts (recover k) q, z) (planned-recovers k)
-      go (refuses n q z) = rw (plan-refused (recover k) n q) (planned-refused k (recover k) n z)
+      go : Judged (atomic g) s (recover k) → Planned k (planOf false g s (recover k)) (s .store) (step (atomic g) s (some (recover k)))
+      go (acts q z) = rw (plan-acts false g s (recover k) q, z) (planned-recovers k)
+      go (refuses n q z) = rw (plan-refused false g s (recover k) n q) (planned-refused k (recover k) n z)
 
-  pub prepare-planned : (t k i : ℕ) → Planned k (planOf g s (prepare t k i)) (s .store) (step (atomic g) s (some (prepare t k i)))
+  pub prepare-planned : (t k i : ℕ) → Planned k (planOf false g s (prepare t k i)) (s .store) (step (atomic g) s (some (prepare t k i)))
   unfolding act acceptedPlan
   prepare-planned t k i = go (judge? (atomic g) s (prepare t k i))
     where
-      go : Judged (atomic g) s (prepare t k i) → Planned k (planOf g s (prepare t k i)) (s .store) (step (atomic g) s (some (prepare t k i)))
-      go (acts q z) = rw (plan-acts (prepare t k i) q, z) (planned-prepares t i k)
-      go (refuses n q z) = rw (plan-refused (prepare t k i) n q) (planned-refused k (prepare t k i) n z)
+      go : Judged (atomic g) s (prepare t k i) → Planned k (planOf false g s (prepare t k i)) (s .store) (step (atomic g) s (some (prepare t k i)))
+      go (acts q z) = rw (plan-acts false g s (prepare t k i) q, z) (planned-prepares t i k)
+      go (refuses n q z) = rw (plan-refused false g s (prepare t k i) n q) (planned-refused k (prepare t k i) n z)
 
-  pub decide-planned : (d : Bool) (k i : ℕ) → Planned k (planOf g s (decide d k i)) (s .store) (step (atomic g) s (some (decide d k i)))
+  pub decide-planned : (d : Bool) (k i : ℕ) → Planned k (planOf false g s (decide d k i)) (s .store) (step (atomic g) s (some (decide d k i)))
   unfolding act acceptedPlan
   decide-planned d k i = go (judge? (atomic g) s (decide d k i))
     where
-      go : Judged (atomic g) s (decide d k i) → Planned k (planOf g s (decide d k i)) (s .store) (step (atomic g) s (some (decide d k i)))
-      go (acts q z) = rw (plan-acts (decide d k i) q, z) (planned-decides d k _)
-      go (refuses n q z) = rw (plan-refused (decide d k i) n q) (planned-refused k (decide d k i) n z)
-
-  -- the plan asks for no count
-  pub plan-counts : (k : ℕ) (e : Event) → planOf g s (withCount k e) ≡ planOf g s e
-  unfolding planOf planBy withCount acceptedPlan refusal refusals
-  plan-counts k (begin p) = refl
-  plan-counts k (lock t r a) = refl
-  plan-counts k (write t r o v) = refl
-  plan-counts k (read t r o) = refl
-  plan-counts k (commit t n) = go (refusal (atomic g) s (commit t n))
-    where
-      go : (p : Option ℕ) → planBy g s (commit t k) p ≡ planBy g s (commit t n) p
-      go none = refl
-      go (some m) = refl
-  plan-counts k (abort t w) = refl
-  plan-counts k crash = refl
-  plan-counts k (recover n) = go (refusal (atomic g) s (recover n))
-    where
-      go : (p : Option ℕ) → planBy g s (recover k) p ≡ planBy g s (recover n) p
-      go none = refl
-      go (some m) = refl
-  plan-counts k (prepare t n i) = go (refusal (atomic g) s (prepare t n i))
-    where
-      go : (p : Option ℕ) → planBy g s (prepare t k i) p ≡ planBy g s (prepare t n i) p
-      go none = refl
-      go (some m) = refl
-  plan-counts k (decide d n i) = go (refusal (atomic g) s (decide d n i))
-    where
-      go : (p : Option ℕ) → planBy g s (decide d k i) p ≡ planBy g s (decide d n i) p
-      go none = refl
-      go (some m) = refl
-  plan-counts k (query i) = refl
+      go : Judged (atomic g) s (decide d k i) → Planned k (planOf false g s (decide d k i)) (s .store) (step (atomic g) s (some (decide d k i)))
+      go (acts q z) = rw (plan-acts false g s (decide d k i) q, z) (planned-decides d k _)
+      go (refuses n q z) = rw (plan-refused false g s (decide d k i) n q) (planned-refused k (decide d k i) n z)
 
   -- the other events write nothing
   Still : Event → Type 0
-  Still e = (act (atomic g) s e .state .store ≡ s .store) × (acceptedPlan g s e ≡ [])
+  Still e = (act (atomic g) s e .state .store ≡ s .store) × (acceptedPlan false g s e ≡ [])
 
-  still-store : (e : Event) → Still e → step (atomic g) s (some e) .state .store ≡ carried (countOf e) (planOf g s e) (s .store)
+  still-store : (e : Event) → Still e → step (atomic g) s (some e) .state .store ≡ carried (countOf e) (planOf false g s e) (s .store)
   unfolding Still
   still-store e S = go (judge? (atomic g) s e)
     where
-      go : Judged (atomic g) s e → step (atomic g) s (some e) .state .store ≡ carried (countOf e) (planOf g s e) (s .store)
-      go (acts q z) = rw (plan-acts e q, z, S .1) (S .0 ∙ sym (carried-none (countOf e) (s .store)))
-      go (refuses n q z) = rw (plan-refused e n q, z) (sym (carried-none (countOf e) (s .store)))
+      go : Judged (atomic g) s e → step (atomic g) s (some e) .state .store ≡ carried (countOf e) (planOf false g s e) (s .store)
+      go (acts q z) = rw (plan-acts false g s e q, z, S .1) (S .0 ∙ sym (carried-none (countOf e) (s .store)))
+      go (refuses n q z) = rw (plan-refused false g s e n q, z) (sym (carried-none (countOf e) (s .store)))
 
   -- of every event
-  pub step-store : (e : Event) → step (atomic g) s (some e) .state .store ≡ carried (countOf e) (planOf g s e) (s .store)
+  pub step-store : (e : Event) → step (atomic g) s (some e) .state .store ≡ carried (countOf e) (planOf false g s e) (s .store)
   unfolding Still act acceptedPlan finished begun locked wrote aborted retaining ended down countOf
   step-store (begin p) = still-store (begin p) (refl, refl)
   step-store (lock t r a) = still-store (lock t r a) (refl, refl)
@@ -250,100 +321,33 @@ module _ (g : Geometry) (s : StateOf (atomic g)) where
   step-store (query i) = still-store (query i) (refl, refl)
 
   -- for every count, by the plan of the event whatever count it has
-  pub commit-every : (t n k : ℕ) → Planned k (planOf g s (commit t n)) (s .store) (step (atomic g) s (some (commit t k)))
+  pub commit-every : (t n k : ℕ) → Planned k (planOf false g s (commit t n)) (s .store) (step (atomic g) s (some (commit t k)))
   unfolding withCount
-  commit-every t n k = rw (← plan-counts k (commit t n)) (commit-planned t k)
+  commit-every t n k = rw (← plan-counts false g s k (commit t n)) (commit-planned t k)
 
-  pub recover-every : (n k : ℕ) → Planned k (planOf g s (recover n)) (s .store) (step (atomic g) s (some (recover k)))
+  pub recover-every : (n k : ℕ) → Planned k (planOf false g s (recover n)) (s .store) (step (atomic g) s (some (recover k)))
   unfolding withCount
-  recover-every n k = rw (← plan-counts k (recover n)) (recover-planned k)
+  recover-every n k = rw (← plan-counts false g s k (recover n)) (recover-planned k)
 
-  pub prepare-every : (t i n k : ℕ) → Planned k (planOf g s (prepare t n i)) (s .store) (step (atomic g) s (some (prepare t k i)))
+  pub prepare-every : (t i n k : ℕ) → Planned k (planOf false g s (prepare t n i)) (s .store) (step (atomic g) s (some (prepare t k i)))
   unfolding withCount
-  prepare-every t i n k = rw (← plan-counts k (prepare t n i)) (prepare-planned t k i)
+  prepare-every t i n k = rw (← plan-counts false g s k (prepare t n i)) (prepare-planned t k i)
 
-  pub decide-every : (d : Bool) (i n k : ℕ) → Planned k (planOf g s (decide d n i)) (s .store) (step (atomic g) s (some (decide d k i)))
+  pub decide-every : (d : Bool) (i n k : ℕ) → Planned k (planOf false g s (decide d n i)) (s .store) (step (atomic g) s (some (decide d k i)))
   unfolding withCount
-  decide-every d i n k = rw (← plan-counts k (decide d n i)) (decide-planned d k i)
-
-  -- how long a plan is at most
-  due-commit : (n : ℕ) → n ≤ records g → commitDue n ≤ 2 * records g + 2
-  unfolding commitDue
-  due-commit n h = go (same n 0)
-    where
-      go : (b : Bool) → cond b 0 (2 * n + 2) ≤ 2 * records g + 2
-      go true = omega arith
-      go false = omega arith
-
-  due-next : (n : ℕ) → n ≤ records g → cond (same n 0) 0 (n + 1) ≤ records g + 1
-  due-next n h = go (same n 0)
-    where
-      go : (b : Bool) → cond b 0 (n + 1) ≤ records g + 1
-      go true = omega arith
-      go false = omega arith
-
-  those-short : (p : ℕ → Bool) → length (those (records g) p) ≤ records g
-  those-short p = rw (those-length (records g) p) (count-le (records g) p)
-
-  commit-short : (v : ℕ → Option Page) → length (commitPlan g v) ≤ 2 * records g + 2
-  commit-short v = rw (commit-length g (pageIn v) (mapOf g (λ r. isSome (v r))) (those (records g) (λ r. isSome (v r)))) (due-commit _ (those-short (λ r. isSome (v r))))
-
-  homes-short : (p : ℕ → Bool) → length (recoverWrites g (λ r. s .store (intention r)) (those (records g) p)) ≤ records g + 1
-  unfolding recoverDue
-  homes-short p = rw (recover-length g (λ r. s .store (intention r)) (those (records g) p)) (due-next _ (those-short p))
-
-  recover-short : length (recoverPlan g (s .store)) ≤ 2 * records g + 2
-  recover-short = let h = homes-short (isNamed g (s .store)) in omega arith
-
-  prepare-short : (v : ℕ → Option Page) (i : ℕ) → length (preparePlan g v i) ≤ 2 * records g + 2
-  unfolding prepareDue
-  prepare-short v i =
-      let p : Prepared = record { map = mapOf g (λ r. isSome (v r)); identity = i } in
-      let h = due-next _ (those-short (λ r. isSome (v r))) in
-      rw (prepare-length g (pageIn v) p (those (records g) (λ r. isSome (v r)))) (omega (arith, h))
-
-  decision-short : (d b : Bool) → length (decisionPlan g (s .store) d b) ≤ 2 * records g + 2
-  unfolding decisionPlan decideWrites
-  decision-short d false = omega arith
-  decision-short false true = omega arith
-  decision-short true true = let h = homes-short (isReserved g (s .store)) in omega arith
-
-  line-short : (v : ℕ → Option Page) (l : List ℕ) → length (linePlan g v l) ≤ 2 * records g + 2
-  unfolding linePlan
-  line-short v [] = commit-short v
-  line-short v (a ∷ []) = commit-short v
-  line-short v (a ∷ y ∷ l) = omega arith
-
-  by-short : (e : Event) (p : Option ℕ) → length (planBy g s e p) ≤ 2 * records g + 2
-  unfolding planBy acceptedPlan
-  by-short e (some n) = omega arith
-  by-short (begin p) none = omega arith
-  by-short (lock t r a) none = omega arith
-  by-short (write t r o v) none = omega arith
-  by-short (read t r o) none = omega arith
-  by-short (commit t k) none = line-short (s .version t) (lineOf (s .bearer) t)
-  by-short (abort t w) none = omega arith
-  by-short crash none = omega arith
-  by-short (recover k) none = recover-short
-  by-short (prepare t k i) none = prepare-short (s .version t) i
-  by-short (decide d k i) none = decision-short d _
-  by-short (query i) none = omega arith
-
-  pub plan-short : (e : Event) → length (planOf g s e) ≤ 2 * records g + 2
-  unfolding planOf
-  plan-short e = by-short e (refusal (atomic g) s e)
+  decide-every d i n k = rw (← plan-counts false g s k (decide d n i)) (decide-planned d k i)
 
   -- an event with a count that is no less than that writes its whole plan
-  pub due-whole : (e : Event) → 2 * records g + 2 ≤ countOf e → dueOf g s (some e) ≡ planOf g s e
+  pub due-whole : (e : Event) → 2 * records g + 2 ≤ countOf e → dueOf g s (some e) ≡ planOf false g s e
   unfolding dueOf
-  due-whole e h = let q : length (planOf g s e) ≤ 2 * records g + 2 = plan-short e in take-all (countOf e) (planOf g s e) (omega arith)
+  due-whole e h = let q : length (planOf false g s e) ≤ 2 * records g + 2 = plan-short false g s e in take-all (countOf e) (planOf false g s e) (omega arith)
 
 -- of edition 1: the count 63 cuts nothing, and one byte can number the writes
-pub due-whole1 : (s : StateOf (atomic geometry1)) (e : Event) → countOf e ≡ 63 → dueOf geometry1 s (some e) ≡ planOf geometry1 s e
+pub due-whole1 : (s : StateOf (atomic geometry1)) (e : Event) → countOf e ≡ 63 → dueOf geometry1 s (some e) ≡ planOf false geometry1 s e
 unfolding records
 due-whole1 s e q = due-whole geometry1 s e (omega (arith, q))
 
 -- of edition 2: the count 255 cuts nothing, and one byte can number the writes
-pub due-whole2 : (s : StateOf (atomic geometry2)) (e : Event) → countOf e ≡ 255 → dueOf geometry2 s (some e) ≡ planOf geometry2 s e
+pub due-whole2 : (s : StateOf (atomic geometry2)) (e : Event) → countOf e ≡ 255 → dueOf geometry2 s (some e) ≡ planOf false geometry2 s e
 unfolding records
 due-whole2 s e q = due-whole geometry2 s e (omega (arith, q))

@@ -1,6 +1,7 @@
 -- What the operation answers that says the page writes of an event after a list: the list is played from the start, as a run plays it, and then the page
 -- write with a number, from 0, of what this event makes on the state that the list leaves, if nothing cuts it. The event itself isn't played.
 use mathlib.Core.Path.{_≡_}
+use mathlib.Core.Bool.{false}
 use mathlib.Core.List.{List}
 use mathlib.Core.Option.{Option, none, some}
 use Prim.Native.Nat.{ℕ}
@@ -12,8 +13,7 @@ use Rattle.rules.specs.State.{down}
 use Rattle.rules.specs.Form.{atomicPages, atomic}
 use Rattle.rules.specs.Step.{StateOf, firstOf}
 use Rattle.rules.specs.Run.{words, play, eventsIn, runRefusals, runAll}
-use Rattle.device.specs.Plan.{writeAt}
-use Rattle.device.specs.Asked.{told, planFor, askLengths}
+use Rattle.device.specs.Asked.{saidOf, askLengths}
 
 -- the operation's answer, and what it leaves in the store, in the answer buffer and in the buffer lent for a page write
 pub record AskedAfter : Type 0 where
@@ -34,12 +34,12 @@ module _ (g : Geometry) where
 
   -- the refusals of a run with the list, and then those of a question on the event, by the lengths of the buffers
   unfoldable pub refusedAfter : List ℕ → List ℕ → List ℕ → List ℕ → List ℕ → List ℕ → Option ℕ
-  refusedAfter store events work answers event write = orElse (firstOf (runRefusals (atomic g) store events work answers)) (firstOf (askLengths g store event work write))
+  refusedAfter store events work answers event write = orElse (firstOf (runRefusals (atomic g) store events work answers)) (firstOf (askLengths false g store event work write))
 
   unfoldable pub askedAfterBy : List ℕ → List ℕ → List ℕ → List ℕ → ℕ → List ℕ → Option ℕ → AskedAfter
   askedAfterBy store events answers event index write none =
       let ran = runAll (atomic g) store events answers in
-      let said = told (writeAt index (planFor g (after store events) (decode g (number event)))) write in
+      let said = saidOf false g (after store events) (decode g (number event)) index write in
       record { answer = said .answer; store = ran .store; answers = ran .answers; write = said .write }
   askedAfterBy store events answers event index write (some n) = record { answer = n; store = store; answers = answers; write = write }
 

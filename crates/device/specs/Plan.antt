@@ -1,4 +1,4 @@
--- The plan of an event: the page writes that it makes on a state if nothing cuts it. For atomic pages.
+-- The plan of an event: the page writes that it makes on a state if nothing cuts it. Of atomic pages, and of pages that can tear: `tears` tells which.
 use Prim.Native.Nat.{ℕ, zero, suc}
 use mathlib.Core.Path.{_≡_}
 use mathlib.Core.Bool.{Bool, true, false, cond}
@@ -7,11 +7,13 @@ use mathlib.Core.Option.{Option, none, some}
 use lib.ListN.{length, take}
 use Rattle.laws.specs.Tests.{same, under}
 use Rattle.rules.specs.Geometry.{Geometry}
-use Rattle.rules.specs.Store.{Page, Pages, readPrepared, identityIn}
+use Rattle.rules.specs.Store.{Page, Pages}
 use Rattle.rules.specs.Event.{Event, begin, lock, write, read, commit, abort, crash, recover, prepare, decide, query}
 use Rattle.rules.specs.State.{lineOf}
 use Rattle.rules.specs.Commit.{PageWrite, written, commitPlan, recoverPlan, preparePlan, decidePlan}
 use Rattle.rules.specs.Form.{atomic}
+use Rattle.rules.specs.Pairs.{shown}
+use Rattle.rules.specs.Editions.{mediumOf, formIn}
 use Rattle.rules.specs.Step.{numberOf, valueOf, Outcome, StateOf, isFor, refusal}
 
 -- The first k of some page writes, carried out one by one; all of them where there are fewer.
@@ -20,8 +22,8 @@ carried zero ws m = m
 carried (suc k) [] m = m
 carried (suc k) (w ∷ ws) m = carried k ws (written w m)
 
--- The page write number n, from 0, where there is one.
-unfoldable pub writeAt : ℕ → List PageWrite → Option PageWrite
+-- The write number n, from 0, where there is one.
+unfoldable pub writeAt : {A : Type 0} → ℕ → List A → Option A
 writeAt n [] = none
 writeAt zero (w ∷ ws) = some w
 writeAt (suc n) (w ∷ ws) = writeAt n ws
@@ -70,31 +72,37 @@ module _ (g : Geometry) where
   decisionPlan m d true = decidePlan g m d
   decisionPlan m d false = []
 
-  unfoldable pub acceptedPlan : StateOf (atomic g) → Event → List PageWrite
+-- the pages that a store shows
+abbrev pub pagesIn : (tears : Bool) (g : Geometry) → mediumOf tears g .Store → Pages
+pagesIn false g m = m
+pagesIn true g m = shown m
+
+module _ (tears : Bool) (g : Geometry) where
+  unfoldable pub acceptedPlan : StateOf (formIn tears g) → Event → List PageWrite
   acceptedPlan s (begin p) = []
   acceptedPlan s (lock t r a) = []
   acceptedPlan s (write t r o v) = []
   acceptedPlan s (read t r o) = []
-  acceptedPlan s (commit t k) = linePlan (s .version t) (lineOf (s .bearer) t)
+  acceptedPlan s (commit t k) = linePlan g (s .version t) (lineOf (s .bearer) t)
   acceptedPlan s (abort t w) = []
   acceptedPlan s crash = []
-  acceptedPlan s (recover k) = recoverPlan g (s .store)
+  acceptedPlan s (recover k) = recoverPlan g (pagesIn tears g (s .store))
   acceptedPlan s (prepare t k i) = preparePlan g (s .version t) i
-  acceptedPlan s (decide d k i) = decisionPlan (s .store) d (isFor i (identityIn (readPrepared g (s .store 0))))
+  acceptedPlan s (decide d k i) = decisionPlan g (pagesIn tears g (s .store)) d (isFor i (mediumOf tears g .prepared (s .store)))
   acceptedPlan s (query i) = []
 
-  unfoldable pub planBy : StateOf (atomic g) → Event → Option ℕ → List PageWrite
+  unfoldable pub planBy : StateOf (formIn tears g) → Event → Option ℕ → List PageWrite
   planBy s e none = acceptedPlan s e
   planBy s e (some n) = []
 
   -- THE PLAN: the page writes that an event makes on a state if nothing cuts it, in order; none where it is refused
-  unfoldable pub planOf : StateOf (atomic g) → Event → List PageWrite
-  planOf s e = planBy s e (refusal (atomic g) s e)
+  unfoldable pub planOf : StateOf (formIn tears g) → Event → List PageWrite
+  planOf s e = planBy s e (refusal (formIn tears g) s e)
 
-  -- what an event with its own count writes; a bad event writes nothing
-  unfoldable pub dueOf : StateOf (atomic g) → Option Event → List PageWrite
-  dueOf s none = []
-  dueOf s (some e) = take (countOf e) (planOf s e)
+-- what an event with its own count writes on atomic pages; a bad event writes nothing
+unfoldable pub dueOf : (g : Geometry) → StateOf (atomic g) → Option Event → List PageWrite
+dueOf g s none = []
+dueOf g s (some e) = take (countOf e) (planOf false g s e)
 
 -- THE PLAN'S LAW: what a plan and a count say of an event's outcome, over the store before.
 pub record Planned (k : ℕ) (ws : List PageWrite) (m : Pages) (o : Outcome Pages) : Type 0 where

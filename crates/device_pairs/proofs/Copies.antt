@@ -12,7 +12,8 @@ use Rattle.rules.specs.Store.{Page}
 use Rattle.rules.specs.Commit.{PageWrite, sets}
 use Rattle.rules.specs.Pairs.{Pair, Pairs, good, bad, whole, torn, putAll, tearFirst, cutPairs}
 use Rattle.rules.proofs.Pairs.{cut-none, cut-append, cut-one-whole}
-use Rattle.device_pairs.specs.Copies.{first, second, made, spoiled, copiesOf, carriedAll, carried, spoiledAt, behind, within}
+use Rattle.device.specs.CopyWrites.{first, second, copiesOf}
+use Rattle.device_pairs.specs.Copies.{made, spoiled, carriedAll, carried, spoiledAt, behind, within}
 
 module _ (n : ℕ) (p : Page) (s : Pairs) where
   abbrev half : Pair

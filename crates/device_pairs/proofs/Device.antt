@@ -8,21 +8,20 @@ use native.Mathlib.Omega.{arith}
 use lib.ListN.{length}
 use Rattle.laws.specs.Tests.{same, under}
 use Rattle.laws.proofs.Booleans.{and-left, and-right, clash}
-use Rattle.laws.proofs.Those.{those-length}
-use Rattle.rules.specs.Geometry.{Geometry, Proper, records, cutCount, uncut}
-use Rattle.rules.specs.Store.{Page, Pages, mapOf, isNamed}
+use Rattle.rules.specs.Geometry.{Geometry, Proper, cutCount, uncut}
 use Rattle.rules.specs.Event.{Event, begin, lock, write, read, commit, abort, crash, recover, prepare, decide, query, encode, fits}
 use Rattle.rules.specs.State.{lineOf, down}
-use Rattle.rules.specs.Commit.{Cut, pageIn, commitPlan, recoverPlan}
+use Rattle.rules.specs.Commit.{Cut, commitPlan, recoverPlan}
 use Rattle.rules.specs.Pairs.{Pairs, shown, mended, cutPairs, commitPairs, recoverPairs, inPairs}
 use Rattle.rules.specs.Step.{begun, locked, wrote, ended, retaining, aborted, raised, concluded, finished, firstOf, refusals, refusal, commitsTop, commitsChild, commits, recovers, act, judged, step}
 use Rattle.rules.specs.Run.{play}
-use Rattle.rules.proofs.Cuts.{commit-length, recover-length}
-use Rattle.rules.proofs.AtomicCommits.{changed, changes, changes-length, namedIn, inForce, planned}
-use Rattle.rules.proofs.Uncut.{uncut-count, commit-room, recover-room}
+use Rattle.rules.proofs.Uncut.{uncut-count}
 use Rattle.rules.proofs.Event.{decode-encode}
-use Rattle.device_pairs.specs.Copies.{copiesOf, carried, spoiledAt, behind, within}
-use Rattle.device_pairs.specs.Device.{Happening, plays, fails, tears, loses, cutTo, Memory, linePlan, acceptedPlan, readied, planBy, readyBy, planOf, readyOf, wholly, Device, restarted, happens, lives, standsFor, listOf, allFit}
+use Rattle.device.specs.Plan.{linePlan, acceptedPlan, planBy, planOf}
+use Rattle.device.specs.CopyWrites.{copiesOf}
+use Rattle.device.proofs.Plan.{plan-short}
+use Rattle.device_pairs.specs.Copies.{carried, spoiledAt, behind, within}
+use Rattle.device_pairs.specs.Device.{Happening, plays, fails, tears, loses, cutTo, Memory, readied, readyBy, readyOf, wholly, Device, restarted, happens, lives, standsFor, listOf, allFit}
 use Rattle.device_pairs.proofs.Copies.{copies-behind, copies-within, copies-whole, none-cut}
 
 -- events one after the other
@@ -74,7 +73,7 @@ module _ (g : Geometry) (proper : Proper g) (torn : g .tears ≡ true) where
     unfolding recovers raised recoverPairs
     recover-store = let c = cutPairs k (recoverPlan g (shown (s .store))) (mended (s .store)) in left (raised s (c .store)) c (c .crashed) refl
 
-    act-store : (e : Event) → fits g (cutTo k e) ≡ true → act (inPairs g) s (cutTo k e) .state .store ≡ cutPairs k (acceptedPlan g s e) (readied g e (s .store)) .store
+    act-store : (e : Event) → fits g (cutTo k e) ≡ true → act (inPairs g) s (cutTo k e) .state .store ≡ cutPairs k (acceptedPlan true g s e) (readied g e (s .store)) .store
     unfolding act finished begun locked wrote ended retaining aborted down cutTo acceptedPlan readied fits
     act-store (begin p) h = sym (none-cut k (s .store))
     act-store (lock t r a) h = sym (none-cut k (s .store))
@@ -104,11 +103,11 @@ module _ (g : Geometry) (proper : Proper g) (torn : g .tears ≡ true) where
     cut-refused (query i) = refl
 
     -- an event cut at k leaves what the rules' cut of its plan leaves
-    step-store : (e : Event) → fits g (cutTo k e) ≡ true → step (inPairs g) s (some (cutTo k e)) .state .store ≡ cutPairs k (planOf g s e) (readyOf g s e (s .store)) .store
+    step-store : (e : Event) → fits g (cutTo k e) ≡ true → step (inPairs g) s (some (cutTo k e)) .state .store ≡ cutPairs k (planOf true g s e) (readyOf g s e (s .store)) .store
     unfolding step planOf readyOf
     step-store e h = ap (λ (o : Option ℕ). judged (inPairs g) s (cutTo k e) o .state .store) (cut-refused e) ∙ go (refusal (inPairs g) s e)
       where
-        go : (o : Option ℕ) → judged (inPairs g) s (cutTo k e) o .state .store ≡ cutPairs k (planBy g s e o) (readyBy g e (s .store) o) .store
+        go : (o : Option ℕ) → judged (inPairs g) s (cutTo k e) o .state .store ≡ cutPairs k (planBy true g s e o) (readyBy g e (s .store) o) .store
         go none = unfold judged planBy readyBy in act-store e h
         go (some n) = unfold judged planBy readyBy in sym (none-cut k (s .store))
 
@@ -120,44 +119,8 @@ module _ (g : Geometry) (proper : Proper g) (torn : g .tears ≡ true) where
       go true e h = h
       go false e h = absurd (false≢true e)
 
-  commit-short : (v : ℕ → Option Page) → length (commitPlan g v) ≤ uncut g / 4
-  unfolding changes changed
-  commit-short v = rw (wide, commit-length g (pageIn v) (mapOf g (changed g v)) (changes g v), changes-length g v) (commit-room g proper v)
-
-  named-length : (m : Pages) → length (inForce g m) ≡ namedIn g m
-  unfolding inForce namedIn
-  named-length m = those-length (records g) (isNamed g m)
-
-  recover-short : (s : Memory g) → length (recoverPlan g (shown (s .store))) ≤ uncut g / 4
-  unfolding inForce planned
-  recover-short s = rw (wide, recover-length g (planned g (shown (s .store))) (inForce g (shown (s .store))), named-length (shown (s .store))) (recover-room g proper (shown (s .store)))
-
-  none-short : 0 ≤ uncut g / 4
-  none-short = omega arith
-
-  line-short : (v : ℕ → Option Page) (l : List ℕ) → length (linePlan g v l) ≤ uncut g / 4
-  unfolding linePlan
-  line-short v [] = commit-short v
-  line-short v (a ∷ []) = commit-short v
-  line-short v (a ∷ y ∷ l) = none-short
-
-  plan-short : (s : Memory g) (e : Event) → length (planOf g s e) ≤ uncut g / 4
-  unfolding planOf
-  plan-short s e = go e (refusal (inPairs g) s e)
-    where
-      go : (e : Event) (o : Option ℕ) → length (planBy g s e o) ≤ uncut g / 4
-      go e (some n) = unfold planBy in none-short
-      go (begin p) none = unfold planBy acceptedPlan in none-short
-      go (lock t r a) none = unfold planBy acceptedPlan in none-short
-      go (write t r o v) none = unfold planBy acceptedPlan in none-short
-      go (read t r o) none = unfold planBy acceptedPlan in none-short
-      go (commit t k) none = unfold planBy acceptedPlan in line-short (s .version t) (lineOf (s .bearer) t)
-      go (abort t w) none = unfold planBy acceptedPlan in none-short
-      go crash none = unfold planBy acceptedPlan in none-short
-      go (recover k) none = unfold planBy acceptedPlan in recover-short s
-      go (prepare t k i) none = unfold planBy acceptedPlan in none-short
-      go (decide d k i) none = unfold planBy acceptedPlan in none-short
-      go (query i) none = unfold planBy acceptedPlan in none-short
+  plan-room : (s : Memory g) (e : Event) → length (planOf true g s e) ≤ uncut g / 4
+  plan-room s e = let h = plan-short true g s e in let w = proper .count-wide in rw wide (omega (arith, h, w))
 
   -- the machine goes on as the rules say, and the medium is its store
   pub record Follows (d : Device g) (s : Memory g) : Type 0 where
@@ -172,19 +135,19 @@ module _ (g : Geometry) (proper : Proper g) (torn : g .tears ≡ true) where
   unfolding happens standsFor after restarted allFit wholly
   happens-follows d a (plays e) f = record {
     memory = refl;
-    medium = rw a (copies-whole (uncut g) (planOf g (d .memory) e) (readyOf g (d .memory) e (d .memory .store)) (plan-short (d .memory) e)
+    medium = rw a (copies-whole (uncut g) (planOf true g (d .memory) e) (readyOf g (d .memory) e (d .memory .store)) (plan-room (d .memory) e)
         ∙ sym (step-store (d .memory) (uncut g) e (and-left (fits g (cutTo (uncut g) e)) true f)));
   }
   happens-follows d a (fails e j) f = record {
-    memory = ap down (ap (λ (m : Pairs). carried j (copiesOf (planOf g (d .memory) e)) (readyOf g (d .memory) e m)) a
-        ∙ copies-behind j (planOf g (d .memory) e) (readyOf g (d .memory) e (d .memory .store))
+    memory = ap down (ap (λ (m : Pairs). carried j (copiesOf (planOf true g (d .memory) e)) (readyOf g (d .memory) e m)) a
+        ∙ copies-behind j (planOf true g (d .memory) e) (readyOf g (d .memory) e (d .memory .store))
         ∙ sym (step-store (d .memory) (behind j) e (and-left (fits g (cutTo (behind j) e)) (fits g crash && true) f)))
         ∙ sym (crash-falls (step (inPairs g) (d .memory) (some (cutTo (behind j) e)) .state));
     medium = unfold down in refl;
   }
   happens-follows d a (tears e j) f = record {
-    memory = ap down (ap (λ (m : Pairs). spoiledAt j (copiesOf (planOf g (d .memory) e)) (readyOf g (d .memory) e m)) a
-        ∙ copies-within j (planOf g (d .memory) e) (readyOf g (d .memory) e (d .memory .store))
+    memory = ap down (ap (λ (m : Pairs). spoiledAt j (copiesOf (planOf true g (d .memory) e)) (readyOf g (d .memory) e m)) a
+        ∙ copies-within j (planOf true g (d .memory) e) (readyOf g (d .memory) e (d .memory .store))
         ∙ sym (step-store (d .memory) (within j) e (and-left (fits g (cutTo (within j) e)) (fits g crash && true) f)))
         ∙ sym (crash-falls (step (inPairs g) (d .memory) (some (cutTo (within j) e)) .state));
     medium = unfold down in refl;

@@ -4,3 +4,4 @@ pub mod Device
 pub mod Claims
 pub mod Mending
 pub mod Example
+pub mod AskedExample

@@ -11,7 +11,8 @@ use Rattle.rules.specs.Store.{Page, Pages, damaged}
 use Rattle.rules.specs.Commit.{recoverPlan}
 use Rattle.rules.specs.Pairs.{Pair, Pairs, isGood, good, bad, whole, shows, shown, allBad, mend, mended, cutPairs, damagedPairs, recoverPairs}
 use Rattle.rules.proofs.Pairs.{shows-mend, lost-mend}
-use Rattle.device_pairs.specs.Copies.{first, second, made, spoiled}
+use Rattle.device.specs.CopyWrites.{first, second}
+use Rattle.device_pairs.specs.Copies.{made, spoiled}
 use Rattle.device_pairs.specs.Mending.{mending, Mends, begun, mends, spoils}
 
 good-is : (p : Page) → isGood (good p) ≡ true

@@ -1,15 +1,9 @@
--- COPY WRITES: what the page writes of the form that keeps pairs are on a medium. "A write makes the first copy, then the second" (document 02, L5). No definition
--- of the rules' cuts and tears occurs here.
+-- COPY WRITES THAT ARE MADE, and those within which the power goes. No definition of the rules' cuts and tears occurs here.
 use Prim.Native.Nat.{ℕ, zero, suc, _+_}
 use mathlib.Core.List.{List, [], _∷_}
 use Rattle.laws.specs.Functions.{updated}
-use Rattle.rules.specs.Store.{Page}
-use Rattle.rules.specs.Commit.{PageWrite, sets}
 use Rattle.rules.specs.Pairs.{Pairs, good, bad}
-
--- the first copy of a page, or the second, with the page's number
-pub data CopyWrite : Type 0 where
-  first second : ℕ → Page → CopyWrite
+use Rattle.device.specs.CopyWrites.{CopyWrite, first, second}
 
 -- it is made: the copy is good, with the new page; the other copy stays
 unfoldable pub made : CopyWrite → Pairs → Pairs
@@ -20,11 +14,6 @@ made (second n p) s = updated n (record { first = s n .first; second = good p })
 unfoldable pub spoiled : CopyWrite → Pairs → Pairs
 spoiled (first n p) s = updated n (record { first = bad (s n .first .page); second = s n .second }) s
 spoiled (second n p) s = updated n (record { first = s n .first; second = bad (s n .second .page) }) s
-
--- the copy writes of page writes
-unfoldable pub copiesOf : List PageWrite → List CopyWrite
-copiesOf [] = []
-copiesOf (sets n p ∷ ws) = first n p ∷ second n p ∷ copiesOf ws
 
 -- all of them; the first j of them; the first j of them, and the power goes within the next
 unfoldable pub carriedAll : List CopyWrite → Pairs → Pairs
@@ -55,5 +44,5 @@ within (suc (suc j)) = 4 + within j
 
 -- opens the definitions of this module: for what is proved by computing
 unfoldable pub open-copies : Unit {0}
-unfolding made spoiled copiesOf carriedAll carried spoiledAt behind within
+unfolding made spoiled carriedAll carried spoiledAt behind within
 open-copies = tt

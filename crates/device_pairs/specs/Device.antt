@@ -7,15 +7,16 @@ use mathlib.Core.Bool.{Bool, true, _&&_}
 use mathlib.Core.List.{List, [], _∷_, _++_, map}
 use mathlib.Core.Option.{Option, none, some}
 use Rattle.rules.specs.Geometry.{Geometry, uncut}
-use Rattle.rules.specs.Store.{Page, settled}
+use Rattle.rules.specs.Store.{settled}
 use Rattle.rules.specs.Event.{Event, begin, lock, write, read, commit, abort, crash, recover, prepare, decide, query, encode, fits}
-use Rattle.rules.specs.State.{lineOf, live, down}
-use Rattle.rules.specs.Commit.{PageWrite, commitPlan, recoverPlan}
+use Rattle.rules.specs.State.{live, down}
 use Rattle.rules.specs.Pairs.{Pairs, shown, mended, OneBadAtMost, pairsOf, inPairs}
 use Rattle.rules.specs.Step.{StateOf, visible, refusal, step}
 use Rattle.history.specs.History.{History, survives, overlaid}
 use Rattle.history.specs.Claims.{seenBy, isRestart, stateAfter, historyAfter}
-use Rattle.device_pairs.specs.Copies.{copiesOf, carriedAll, carried, spoiledAt, behind, within}
+use Rattle.device.specs.Plan.{planOf}
+use Rattle.device.specs.CopyWrites.{copiesOf}
+use Rattle.device_pairs.specs.Copies.{carriedAll, carried, spoiledAt, behind, within}
 
 -- What happens to a device.
 pub data Happening : Type 0 where
@@ -46,26 +47,7 @@ module _ (g : Geometry) where
   abbrev pub Memory : Type 0
   Memory = StateOf (inPairs g)
 
-  -- a commit by the line of its transaction: a child's writes no page
-  unfoldable pub linePlan : (ℕ → Option Page) → List ℕ → List PageWrite
-  linePlan versions [] = commitPlan g versions
-  linePlan versions (a ∷ []) = commitPlan g versions
-  linePlan versions (a ∷ y ∷ l) = []
-
-  -- the page writes that an event makes on a state if nothing cuts it, and the pairs as they are before the first of them: mended, for a recovery
-  unfoldable pub acceptedPlan : Memory → Event → List PageWrite
-  acceptedPlan s (begin p) = []
-  acceptedPlan s (lock t r a) = []
-  acceptedPlan s (write t r o v) = []
-  acceptedPlan s (read t r o) = []
-  acceptedPlan s (commit t k) = linePlan (s .version t) (lineOf (s .bearer) t)
-  acceptedPlan s (abort t w) = []
-  acceptedPlan s crash = []
-  acceptedPlan s (recover k) = recoverPlan g (shown (s .store))
-  acceptedPlan s (prepare t k i) = []
-  acceptedPlan s (decide d k i) = []
-  acceptedPlan s (query i) = []
-
+  -- the pairs as they are before the first copy write of an event: mended, for a recovery
   unfoldable pub readied : Event → Pairs → Pairs
   readied (begin p) m = m
   readied (lock t r a) m = m
@@ -79,18 +61,11 @@ module _ (g : Geometry) where
   readied (decide d k i) m = m
   readied (query i) m = m
 
-  unfoldable pub planBy : Memory → Event → Option ℕ → List PageWrite
-  planBy s e none = acceptedPlan s e
-  planBy s e (some n) = []
-
   unfoldable pub readyBy : Event → Pairs → Option ℕ → Pairs
   readyBy e m none = readied e m
   readyBy e m (some n) = m
 
-  -- none where it is refused, and then nothing is mended
-  unfoldable pub planOf : Memory → Event → List PageWrite
-  planOf s e = planBy s e (refusal (inPairs g) s e)
-
+  -- where it is refused nothing is mended
   unfoldable pub readyOf : Memory → Event → Pairs → Pairs
   readyOf s e m = readyBy e m (refusal (inPairs g) s e)
 
@@ -108,11 +83,11 @@ module _ (g : Geometry) where
 
   unfoldable pub happens : Device → Happening → Device
   happens d (plays e) = record {
-    medium = carriedAll (copiesOf (planOf (d .memory) e)) (readyOf (d .memory) e (d .medium));
+    medium = carriedAll (copiesOf (planOf true g (d .memory) e)) (readyOf (d .memory) e (d .medium));
     memory = step (inPairs g) (d .memory) (some (wholly e)) .state;
   }
-  happens d (fails e j) = restarted (carried j (copiesOf (planOf (d .memory) e)) (readyOf (d .memory) e (d .medium)))
-  happens d (tears e j) = restarted (spoiledAt j (copiesOf (planOf (d .memory) e)) (readyOf (d .memory) e (d .medium)))
+  happens d (fails e j) = restarted (carried j (copiesOf (planOf true g (d .memory) e)) (readyOf (d .memory) e (d .medium)))
+  happens d (tears e j) = restarted (spoiledAt j (copiesOf (planOf true g (d .memory) e)) (readyOf (d .memory) e (d .medium)))
   happens d loses = restarted (d .medium)
 
   unfoldable pub lives : Device → List Happening → Device
@@ -178,5 +153,5 @@ module _ (g : Geometry) where
 
 -- opens the definitions of this module: for what is proved by computing
 unfoldable pub open-device : Unit {0}
-unfolding cutTo linePlan acceptedPlan readied planBy readyBy planOf readyOf wholly restarted happens lives deviceAfter standsFor listOf allFit wordsOf historyOf isRestarting restarting
+unfolding cutTo readied readyBy readyOf wholly restarted happens lives deviceAfter standsFor listOf allFit wordsOf historyOf isRestarting restarting
 open-device = tt

@@ -4,7 +4,8 @@ use Prim.Native.Nat.{ℕ}
 use mathlib.Core.Path.{_≡_}
 use mathlib.Core.Bool.{false, cond}
 use Rattle.rules.specs.Pairs.{Pair, Pairs, isGood, allBad}
-use Rattle.device_pairs.specs.Copies.{CopyWrite, first, second, made, spoiled}
+use Rattle.device.specs.CopyWrites.{CopyWrite, first, second}
+use Rattle.device_pairs.specs.Copies.{made, spoiled}
 
 -- the copy write that mends a pair: of the other copy, with the page of the first good one
 unfoldable pub mending : ℕ → Pair → CopyWrite

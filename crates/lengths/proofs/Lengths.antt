@@ -15,7 +15,7 @@ use Rattle.rules.specs.Step.{firstOf}
 use Rattle.rules.specs.Run.{runRefusals, eventsIn}
 use Rattle.rules.specs.Editions.{depths, formIn}
 use Rattle.rules.proofs.Cuts.{not-lt-under}
-use Rattle.lengths.specs.Lengths.{storeBytes, workBytes, lengthsRefused, questionRefused, refusalNumber}
+use Rattle.lengths.specs.Lengths.{storeBytes, workBytes, writeBytes, lengthsRefused, questionRefused, refusalNumber}
 use Rattle.lengths.proofs.Sizes.{store-size, work-size}
 
 -- atomic pages or pages that tear, n records, words of s bytes
@@ -100,44 +100,44 @@ lengths-of tears n s b e w a z = go (pass-all (not (same b (storeBytes tears n))
       room = not-under a (2 * (e / s)) t;
     }
 
--- of a question for a page write
-module _ (n s : ℕ) where
-  pub asks-store : (b e w p : ℕ) → b ≢ storeBytes false n → 22 ≡ refusalNumber (questionRefused n s b e w p)
+-- of a question for a write
+module _ (tears : Bool) (n s : ℕ) where
+  pub asks-store : (b e w p : ℕ) → b ≢ storeBytes tears n → 22 ≡ refusalNumber (questionRefused tears n s b e w p)
   unfolding questionRefused refusalNumber firstOf
-  asks-store b e w p h = rw (ne-false b (storeBytes false n) h)
+  asks-store b e w p h = rw (ne-false b (storeBytes tears n) h)
 
-  pub asks-work : (b e w p : ℕ) → b ≡ storeBytes false n → w ≢ workBytes n → 24 ≡ refusalNumber (questionRefused n s b e w p)
+  pub asks-work : (b e w p : ℕ) → b ≡ storeBytes tears n → w ≢ workBytes n → 24 ≡ refusalNumber (questionRefused tears n s b e w p)
   unfolding questionRefused refusalNumber firstOf
-  asks-work b e w p h k = rw (h, same-refl (storeBytes false n), ne-false w (workBytes n) k)
+  asks-work b e w p h k = rw (h, same-refl (storeBytes tears n), ne-false w (workBytes n) k)
 
-  pub asks-event : (b e w p : ℕ) → b ≡ storeBytes false n → w ≡ workBytes n → e ≢ s → 20 ≡ refusalNumber (questionRefused n s b e w p)
+  pub asks-event : (b e w p : ℕ) → b ≡ storeBytes tears n → w ≡ workBytes n → e ≢ s → 20 ≡ refusalNumber (questionRefused tears n s b e w p)
   unfolding questionRefused refusalNumber firstOf
-  asks-event b e w p h k m = rw (h, k, same-refl (storeBytes false n), same-refl (workBytes n), ne-false e s m)
+  asks-event b e w p h k m = rw (h, k, same-refl (storeBytes tears n), same-refl (workBytes n), ne-false e s m)
 
-  pub asks-write : (b e w p : ℕ) → b ≡ storeBytes false n → w ≡ workBytes n → e ≡ s → p ≢ 33 → 21 ≡ refusalNumber (questionRefused n s b e w p)
+  pub asks-write : (b e w p : ℕ) → b ≡ storeBytes tears n → w ≡ workBytes n → e ≡ s → p ≢ writeBytes tears → 21 ≡ refusalNumber (questionRefused tears n s b e w p)
   unfolding questionRefused refusalNumber firstOf
-  asks-write b e w p h k m q = rw (h, k, m, same-refl (storeBytes false n), same-refl (workBytes n), same-refl s, ne-false p 33 q)
+  asks-write b e w p h k m q = rw (h, k, m, same-refl (storeBytes tears n), same-refl (workBytes n), same-refl s, ne-false p (writeBytes tears) q)
 
-  pub asks-well : (b e w p : ℕ) → b ≡ storeBytes false n → w ≡ workBytes n → e ≡ s → p ≡ 33 → 0 ≡ refusalNumber (questionRefused n s b e w p)
+  pub asks-well : (b e w p : ℕ) → b ≡ storeBytes tears n → w ≡ workBytes n → e ≡ s → p ≡ writeBytes tears → 0 ≡ refusalNumber (questionRefused tears n s b e w p)
   unfolding questionRefused refusalNumber firstOf
-  asks-well b e w p h k m q = rw (h, k, m, q, same-refl (storeBytes false n), same-refl (workBytes n), same-refl s, same-refl 33)
+  asks-well b e w p h k m q = rw (h, k, m, q, same-refl (storeBytes tears n), same-refl (workBytes n), same-refl s, same-refl (writeBytes tears))
 
-pub record Question (n s b e w p : ℕ) : Type 0 where
-  pub none-is : questionRefused n s b e w p ≡ none
-  pub store : b ≡ storeBytes false n
+pub record Question (tears : Bool) (n s b e w p : ℕ) : Type 0 where
+  pub none-is : questionRefused tears n s b e w p ≡ none
+  pub store : b ≡ storeBytes tears n
   pub work : w ≡ workBytes n
   pub event : e ≡ s
-  pub write : p ≡ 33
+  pub write : p ≡ writeBytes tears
 
-pub question-of : (n s b e w p : ℕ) → refusalNumber (questionRefused n s b e w p) ≡ 0 → Question n s b e w p
+pub question-of : (tears : Bool) (n s b e w p : ℕ) → refusalNumber (questionRefused tears n s b e w p) ≡ 0 → Question tears n s b e w p
 unfolding questionRefused firstOf tests
-question-of n s b e w p z = go (pass-all (not (same b (storeBytes false n))) (not (same w (workBytes n))) (not (same e s)) (not (same p 33)) z)
+question-of tears n s b e w p z = go (pass-all (not (same b (storeBytes tears n))) (not (same w (workBytes n))) (not (same e s)) (not (same p (writeBytes tears))) z)
   where
-    go : Passed (not (same b (storeBytes false n))) (not (same w (workBytes n))) (not (same e s)) (not (same p 33)) → Question n s b e w p
+    go : Passed (not (same b (storeBytes tears n))) (not (same w (workBytes n))) (not (same e s)) (not (same p (writeBytes tears))) → Question tears n s b e w p
     go (passed h q r t) = record {
       none-is = rw (h, q, r, t);
-      store = same-eq b (storeBytes false n) (not-false _ h);
+      store = same-eq b (storeBytes tears n) (not-false _ h);
       work = same-eq w (workBytes n) (not-false _ q);
       event = same-eq e s (not-false _ r);
-      write = same-eq p 33 (not-false _ t);
+      write = same-eq p (writeBytes tears) (not-false _ t);
     }

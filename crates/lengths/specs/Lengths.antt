@@ -1,5 +1,5 @@
 -- The refusals before the first event, by the lengths of the buffers, for n records and event words of s bytes, and for atomic pages or pages that tear.
-use mathlib.Core.Bool.{Bool, false, not, _||_}
+use mathlib.Core.Bool.{Bool, true, false, not, _||_}
 use mathlib.Core.List.{[], _∷_}
 use mathlib.Core.Option.{Option, none, some}
 use Prim.Native.Nat.{ℕ, _+_, _*_, _/_, _%_}
@@ -25,9 +25,20 @@ lengthsRefused tears n s store events work answers =
     (21, under answers (2 * (events / s))) ∷
     [])
 
--- and of a question for a page write of atomic pages, by those of store, event, working buffer and the buffer for the page write
-unfoldable pub questionRefused : ℕ → ℕ → ℕ → ℕ → ℕ → ℕ → Option ℕ
-questionRefused n s store event work write = firstOf ((22, not (same store (storeBytes false n))) ∷ (24, not (same work (workBytes n))) ∷ (20, not (same event s)) ∷ (21, not (same write 33)) ∷ [])
+-- the bytes of a page write, and of a copy write where pages tear
+abbrev pub writeBytes : Bool → ℕ
+writeBytes false = 33
+writeBytes true = 34
+
+-- the refusals of a question for a write, by the lengths of store, event, working buffer and the buffer for the write
+unfoldable pub questionRefused : Bool → ℕ → ℕ → ℕ → ℕ → ℕ → ℕ → Option ℕ
+questionRefused tears n s store event work write =
+    firstOf (
+    (22, not (same store (storeBytes tears n))) ∷
+    (24, not (same work (workBytes n))) ∷
+    (20, not (same event s)) ∷
+    (21, not (same write (writeBytes tears))) ∷
+    [])
 
 -- 0 where nothing is refused
 unfoldable pub refusalNumber : Option ℕ → ℕ

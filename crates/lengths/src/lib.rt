@@ -1,14 +1,17 @@
-// The refusals by the lengths of the buffers: of a run or a portion before its first event, and of a question for a page write. A form is told by whether its
+// The refusals by the lengths of the buffers: of a run or a portion before its first event, and of a question for a write. A form is told by whether its
 // pages tear, by its number of records and by the bytes of its event word.
 ghost use mathlib.Core.Path.{_≡_};
 ghost use Prim.Native.Nat.{_<_, _≤_};
-ghost use Rattle.lengths.specs.Lengths.{storeBytes, lengthsRefused, questionRefused, refusalNumber};
+ghost use Rattle.lengths.specs.Lengths.{storeBytes, writeBytes, lengthsRefused, questionRefused, refusalNumber};
 
 // The events of the longest list.
 const LONGEST: usize = 4096;
 
 // A page write: the page's number, and the page.
 const PAGE_WRITE: usize = 33;
+
+// A copy write: the page's number, the copy's, and the page.
+const COPY_WRITE: usize = 34;
 
 // The bytes of a store with so many records: a commit page and two pages for each record, as they are, or each as a pair of copies.
 pub fn store_size(tears: bool, records: usize) -> usize
@@ -53,8 +56,19 @@ pub fn refusal(
     0
 }
 
-// The refusal of a question for a page write, by the lengths of the buffers; 0 for none.
+// The bytes of a write: of a page write, or of a copy write where pages tear.
+pub fn write_size(tears: bool) -> usize
+    ensures { λ r. ⌜ r ≡ writeBytes tears ⌝ }
+{
+    if tears {
+        return COPY_WRITE;
+    }
+    PAGE_WRITE
+}
+
+// The refusal of a question for a write, by the lengths of the buffers; 0 for none.
 pub fn question(
+    tears: bool,
     records: usize,
     word: usize,
     stored: usize,
@@ -63,9 +77,9 @@ pub fn question(
     write: usize,
 ) -> u8
     requires { ⌜ records ≤ 64 ⌝ }
-    ensures { λ r. ⌜ r ≡ refusalNumber (questionRefused records word stored event working write) ⌝ }
+    ensures { λ r. ⌜ r ≡ refusalNumber (questionRefused tears records word stored event working write) ⌝ }
 {
-    if stored != 32 * (1 + (records + records)) {
+    if stored != store_size(tears, records) {
         return 22;
     }
     if working != 512 * records {
@@ -74,7 +88,7 @@ pub fn question(
     if event != word {
         return 20;
     }
-    if write != PAGE_WRITE {
+    if write != write_size(tears) {
         return 21;
     }
     0

@@ -7,22 +7,25 @@ use mathlib.Core.Option.{Option, none, some}
 use Prim.Native.Nat.{ℕ}
 use lib.ListN.{length, replicate}
 use Rattle.laws.specs.Bytes.{number}
-use Rattle.rules.specs.Geometry.{records, open-geometry}
+use Rattle.laws.specs.Tests.{same}
+use Rattle.rules.specs.Geometry.{Geometry, records}
+use Rattle.rules.specs.Form.{Form}
 use Rattle.rules.specs.Event.{Event, decode}
 use Rattle.rules.specs.Step.{firstOf}
 use Rattle.rules.specs.Portion.{Finds}
 use Rattle.rules.specs.Sound.{Sound}
-use Rattle.rules.specs.Editions.{geometry1, edition1, first}
+use Rattle.rules.specs.Editions.{Edition, geometryOf, formIn}
 use Rattle.rules.proofs.Portions.{finds-one}
-use Rattle.device.specs.Plan.{writeAt}
-use Rattle.device.specs.Asked.{Asked, told, planFor, askLengths, askRefusals, askedBy, asked}
+use Rattle.device.specs.Asked.{Asked, writeSize, saidOf, askLengths, askRefusals, askedBy, asked}
 use Rattle.crashes.proofs.Editions.{served-of}
 use Rattle.state.specs.Whole as state
 use Rattle.state.specs.Whole.{Arrays, Intact}
 use Rattle.portions.specs.Portion.{whole}
 use Rattle.clauses.specs.Decides.{Decides}
-use Rattle.lengths.specs.Lengths.{questionRefused, refusalNumber}
+use Rattle.lists.proofs.Words.{four-of}
+use Rattle.lengths.specs.Lengths.{writeBytes, questionRefused, refusalNumber}
 use Rattle.lengths.proofs.Lengths.{question-of}
+use Rattle.lengths.proofs.Sizes.{store-size, work-size}
 use Rattle.lent.specs.Portions.{Kept, view, Proper}
 use Rattle.lent.specs.PageWrites.{Told-as, Told-one}
 
@@ -39,86 +42,113 @@ first-last [] n b e = refl
 first-last ((k, true) ∷ xs) n b e = let z : true ≡ false = cc in absurd (true≢false z)
 first-last ((k, false) ∷ xs) n b e = first-last xs n b e
 
-module _ (x : Kept) (event write : List ℕ) (index : ℕ) where
-  by-lengths : firstOf (askLengths geometry1 (x .store) event (x .work) write) ≡ questionRefused 16 4 (length (x .store)) (length event) (length (x .work)) (length write)
-  unfolding askLengths questionRefused open-geometry
-  by-lengths = refl
+-- the bytes of a write
+pub write-size : (tears : Bool) → writeSize tears ≡ writeBytes tears
+write-size false = refl
+write-size true = refl
+
+module _ (tears : Bool) (g : Geometry) (x : Kept) (event write : List ℕ) (index : ℕ) where
+  abbrev f : Form
+  f = formIn tears g
 
   abbrev Found : Bool → Type 0
-  Found sound = Finds edition1 (λ s. (view x ≡ s) × Proper x) sound
+  Found sound = Finds f (λ s. (view f x ≡ s) × Proper f x) sound
 
   abbrev lengths : List (ℕ × Bool)
-  lengths = askLengths geometry1 (x .store) event (x .work) write
+  lengths = askLengths tears g (x .store) event (x .work) write
 
   -- what is asked depends on what is found of the state only where the lengths pass
   same-said : (s t : Bool) → (firstOf lengths ≡ none → Found s) → (firstOf lengths ≡ none → Found t)
-      → asked geometry1 s (view x) (x .store) event (x .work) index write ≡ asked geometry1 t (view x) (x .store) event (x .work) index write
+      → asked tears g s (view f x) (x .store) event (x .work) index write ≡ asked tears g t (view f x) (x .store) event (x .work) index write
   unfolding asked askRefusals
   same-said s t F G = go (firstOf lengths) refl
     where
       go : (o : Option ℕ) → firstOf lengths ≡ o
-          → askedBy geometry1 (view x) event index write (firstOf (lengths ++ ((25, not s) ∷ []))) ≡ askedBy geometry1 (view x) event index write (firstOf (lengths ++ ((25, not t) ∷ [])))
-      go (some n) q = ap (askedBy geometry1 (view x) event index write) (first-more lengths 25 (not s) n q ∙ sym (first-more lengths 25 (not t) n q))
-      go none q = ap (λ (b : Bool). askedBy geometry1 (view x) event index write (firstOf (lengths ++ ((25, not b) ∷ [])))) (finds-one edition1 (λ s. (view x ≡ s) × Proper x) s t (F q) (G q))
+          → askedBy tears g (view f x) event index write (firstOf (lengths ++ ((25, not s) ∷ []))) ≡ askedBy tears g (view f x) event index write (firstOf (lengths ++ ((25, not t) ∷ [])))
+      go (some n) q = ap (askedBy tears g (view f x) event index write) (first-more lengths 25 (not s) n q ∙ sym (first-more lengths 25 (not t) n q))
+      go none q = ap (λ (b : Bool). askedBy tears g (view f x) event index write (firstOf (lengths ++ ((25, not b) ∷ [])))) (finds-one f (λ s. (view f x ≡ s) × Proper f x) s t (F q) (G q))
 
-  refused-with : (n : ℕ) (sound : Bool) → (firstOf (askLengths geometry1 (x .store) event (x .work) write) ≡ none → Found sound)
-      → firstOf (askRefusals geometry1 sound (x .store) event (x .work) write) ≡ some n → Told-as x event write index n write
+  refused-with : (n : ℕ) (sound : Bool) → (firstOf lengths ≡ none → Found sound) → firstOf (askRefusals tears g sound (x .store) event (x .work) write) ≡ some n → Told-as tears g x event write index n write
   unfolding asked askedBy
-  refused-with n sound F q = (sound, record { found = F; answered = sym (ap (λ (o : Option ℕ). askedBy geometry1 (view x) event index write o .answer) q); written = sym (ap (λ (o : Option ℕ). askedBy geometry1 (view x) event index write o .write) q) })
+  refused-with n sound F q = (
+    sound,
+    record {
+      found = F;
+      answered = sym (ap (λ (o : Option ℕ). askedBy tears g (view f x) event index write o .answer) q);
+      written = sym (ap (λ (o : Option ℕ). askedBy tears g (view f x) event index write o .write) q);
+    },
+  )
+
+-- of an edition with sixteen records
+module _ (tears : Bool) (edition : Edition) (many : records (geometryOf edition) ≡ 16) (x : Kept) (event write : List ℕ) (index : ℕ) where
+  abbrev form : Form
+  form = formIn tears (geometryOf edition)
+
+  abbrev asks : List (ℕ × Bool)
+  asks = askLengths tears (geometryOf edition) (x .store) event (x .work) write
+
+  abbrev refusal : Option ℕ
+  refusal = questionRefused tears 16 4 (length (x .store)) (length event) (length (x .work)) (length write)
+
+  by-lengths : firstOf asks ≡ refusal
+  unfolding askLengths questionRefused
+  by-lengths = λ i. by (store-size 16 (geometryOf edition) many tears i) (work-size 16 (geometryOf edition) many (served-of edition .deep) i) (four-of edition many i) (write-size tears i)
+    where
+      by : ℕ → ℕ → ℕ → ℕ → Option ℕ
+      by b w s p =
+          firstOf ((22, not (same (length (x .store)) b)) ∷ (24, not (same (length (x .work)) w)) ∷ (20, not (same (length event) s)) ∷ (21, not (same (length write) p)) ∷ [])
 
   -- by the lengths
-  pub question-refused : (n : ℕ) → n ≡ refusalNumber (questionRefused 16 4 (length (x .store)) (length event) (length (x .work)) (length write)) → n ≢ 0 → Told-as x event write index n write
+  pub question-refused : (n : ℕ) → n ≡ refusalNumber refusal → n ≢ 0 → Told-as tears (geometryOf edition) x event write index n write
   unfolding refusalNumber askRefusals
-  question-refused n e h = go (questionRefused 16 4 (length (x .store)) (length event) (length (x .work)) (length write)) by-lengths e
+  question-refused n e h = go refusal by-lengths e
     where
-      go : (o : Option ℕ) → firstOf (askLengths geometry1 (x .store) event (x .work) write) ≡ o → n ≡ refusalNumber o → Told-as x event write index n write
+      go : (o : Option ℕ) → firstOf asks ≡ o → n ≡ refusalNumber o → Told-as tears (geometryOf edition) x event write index n write
       go none q z = absurd (h z)
-      go (some m) q z = refused-with n false (λ p. let k : some m ≡ none = sym q ∙ p in let c : true ≡ false = cc in absurd (true≢false c))
-          (first-more (askLengths geometry1 (x .store) event (x .work) write) 25 true m q ∙ ap some (sym z))
+      go (some m) q z = refused-with tears (geometryOf edition) x event write index n false (λ p. let k : some m ≡ none = sym q ∙ p in let c : true ≡ false = cc in absurd (true≢false c))
+          (first-more asks 25 true m q ∙ ap some (sym z))
 
-  module _ (fits : refusalNumber (questionRefused 16 4 (length (x .store)) (length event) (length (x .work)) (length write)) ≡ 0) (b : Bool)
-      (D : Decides b (Intact edition1 (whole (x .engine) (x .work) (x .store)) × (x .engine .spare ≡ replicate 3 0))) where
-    passes : firstOf (askLengths geometry1 (x .store) event (x .work) write) ≡ none
-    passes = by-lengths ∙ question-of 16 4 _ _ _ _ fits .none-is
+  module _ (fits : refusalNumber refusal ≡ 0) (b : Bool) (D : Decides b (Intact form (whole (x .engine) (x .work) (x .store)) × (x .engine .spare ≡ replicate 3 0))) where
+    passes : firstOf asks ≡ none
+    passes = by-lengths ∙ question-of tears 16 4 _ _ _ _ fits .none-is
 
     -- as no sound state
-    pub state-refused : b ≡ false → Told-as x event write index 25 write
+    pub state-refused : b ≡ false → Told-as tears (geometryOf edition) x event write index 25 write
     unfolding view askRefusals
-    state-refused e = refused-with 25 false
+    state-refused e = refused-with tears (geometryOf edition) x event write index 25 false
         (λ p. record {
           only-sound = λ t. absurd (true≢false (sym t));
-          every-sound = λ s c S. absurd (D .no e (record { sound = subst⁻¹ (Sound edition1) (c .0) S; served = served-of first; form = c .1 .form }, c .1 .bare));
+          every-sound = λ s c S. absurd (D .no e (record { sound = subst⁻¹ (Sound form) (c .0) S; served = record { few = served-of edition .few; deep = served-of edition .deep }; form = c .1 .form }, c .1 .bare));
         })
-        (first-last (askLengths geometry1 (x .store) event (x .work) write) 25 true passes)
+        (first-last asks 25 true passes)
 
     -- answered
-    pub question-answered : b ≡ true → (o : Option Event) → decode geometry1 (number event) ≡ o → (answer : ℕ) (write′ : List ℕ)
-        → (let said = told (writeAt index (planFor geometry1 (state.view edition1 (whole (x .engine) (x .work) (x .store))) o)) write in (answer ≡ said .answer) × (write′ ≡ said .write))
-        → Told-as x event write index answer write′
+    pub question-answered : b ≡ true → (o : Option Event) → decode (geometryOf edition) (number event) ≡ o → (answer : ℕ) (write′ : List ℕ)
+        → (let said = saidOf tears (geometryOf edition) (state.view form (whole (x .engine) (x .work) (x .store))) o index write in (answer ≡ said .answer) × (write′ ≡ said .write))
+        → Told-as tears (geometryOf edition) x event write index answer write′
     unfolding view asked askedBy askRefusals
     question-answered e o means answer write′ W =
         let I = D .yes e in
-        let taken : firstOf (askRefusals geometry1 true (x .store) event (x .work) write) ≡ none = first-last (askLengths geometry1 (x .store) event (x .work) write) 25 false passes in
-        let say : told (writeAt index (planFor geometry1 (state.view edition1 (whole (x .engine) (x .work) (x .store))) o)) write ≡ asked geometry1 true (view x) (x .store) event (x .work) index write =
-        ap (λ (o : Option Event). told (writeAt index (planFor geometry1 (state.view edition1 (whole (x .engine) (x .work) (x .store))) o)) write) (sym means)
-        ∙ sym (ap (askedBy geometry1 (view x) event index write) taken) in (
+        let taken : firstOf (askRefusals tears (geometryOf edition) true (x .store) event (x .work) write) ≡ none = first-last asks 25 false passes in
+        let say : saidOf tears (geometryOf edition) (state.view form (whole (x .engine) (x .work) (x .store))) o index write ≡ asked tears (geometryOf edition) true (view form x) (x .store) event (x .work) index write =
+        ap (λ (o : Option Event). saidOf tears (geometryOf edition) (state.view form (whole (x .engine) (x .work) (x .store))) o index write) (sym means)
+        ∙ sym (ap (askedBy tears (geometryOf edition) (view form x) event index write) taken) in (
           true,
           record {
-            found = λ q. record { only-sound = λ t. (view x, (refl, record { form = I .0 .form; bare = I .1 }), I .0 .sound); every-sound = λ s c S. refl };
+            found = λ q. record { only-sound = λ t. (view form x, (refl, record { form = I .0 .form; bare = I .1 }), I .0 .sound); every-sound = λ s c S. refl };
             answered = W .0 ∙ ap (λ (a : Asked). a .answer) say;
             written = W .1 ∙ ap (λ (a : Asked). a .write) say;
           },
         )
 
-pub told-one : Told-one
+pub told-one : (tears : Bool) (g : Geometry) → Told-one tears g
 unfolding Told-one
-told-one x event write index a b v w P Q =
-    let same = same-said x event write index (P .0) (Q .0) (P .1 .found) (Q .1 .found) in (
+told-one tears g x event write index a b v w P Q =
+    let same = same-said tears g x event write index (P .0) (Q .0) (P .1 .found) (Q .1 .found) in (
       P .1 .answered ∙ ap (λ (z : Asked). z .answer) same ∙ sym (Q .1 .answered),
       P .1 .written ∙ ap (λ (z : Asked). z .write) same ∙ sym (Q .1 .written),
     )
 
--- the sets of writers have edition 1's length
-pub writers-long : (x : Arrays) → Intact edition1 x → length (x .writers) ≡ 16
-unfolding records
-writers-long x I = I .form .writerss
+-- the sets of writers have as many records
+pub writers-long : (tears : Bool) (edition : Edition) → records (geometryOf edition) ≡ 16 → (x : Arrays) → Intact (formIn tears (geometryOf edition)) x → length (x .writers) ≡ 16
+writers-long tears edition many x I = I .form .writerss ∙ many

@@ -13,7 +13,9 @@ use Rattle.rules.specs.Step.{firstOf}
 use Rattle.rules.specs.Run.{runRefusals}
 use Rattle.rules.specs.Sound.{Sound}
 use Rattle.rules.specs.Portion.{Finds, Portion, portionAll, portion, wordsIn}
-use Rattle.rules.specs.Editions.{geometry1, edition1, first}
+use Rattle.rules.specs.Geometry.{records}
+use Rattle.rules.specs.Form.{Form}
+use Rattle.rules.specs.Editions.{Edition, first, paired, geometryOf, formIn, InNumbers}
 use Rattle.rules.proofs.Portions.{Case, plays, refuses, case?, lengths-first, unsound-refused, sound-played}
 use Rattle.crashes.proofs.Editions.{served-of}
 use Rattle.state.specs.Whole as state
@@ -22,8 +24,7 @@ use Rattle.state.specs.Portion as portions
 use Rattle.state.specs.Portion.{played}
 use Rattle.portions.specs.Portion.{whole}
 use Rattle.portions.specs.declared.Engine.{Engine}
-use Rattle.commitpage.proofs.Places.{layout1}
-use Rattle.event.proofs.Words.{bytes1}
+use Rattle.lists.proofs.Words.{four-of}
 use Rattle.clauses.specs.Decides.{Decides}
 use Rattle.clauses.proofs.Decides.{decides-as, decides-and, decides-same}
 use Rattle.lengths.specs.Lengths.{lengthsRefused, refusalNumber}
@@ -44,86 +45,99 @@ bare-decided l long = decides-as
     each z (suc (suc zero)) h = z .1
     each z (suc (suc (suc i))) h = absurd (omega arith)
 
--- a refusal as it is returned
-pub refused-as : (e : Engine) (work store events answers : List ℕ) (r : Portioned) (n : ℕ) → (r .engine ≡ e) × (r .number ≡ n)
-    → Portioned-as (kept e work store) events answers n (kept e work store) answers
-    → Portioned-as (kept e work store) events answers (r .number) (kept (r .engine) work store) answers
-refused-as e work store events answers r n q P =
-    subst⁻¹ (λ (m : ℕ). Portioned-as (kept e work store) events answers m (kept (r .engine) work store) answers) (q .1)
-    (subst⁻¹ (λ (d : Engine). Portioned-as (kept e work store) events answers n (kept d work store) answers) (q .0) P)
+-- edition 1, and the form whose pages can tear, in the numbers that the code gets
+pub first-in : InNumbers first 16 true false
+unfolding records
+first-in = record { many = refl; two-phase = refl; torn = refl }
 
-module _ (x : Kept) (events answers : List ℕ) where
-  abbrev by : Bool → Portion edition1
-  by sound = portion edition1 sound (view x) (x .store) events (x .work) answers
+pub paired-in : InNumbers paired 16 false true
+unfolding records
+paired-in = record { many = refl; two-phase = refl; torn = refl }
+
+-- a refusal as it is returned
+pub refused-as : (f : Form) (e : Engine) (work store events answers : List ℕ) (r : Portioned) (n : ℕ) → (r .engine ≡ e) × (r .number ≡ n)
+    → Portioned-as f (kept e work store) events answers n (kept e work store) answers
+    → Portioned-as f (kept e work store) events answers (r .number) (kept (r .engine) work store) answers
+refused-as f e work store events answers r n q P =
+    subst⁻¹ (λ (m : ℕ). Portioned-as f (kept e work store) events answers m (kept (r .engine) work store) answers) (q .1)
+    (subst⁻¹ (λ (d : Engine). Portioned-as f (kept e work store) events answers n (kept d work store) answers) (q .0) P)
+
+-- of an edition with sixteen records
+module _ (tears : Bool) (edition : Edition) (many : records (geometryOf edition) ≡ 16) (x : Kept) (events answers : List ℕ) where
+  abbrev f : Form
+  f = formIn tears (geometryOf edition)
+
+  abbrev by : Bool → Portion f
+  by sound = portion f sound (view f x) (x .store) events (x .work) answers
 
   abbrev Passes : Type 0
-  Passes = firstOf (runRefusals edition1 (x .store) events (x .work) answers) ≡ none
+  Passes = firstOf (runRefusals f (x .store) events (x .work) answers) ≡ none
 
   abbrev Found : Bool → Type 0
-  Found sound = Finds edition1 (λ s. (view x ≡ s) × Proper x) sound
+  Found sound = Finds f (λ s. (view f x ≡ s) × Proper f x) sound
 
   -- refused: all is as it was
-  as-it-was : (n : ℕ) (sound : Bool) → (Passes → Found sound) → n ≡ by sound .answer → n ≢ 0 → Portioned-as x events answers n x answers
+  as-it-was : (n : ℕ) (sound : Bool) → (Passes → Found sound) → n ≡ by sound .answer → n ≢ 0 → Portioned-as f x events answers n x answers
   unfolding portionAll
-  as-it-was n sound F e h = go (case? edition1 sound (view x) (x .store) events (x .work) answers)
+  as-it-was n sound F e h = go (case? f sound (view f x) (x .store) events (x .work) answers)
     where
-      go : Case edition1 sound (view x) (x .store) events (x .work) answers → Portioned-as x events answers n x answers
-      go (plays q p) = absurd (h (e ∙ ap (λ (y : Portion edition1). y .answer) p))
+      go : Case f sound (view f x) (x .store) events (x .work) answers → Portioned-as f x events answers n x answers
+      go (plays q p) = absurd (h (e ∙ ap (λ (y : Portion f). y .answer) p))
       go (refuses m q z p) = (
         sound,
         record {
           found = F;
           answered = e;
-          state = sym (ap (λ (y : Portion edition1). y .state) p);
-          stored = sym (ap (λ (y : Portion edition1). y .store) p);
-          told = sym (ap (λ (y : Portion edition1). y .answers) p);
+          state = sym (ap (λ (y : Portion f). y .state) p);
+          stored = sym (ap (λ (y : Portion f). y .store) p);
+          told = sym (ap (λ (y : Portion f). y .answers) p);
           written = λ w. w;
           untouched = λ k. refl;
         },
       )
 
   -- by the lengths
-  pub length-refused : (n : ℕ) → n ≡ refusalNumber (lengthsRefused false 16 4 (length (x .store)) (length events) (length (x .work)) (length answers)) → n ≢ 0
-      → Portioned-as x events answers n x answers
+  pub length-refused : (n : ℕ) → n ≡ refusalNumber (lengthsRefused tears 16 4 (length (x .store)) (length events) (length (x .work)) (length answers)) → n ≢ 0
+      → Portioned-as f x events answers n x answers
   unfolding refusalNumber
-  length-refused n e h = go (lengthsRefused false 16 4 (length (x .store)) (length events) (length (x .work)) (length answers)) (by-lengths false 16 4 geometry1 (layout1 .many) bytes1 refl (x .store) events (x .work) answers) e
+  length-refused n e h = go (lengthsRefused tears 16 4 (length (x .store)) (length events) (length (x .work)) (length answers)) (by-lengths tears 16 4 (geometryOf edition) many (four-of edition many) (served-of edition .deep) (x .store) events (x .work) answers) e
     where
-      go : (o : Option ℕ) → firstOf (runRefusals edition1 (x .store) events (x .work) answers) ≡ o → n ≡ refusalNumber o → Portioned-as x events answers n x answers
+      go : (o : Option ℕ) → firstOf (runRefusals f (x .store) events (x .work) answers) ≡ o → n ≡ refusalNumber o → Portioned-as f x events answers n x answers
       go none q z = absurd (h z)
       go (some m) q z = as-it-was n false (λ p. let k : some m ≡ none = sym q ∙ p in let c : true ≡ false = cc in absurd (true≢false c))
-          (z ∙ sym (lengths-first edition1 false (view x) (x .store) events (x .work) answers m q)) h
+          (z ∙ sym (lengths-first f false (view f x) (x .store) events (x .work) answers m q)) h
 
-  module _ (fits : refusalNumber (lengthsRefused false 16 4 (length (x .store)) (length events) (length (x .work)) (length answers)) ≡ 0) where
+  module _ (fits : refusalNumber (lengthsRefused tears 16 4 (length (x .store)) (length events) (length (x .work)) (length answers)) ≡ 0) where
     passes : Passes
-    passes = by-lengths false 16 4 geometry1 (layout1 .many) bytes1 refl (x .store) events (x .work) answers ∙ lengths-of false 16 4 _ _ _ _ fits .none-is
+    passes = by-lengths tears 16 4 (geometryOf edition) many (four-of edition many) (served-of edition .deep) (x .store) events (x .work) answers ∙ lengths-of tears 16 4 _ _ _ _ fits .none-is
 
     -- as no sound state
-    pub state-refused : (b : Bool) → Decides b (Intact edition1 (whole (x .engine) (x .work) (x .store)) × (x .engine .spare ≡ replicate 3 0)) → b ≡ false
-        → Portioned-as x events answers 25 x answers
+    pub state-refused : (b : Bool) → Decides b (Intact f (whole (x .engine) (x .work) (x .store)) × (x .engine .spare ≡ replicate 3 0)) → b ≡ false
+        → Portioned-as f x events answers 25 x answers
     unfolding view
     state-refused b D e = as-it-was 25 false
         (λ p. record {
           only-sound = λ t. absurd (true≢false (sym t));
-          every-sound = λ s c S. absurd (D .no e (record { sound = subst⁻¹ (Sound edition1) (c .0) S; served = served-of first; form = c .1 .form }, c .1 .bare));
+          every-sound = λ s c S. absurd (D .no e (record { sound = subst⁻¹ (Sound f) (c .0) S; served = record { few = served-of edition .few; deep = served-of edition .deep }; form = c .1 .form }, c .1 .bare));
         })
-        (sym (unsound-refused edition1 (view x) (x .store) events (x .work) answers passes)) (λ z. omega arith)
+        (sym (unsound-refused f (view f x) (x .store) events (x .work) answers passes)) (λ z. omega arith)
 
     -- played
-    pub state-played : (b : Bool) → Decides b (Intact edition1 (whole (x .engine) (x .work) (x .store)) × (x .engine .spare ≡ replicate 3 0)) → b ≡ true
-        → (y : Kept) (answers′ : List ℕ) → portions.Portion edition1 (whole (x .engine) (x .work) (x .store)) events answers (whole (y .engine) (y .work) (y .store)) answers′
-        → y .engine .spare ≡ x .engine .spare → Portioned-as x events answers 0 y answers′
+    pub state-played : (b : Bool) → Decides b (Intact f (whole (x .engine) (x .work) (x .store)) × (x .engine .spare ≡ replicate 3 0)) → b ≡ true
+        → (y : Kept) (answers′ : List ℕ) → portions.Portion f (whole (x .engine) (x .work) (x .store)) events answers (whole (y .engine) (y .work) (y .store)) answers′
+        → y .engine .spare ≡ x .engine .spare → Portioned-as f x events answers 0 y answers′
     unfolding view portionAll wordsIn played
     state-played b D e y answers′ P s =
         let I = D .yes e in
-        let p = sound-played edition1 (view x) (x .store) events (x .work) answers passes in
-        let proper : Proper x = record { form = I .0 .form; bare = I .1 } in (
+        let p = sound-played f (view f x) (x .store) events (x .work) answers passes in
+        let proper : Proper f x = record { form = I .0 .form; bare = I .1 } in (
           true,
           record {
-            found = λ q. record { only-sound = λ t. (view x, (refl, proper), I .0 .sound); every-sound = λ s c S. refl };
-            answered = sym (ap (λ (y : Portion edition1). y .answer) p);
-            state = P .state ∙ sym (ap (λ (y : Portion edition1). y .state) p);
-            stored = P .store ∙ sym (ap (λ (y : Portion edition1). y .store) p);
-            told = P .answered ∙ sym (ap (λ (y : Portion edition1). y .answers) p);
+            found = λ q. record { only-sound = λ t. (view f x, (refl, proper), I .0 .sound); every-sound = λ s c S. refl };
+            answered = sym (ap (λ (y : Portion f). y .answer) p);
+            state = P .state ∙ sym (ap (λ (y : Portion f). y .state) p);
+            stored = P .store ∙ sym (ap (λ (y : Portion f). y .store) p);
+            told = P .answered ∙ sym (ap (λ (y : Portion f). y .answers) p);
             written = λ w. record { form = P .intact .form; bare = s ∙ I .1 };
             untouched = λ k. absurd (k refl);
           },

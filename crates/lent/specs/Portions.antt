@@ -5,7 +5,7 @@ use Prim.Native.Nat.{ℕ}
 use lib.ListN.{replicate}
 use Rattle.rules.specs.Step.{StateOf}
 use Rattle.rules.specs.Calls.{Call, Promised}
-use Rattle.rules.specs.Editions.{edition1}
+use Rattle.rules.specs.Form.{Form}
 use Rattle.state.specs.Whole as state
 use Rattle.state.specs.Whole.{Formed}
 use Rattle.portions.specs.Portion.{whole}
@@ -20,18 +20,20 @@ pub record Kept : Type 0 where
 abbrev pub kept : Engine → List ℕ → List ℕ → Kept
 kept engine work store = record { engine = engine; work = work; store = store }
 
--- the state that it stands for, and the store's bytes
-unfoldable pub view : Kept → StateOf edition1
-view x = state.view edition1 (whole (x .engine) (x .work) (x .store))
-
+-- the store's bytes
 abbrev pub bytes : Kept → List ℕ
 bytes x = x .store
 
--- In the one encoding that a state has: the lengths are right, the lines are those of the parents and depths, who has a lock in write mode has it in any
--- mode, and every field that carries no information is 0.
-pub record Proper (x : Kept) : Type 0 where
-  pub form : Formed edition1 (whole (x .engine) (x .work) (x .store))
-  pub bare : x .engine .spare ≡ replicate 3 0
+module _ (f : Form) where
+  -- the state that it stands for
+  unfoldable pub view : Kept → StateOf f
+  view x = state.view f (whole (x .engine) (x .work) (x .store))
+
+  -- In the one encoding that a state has: the lengths are right, the lines are those of the parents and depths, who has a lock in write mode has it in any
+  -- mode, and every field that carries no information is 0.
+  pub record Proper (x : Kept) : Type 0 where
+    pub form : Formed f (whole (x .engine) (x .work) (x .store))
+    pub bare : x .engine .spare ≡ replicate 3 0
 
 -- a call with these buffers on x gave this answer, and left y and these answers
 abbrev pub call : Kept → List ℕ → List ℕ → ℕ → Kept → List ℕ → Call Kept
@@ -39,8 +41,8 @@ call x events answers answer y answers′ =
     record { lent = record { events = events; work = x .work; answers = answers }; answer = answer; after = y; answers = answers′ }
 
 -- its promise
-abbrev pub Portioned-as : Kept → List ℕ → List ℕ → ℕ → Kept → List ℕ → Type 0
-Portioned-as x events answers answer y answers′ = Promised edition1 view bytes Proper x (call x events answers answer y answers′)
+abbrev pub Portioned-as : Form → Kept → List ℕ → List ℕ → ℕ → Kept → List ℕ → Type 0
+Portioned-as f x events answers answer y answers′ = Promised f (view f) bytes (Proper f) x (call x events answers answer y answers′)
 
 -- all zeros
 abbrev pub zeros : Engine

@@ -1,17 +1,24 @@
-// What is lent as a state: whether it is one, and a portion, a page write and a report on it, by value. What is lent as a struct is read and written by
-// the open operations, which call these.
+// A run from the start; and what is lent as a state: whether it is one, and a portion, a page write and a report on it, by value. What is lent as a struct is
+// read and written by the open operations, which call these. Edition 1, on atomic pages (`joint`) or on pages that can tear (`tears`).
 ghost use mathlib.Core.Path.{_≡_};
 ghost use Prim.Native.Nat.{ℕ};
 ghost use mathlib.Core.List.{List};
 ghost use lib.ListN.{length, replicate};
-ghost use Rattle.rules.specs.Editions.{edition1, workBytes};
+ghost use Rattle.laws.specs.Bytes.{number};
+ghost use Rattle.rules.specs.Geometry.{wordSize};
+ghost use Rattle.rules.specs.Event.{decode};
+ghost use Rattle.rules.specs.Editions.{Edition, geometryOf, formIn, InNumbers, editionOf, workBytes};
+ghost use Rattle.event.specs.Meaning.{meaning, InWord};
 ghost use Rattle.state.specs.Whole.{Intact};
 ghost use Rattle.portions.specs.Portion.{whole};
 ghost use Rattle.clauses.specs.Decides.{Decides};
+ghost use Rattle.running.specs.Running.{Ran};
 ghost use Rattle.waitreport.specs.Reported.{Sound-aside, Reported-copied};
+ghost use Rattle.lengths.specs.Lengths.{storeBytes};
 ghost use Rattle.lent.specs.Portions.{kept, Portioned-as};
 ghost use Rattle.lent.specs.PageWrites.{Told-as};
 use event::Event;
+use event::pairs::Pairs;
 use portions::Engine;
 use waitreport::Report;
 use waitreport::Ring;
@@ -41,9 +48,10 @@ fn is_bare(spare: [u8; 3]) -> bool
 }
 
 // What is lent as a state is one, and sound.
-fn is_state(e: Engine, store: &[u8]) -> bool
-    requires { ⌜ length (now store) ≡ 1056 ⌝ }
-    ensures { λ r. ⌜ ((work : List ℕ) → length work ≡ workBytes → Decides r (Intact edition1 (whole e work (now (store .entry))) × (e .spare ≡ replicate 3 0))) ⌝ }
+fn is_state(e: Engine, store: &[u8], joint: bool, tears: bool) -> bool
+    requires { ⌜ length (now store) ≡ storeBytes tears 16 ⌝ }
+    ensures { λ r. ⌜ ((edition : Edition) (work : List ℕ) → InNumbers edition 16 joint tears → length work ≡ workBytes
+        → Decides r (Intact (formIn tears (geometryOf edition)) (whole e work (now (store .entry))) × (e .spare ≡ replicate 3 0))) ⌝ }
 {
     let parent = e.parent;
     let depth = e.depth;
@@ -61,9 +69,49 @@ fn is_state(e: Engine, store: &[u8]) -> bool
         &retained,
         &writers,
         store,
+        joint,
+        tears,
     );
     let bare = is_bare(spare);
     sound & bare
+}
+
+// A run: edition 1's, and that of pages that can tear. Refused by the lengths of the buffers, or played from the start.
+pub fn run_of(
+    store: &mut [u8],
+    events: &[u8],
+    work: &mut [u8],
+    answers: &mut [u8],
+    joint: bool,
+    tears: bool,
+) -> u8
+    requires { ⌜ InNumbers (editionOf 16 joint tears) 16 joint tears ⌝ }
+    ensures { λ r.
+        let form = formIn tears (geometryOf (editionOf 16 joint tears)) in
+        ⌜ Ran form (now (store .entry)) (now (events .entry)) (now (work .entry)) (now (answers .entry)) r (now (store .exit)) (now (work .exit)) (now (answers .exit)) ⌝ }
+{
+    let n = lengths::refusal(
+        tears,
+        RECORDS,
+        WORD,
+        store.len(),
+        events.len(),
+        work.len(),
+        answers.len(),
+    );
+    if n != 0 {
+        return n;
+    }
+    portions::portion(
+        portions::start(),
+        store,
+        events,
+        work,
+        answers,
+        joint,
+        tears,
+    );
+    0
 }
 
 // A portion's answer, and the state after it.
@@ -82,18 +130,25 @@ fn refused(e: Engine, n: u8) -> Portioned
     }
 }
 
-// A portion by value.
+// A portion by value: edition 1's, and that of pages that can tear.
 pub fn portion_of(
     e: Engine,
     store: &mut [u8],
     events: &[u8],
     work: &mut [u8],
     answers: &mut [u8],
+    joint: bool,
+    tears: bool,
 ) -> Portioned
-    ensures { λ r. ⌜ Portioned-as (kept e (now (work .entry)) (now (store .entry))) (now (events .entry)) (now (answers .entry)) (r .number) (kept (r .engine) (now (work .exit)) (now (store .exit))) (now (answers .exit)) ⌝ }
+    requires { ⌜ InNumbers (editionOf 16 joint tears) 16 joint tears ⌝ }
+    ensures { λ r.
+        let before = kept e (now (work .entry)) (now (store .entry)) in
+        let after = kept (r .engine) (now (work .exit)) (now (store .exit)) in
+        let form = formIn tears (geometryOf (editionOf 16 joint tears)) in
+        ⌜ Portioned-as form before (now (events .entry)) (now (answers .entry)) (r .number) after (now (answers .exit)) ⌝ }
 {
     let m = lengths::refusal(
-        TEARS,
+        tears,
         RECORDS,
         WORD,
         store.len(),
@@ -104,8 +159,8 @@ pub fn portion_of(
     if m != 0 {
         return refused(e, m);
     }
-    if is_state(e, &store[..]) {
-        let after = portions::portion(e, store, events, work, answers);
+    if is_state(e, &store[..], joint, tears) {
+        let after = portions::portion(e, store, events, work, answers, joint, tears);
         return Portioned {
             engine: after,
             number: 0,
@@ -114,7 +169,23 @@ pub fn portion_of(
     refused(e, 25)
 }
 
-// A page write of an event, by value.
+// The event that a question is on.
+fn event_of(event: &[u8], tears: bool) -> Event
+    requires { ⌜ length (now event) ≡ 4 ⌝ }
+    ensures { λ r. ⌜ ((edition : Edition) →
+        let g = geometryOf edition in
+        wordSize g ≡ 4 → g .tears ≡ tears → (decode g (number (now (event .entry))) ≡ meaning r) × InWord g r) ⌝ }
+{
+    let word = Event::word_at(event, 0);
+    if tears {
+        let torn = Pairs::table();
+        return Pairs::of_word(&torn, word);
+    }
+    let table = Event::table();
+    Event::of_word(&table, word)
+}
+
+// A write of an event, by value: a page write of edition 1's, or a copy write where pages tear.
 pub fn page_write_of(
     e: Engine,
     store: &[u8],
@@ -122,10 +193,16 @@ pub fn page_write_of(
     work: &[u8],
     index: u8,
     write: &mut [u8],
+    joint: bool,
+    tears: bool,
 ) -> u8
-    ensures { λ r. ⌜ Told-as (kept e (now (work .entry)) (now (store .entry))) (now (event .entry)) (now (write .entry)) index r (now (write .exit)) ⌝ }
+    requires { ⌜ InNumbers (editionOf 16 joint tears) 16 joint tears ⌝ }
+    ensures { λ r.
+        let held = kept e (now (work .entry)) (now (store .entry)) in
+        ⌜ Told-as tears (geometryOf (editionOf 16 joint tears)) held (now (event .entry)) (now (write .entry)) index r (now (write .exit)) ⌝ }
 {
     let wrong = lengths::question(
+        tears,
         RECORDS,
         WORD,
         store.len(),
@@ -136,14 +213,13 @@ pub fn page_write_of(
     if wrong != 0 {
         return wrong;
     }
-    if !is_state(e, store) {
+    if !is_state(e, store, joint, tears) {
         return 25;
     }
     let parent = e.parent;
     let depth = e.depth;
     let writers = e.writers;
-    let table = Event::table();
-    let word = Event::word_at(event, 0);
+    let asked = event_of(event, tears);
     pagewrites::page_write(
         e.up,
         &parent,
@@ -152,8 +228,9 @@ pub fn page_write_of(
         work,
         store,
         RECORDS,
-        JOINT,
-        Event::of_word(&table, word),
+        joint,
+        tears,
+        asked,
         index,
         write,
     )
@@ -165,7 +242,7 @@ fn is_state_aside(e: Engine) -> bool
 {
     let mut store = [0u8; STORE];
     records::lay(&mut store, TEARS, RECORDS);
-    is_state(e, &store)
+    is_state(e, &store, JOINT, TEARS)
 }
 
 // The report by value.

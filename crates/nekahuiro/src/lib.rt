@@ -1,9 +1,10 @@
 // The open operations: a run, a portion, the page writes of an event, a fresh store, the age of a record, the two ends of a two-phase commit, the report
 // on transactions that wait for each other, the list of a job sheet, and the audit of a run. Any bytes may come in; each refuses or does what the rules say.
 ghost use mathlib.Core.Path.{_≡_};
+ghost use mathlib.Core.Bool.{false};
 ghost use Rattle.rules.specs.Run.{layFresh};
 ghost use Rattle.rules.specs.Age.{ageOf};
-ghost use Rattle.rules.specs.Editions.{edition1};
+ghost use Rattle.rules.specs.Editions.{geometry1, edition1};
 ghost use Rattle.history.specs.Demand3.{Demand-3};
 ghost use Rattle.serial.specs.OneAtATime.{One-run-at-a-time};
 ghost use Rattle.records.specs.Ages.{ageNumber, ageLeft};
@@ -16,14 +17,12 @@ ghost use Rattle.messages.specs.Codes.{left};
 ghost use Rattle.messages.specs.Votes.{voteOn};
 ghost use Rattle.waitreport.specs.Reported.{Reported};
 ghost use Rattle.sheets.specs.Made.{Made};
+use lent::Portioned;
 use portions::Engine;
 use waitreport::Ring;
 use waitrows::Row;
 
 const RECORDS: usize = 16;
-
-// The bytes of an event word.
-const WORD: usize = 4;
 
 // Transactions can be prepared.
 const JOINT: bool = true;
@@ -69,20 +68,23 @@ pub extern "C" fn nekahuiro_run(
     ensures { λ r. ⌜ (r ≡ 0 → Demand-3 edition1 (now (store .entry)) (now (events .entry)) (now (work .entry)) (now (answers .entry))) ⌝ }
     ensures { λ r. ⌜ (r ≡ 0 → One-run-at-a-time edition1 (now (store .entry)) (now (events .entry)) (now (work .entry)) (now (answers .entry))) ⌝ }
 {
-    let n = lengths::refusal(
-        TEARS,
-        RECORDS,
-        WORD,
-        store.len(),
-        events.len(),
-        work.len(),
-        answers.len(),
-    );
-    if n != 0 {
-        return n;
-    }
-    portions::portion(portions::start(), store, events, work, answers);
-    0
+    lent::run_of(store, events, work, answers, JOINT, TEARS)
+}
+
+// A portion by value, with this edition's numbers.
+fn portion_of(
+    e: Engine,
+    store: &mut [u8],
+    events: &[u8],
+    work: &mut [u8],
+    answers: &mut [u8],
+) -> Portioned
+    ensures { λ r.
+        let before = kept e (now (work .entry)) (now (store .entry)) in
+        let after = kept (r .engine) (now (work .exit)) (now (store .exit)) in
+        ⌜ Portioned-as edition1 before (now (events .entry)) (now (answers .entry)) (r .number) after (now (answers .exit)) ⌝ }
+{
+    lent::portion_of(e, store, events, work, answers, JOINT, TEARS)
 }
 
 // Plays a portion of events on a state that is lent and changed in place, with the store and the working buffer that the last portion left. 0, or a
@@ -95,13 +97,32 @@ pub extern "C" fn nekahuiro_portion(
     work: &mut [u8],
     answers: &mut [u8],
 ) -> u8
-    ensures { λ r. ⌜ Portioned-as (kept (now (state .entry)) (now (work .entry)) (now (store .entry))) (now (events .entry)) (now (answers .entry)) r (kept (now (state .exit)) (now (work .exit)) (now (store .exit))) (now (answers .exit)) ⌝ }
+    ensures { λ r.
+        let before = kept (now (state .entry)) (now (work .entry)) (now (store .entry)) in
+        let after = kept (now (state .exit)) (now (work .exit)) (now (store .exit)) in
+        ⌜ Portioned-as edition1 before (now (events .entry)) (now (answers .entry)) r after (now (answers .exit)) ⌝ }
 {
     let before = *state;
-    let done = lent::portion_of(before, store, events, work, answers);
+    let done = portion_of(before, store, events, work, answers);
     let after = done.engine;
     *state = after;
     done.number
+}
+
+// A page write by value, with this edition's numbers.
+fn page_write_of(
+    e: Engine,
+    store: &[u8],
+    event: &[u8],
+    work: &[u8],
+    index: u8,
+    write: &mut [u8],
+) -> u8
+    ensures { λ r.
+        let held = kept e (now (work .entry)) (now (store .entry)) in
+        ⌜ Told-as false geometry1 held (now (event .entry)) (now (write .entry)) index r (now (write .exit)) ⌝ }
+{
+    lent::page_write_of(e, store, event, work, index, write, JOINT, TEARS)
 }
 
 // Says the page write number `index`, from 0, that an event makes on this state, store and working buffer if nothing cuts it: 0, with the page's number
@@ -116,10 +137,12 @@ pub extern "C" fn nekahuiro_page_write(
     index: u8,
     write: &mut [u8],
 ) -> u8
-    ensures { λ r. ⌜ Told-as (kept (now (state .entry)) (now (work .entry)) (now (store .entry))) (now (event .entry)) (now (write .entry)) index r (now (write .exit)) ⌝ }
+    ensures { λ r.
+        let held = kept (now (state .entry)) (now (work .entry)) (now (store .entry)) in
+        ⌜ Told-as false geometry1 held (now (event .entry)) (now (write .entry)) index r (now (write .exit)) ⌝ }
 {
     let held = *state;
-    lent::page_write_of(held, store, event, work, index, write)
+    page_write_of(held, store, event, work, index, write)
 }
 
 // The depot's turn for an identity, by its state (0 idle, 1 asked, 2 committed, 3 aborted) and a message (0 start, 1 yes, 2 no, 3 give-up): 0, with the

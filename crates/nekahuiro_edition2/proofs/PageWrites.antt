@@ -17,8 +17,7 @@ use Rattle.rules.specs.Run.{words, play, eventsIn, runRefusals}
 use Rattle.rules.specs.Editions.{geometry2, edition2}
 use Rattle.commitpage.proofs.Places.{layout2}
 use Rattle.event.proofs.Words.{bytes2}
-use Rattle.device.specs.Plan.{writeAt}
-use Rattle.device.specs.Asked.{Asked, told, planFor, askLengths}
+use Rattle.device.specs.Asked.{Asked, saidOf, askLengths}
 use Rattle.device.specs.After.{orElse, after, refusedAfter, askedAfterBy, askedAfter, Told-after}
 use Rattle.state.specs.Whole.{Arrays, view}
 use Rattle.state.specs.Portion.{played, Portion}
@@ -31,12 +30,12 @@ module _ (store events work answers event : List ℕ) (index : ℕ) (write : Lis
   runs = firstOf (runRefusals edition2 store events work answers)
 
   abbrev asks : Option ℕ
-  asks = firstOf (askLengths geometry2 store event work write)
+  asks = firstOf (askLengths false geometry2 store event work write)
 
   runs-by : runs ≡ lengthsRefused false 64 8 (length store) (length events) (length work) (length answers)
   runs-by = by-lengths false 64 8 geometry2 (layout2 .many) bytes2 refl store events work answers
 
-  asks-by : asks ≡ questionRefused 64 8 (length store) (length event) (length work) (length write)
+  asks-by : asks ≡ questionRefused false 64 8 (length store) (length event) (length work) (length write)
   unfolding askLengths questionRefused open-geometry
   asks-by = refl
 
@@ -66,31 +65,31 @@ module _ (store events work answers event : List ℕ) (index : ℕ) (write : Lis
     runs-none = runs-by ∙ lengths-of false 64 8 _ _ _ _ fits .none-is
 
     -- by the event and the buffer for the page write
-    pub event-refused : (n : ℕ) → n ≡ refusalNumber (questionRefused 64 8 (length store) (length event) (length work) (length write)) → n ≢ 0
+    pub event-refused : (n : ℕ) → n ≡ refusalNumber (questionRefused false 64 8 (length store) (length event) (length work) (length write)) → n ≢ 0
         → Told-after geometry2 store events work answers event index write n store work answers write
     unfolding refusalNumber orElse
-    event-refused n e h = go (questionRefused 64 8 (length store) (length event) (length work) (length write)) asks-by e
+    event-refused n e h = go (questionRefused false 64 8 (length store) (length event) (length work) (length write)) asks-by e
       where
         go : (o : Option ℕ) → asks ≡ o → n ≡ refusalNumber o → Told-after geometry2 store events work answers event index write n store work answers write
         go none q z = absurd (h z)
         go (some m) q z = refused-with n (ap (λ (o : Option ℕ). orElse o asks) runs-none ∙ q ∙ ap some (sym z))
 
-    module _ (asked : refusalNumber (questionRefused 64 8 (length store) (length event) (length work) (length write)) ≡ 0) where
+    module _ (asked : refusalNumber (questionRefused false 64 8 (length store) (length event) (length work) (length write)) ≡ 0) where
       passes : orElse runs asks ≡ none
       unfolding orElse
-      passes = ap (λ (o : Option ℕ). orElse o asks) runs-none ∙ asks-by ∙ question-of 64 8 _ _ _ _ asked .none-is
+      passes = ap (λ (o : Option ℕ). orElse o asks) runs-none ∙ asks-by ∙ question-of false 64 8 _ _ _ _ asked .none-is
 
       -- answered: from the start x the list led to y, and of the event on y this is said
       pub list-asked : (x y : Arrays) (answers′ : List ℕ) → view edition2 x ≡ down (pagesOf store) → Portion edition2 x events answers y answers′ → length (y .work) ≡ length work
           → (o : Option Event) → decode geometry2 (number event) ≡ o → (answer : ℕ) (write′ : List ℕ)
-          → (let said = told (writeAt index (planFor geometry2 (view edition2 y) o)) write in (answer ≡ said .answer) × (write′ ≡ said .write))
+          → (let said = saidOf false geometry2 (view edition2 y) o index write in (answer ≡ said .answer) × (write′ ≡ said .write))
           → Told-after geometry2 store events work answers event index write answer (y .store) (y .work) answers′ write′
       unfolding askedAfter askedAfterBy refusedAfter after played
       list-asked x y answers′ begun P l o means answer write′ W =
           let left = from-start edition2 store events answers x y answers′ begun P in
           let there : view edition2 y ≡ after geometry2 store events = P .state ∙ ap (λ (s : StateOf edition2). played-from s) begun in
-          let say : told (writeAt index (planFor geometry2 (view edition2 y) o)) write ≡ told (writeAt index (planFor geometry2 (after geometry2 store events) (decode geometry2 (number event)))) write =
-          (λ i. told (writeAt index (planFor geometry2 (there i) (sym means i))) write) in
+          let say : saidOf false geometry2 (view edition2 y) o index write ≡ saidOf false geometry2 (after geometry2 store events) (decode geometry2 (number event)) index write =
+          (λ i. saidOf false geometry2 (there i) (sym means i) index write) in
           record {
             answered = W .0 ∙ ap (λ (a : Asked). a .answer) say ∙ sym (ap (λ (o : Option ℕ). askedAfterBy geometry2 store events answers event index write o .answer) passes);
             stored = left .0 ∙ sym (ap (λ (o : Option ℕ). askedAfterBy geometry2 store events answers event index write o .store) passes);

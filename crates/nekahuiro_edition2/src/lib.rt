@@ -109,6 +109,7 @@ pub extern "C" fn nekahuiro_page_write_edition2(
         return unplayed;
     }
     let wrong = lengths::question(
+        TEARS,
         RECORDS,
         WORD,
         store.len(),
@@ -134,6 +135,7 @@ pub extern "C" fn nekahuiro_page_write_edition2(
         &store[..],
         RECORDS,
         JOINT,
+        TEARS,
         Edition2::of_word(&table, word),
         index,
         write,

@@ -1,2 +1,2 @@
--- The arguments of this crate.
-pub mod PairLayout
+-- What holds of a run.
+pub mod Running

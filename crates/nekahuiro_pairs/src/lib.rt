@@ -1,10 +1,19 @@
-// Open operations of the form whose pages can tear (document 02, L5): a fresh store, and the age of a record. Any bytes may come in; each refuses or does what
-// the rules say, with sixteen records, and every page kept as a pair of copies.
+// The open operations of the form whose pages can tear (document 02, L5): a run, a portion, the copy writes of an event, a fresh
+// store, and the age of a record. Any bytes may come in; each refuses or does what the rules say, with sixteen records, and every page kept
+// as a pair of copies.
 ghost use mathlib.Core.Path.{_≡_};
 ghost use Rattle.rules.specs.Run.{layFresh};
 ghost use Rattle.rules.specs.Age.{ageOf};
-ghost use Rattle.rules.specs.Editions.{editionPairs};
+ghost use mathlib.Core.Bool.{true};
+ghost use Rattle.rules.specs.Editions.{geometryPairs, editionPairs};
+ghost use Rattle.history.specs.Demand3.{Demand-3};
+ghost use Rattle.serial.specs.OneAtATime.{One-run-at-a-time};
 ghost use Rattle.records.specs.Ages.{ageNumber, ageLeft};
+ghost use Rattle.running.specs.Running.{Ran};
+ghost use Rattle.lent.specs.Portions.{kept, Portioned-as};
+ghost use Rattle.lent.specs.PageWrites.{Told-as};
+use lent::Portioned;
+use portions::Engine;
 
 const RECORDS: usize = 16;
 
@@ -39,4 +48,96 @@ pub extern "C" fn nekahuiro_age_pairs(
         ⌜ (r ≡ ageNumber told) × (now (age .exit) ≡ ageLeft told (now (age .entry))) ⌝ }
 {
     records::tell(store, TEARS, RECORDS, JOINT, number, clock, limit, age)
+}
+
+// Runs a list of events on a store, with an answer of two bytes for each; the value of a commit or a recover says how the next page write is torn where it is
+// cut. 0, or a refusal's number: 22, 24, 20 or 21, in this order, and then touches no buffer. Of a run that is played demand 3 holds, and that it can be played
+// one transaction at a time: both speak of `run editionPairs`, which is what this function leaves.
+#[no_mangle]
+pub extern "C" fn nekahuiro_run_pairs(
+    store: &mut [u8],
+    events: &[u8],
+    work: &mut [u8],
+    answers: &mut [u8],
+) -> u8
+    ensures { λ r.
+        ⌜ Ran editionPairs (now (store .entry)) (now (events .entry)) (now (work .entry)) (now (answers .entry)) r (now (store .exit)) (now (work .exit)) (now (answers .exit)) ⌝ }
+    ensures { λ r. ⌜ (r ≡ 0 → Demand-3 editionPairs (now (store .entry)) (now (events .entry)) (now (work .entry)) (now (answers .entry))) ⌝ }
+    ensures { λ r. ⌜ (r ≡ 0 → One-run-at-a-time editionPairs (now (store .entry)) (now (events .entry)) (now (work .entry)) (now (answers .entry))) ⌝ }
+{
+    lent::run_of(store, events, work, answers, JOINT, TEARS)
+}
+
+// A portion by value, with this form's numbers.
+fn portion_of(
+    e: Engine,
+    store: &mut [u8],
+    events: &[u8],
+    work: &mut [u8],
+    answers: &mut [u8],
+) -> Portioned
+    ensures { λ r.
+        let before = kept e (now (work .entry)) (now (store .entry)) in
+        let after = kept (r .engine) (now (work .exit)) (now (store .exit)) in
+        ⌜ Portioned-as editionPairs before (now (events .entry)) (now (answers .entry)) (r .number) after (now (answers .exit)) ⌝ }
+{
+    lent::portion_of(e, store, events, work, answers, JOINT, TEARS)
+}
+
+// Plays a portion of events on a state that is lent and changed in place, with the store and the working buffer that the last portion left. 0, or a
+// refusal's number: 22, 24, 20, 21 or 25, in this order, and then touches nothing. While up, a state is sound only if every pair is good and alike.
+#[no_mangle]
+pub extern "C" fn nekahuiro_portion_pairs(
+    state: &mut Engine,
+    store: &mut [u8],
+    events: &[u8],
+    work: &mut [u8],
+    answers: &mut [u8],
+) -> u8
+    ensures { λ r.
+        let before = kept (now (state .entry)) (now (work .entry)) (now (store .entry)) in
+        let after = kept (now (state .exit)) (now (work .exit)) (now (store .exit)) in
+        ⌜ Portioned-as editionPairs before (now (events .entry)) (now (answers .entry)) r after (now (answers .exit)) ⌝ }
+{
+    let before = *state;
+    let done = portion_of(before, store, events, work, answers);
+    let after = done.engine;
+    *state = after;
+    done.number
+}
+
+// A copy write by value, with this form's numbers.
+fn page_write_of(
+    e: Engine,
+    store: &[u8],
+    event: &[u8],
+    work: &[u8],
+    index: u8,
+    write: &mut [u8],
+) -> u8
+    ensures { λ r.
+        let held = kept e (now (work .entry)) (now (store .entry)) in
+        ⌜ Told-as true geometryPairs held (now (event .entry)) (now (write .entry)) index r (now (write .exit)) ⌝ }
+{
+    lent::page_write_of(e, store, event, work, index, write, JOINT, TEARS)
+}
+
+// Says the copy write number `index`, from 0, that an event makes on this state, store and working buffer if nothing cuts it: 0, with the page's number, the
+// copy's (0 the first, 1 the second) and the page in `write`; or 12, no such write; or refused with 22, 24, 20, 21 or 25, in this order. Page write i is made by
+// copy writes 2 i and 2 i + 1. Nothing is played, and but for the copy write nothing is written.
+#[no_mangle]
+pub extern "C" fn nekahuiro_page_write_pairs(
+    state: &Engine,
+    store: &[u8],
+    event: &[u8],
+    work: &[u8],
+    index: u8,
+    write: &mut [u8],
+) -> u8
+    ensures { λ r.
+        let held = kept (now (state .entry)) (now (work .entry)) (now (store .entry)) in
+        ⌜ Told-as true geometryPairs held (now (event .entry)) (now (write .entry)) index r (now (write .exit)) ⌝ }
+{
+    let held = *state;
+    page_write_of(held, store, event, work, index, write)
 }

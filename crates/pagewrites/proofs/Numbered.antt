@@ -1,13 +1,13 @@
--- The page write with a number, phase by phase: which phase it is in, and which record it is of.
+-- The write with a number, phase by phase: which phase it is in, and which record it is of.
 use mathlib.Core.Path.{_≡_, refl, sym, ap, subst⁻¹, _∙_}
-use mathlib.Core.Bool.{Bool, true, false, cond, _&&_}
+use mathlib.Core.Bool.{Bool, true, false, cond, _&&_, true≢false}
 use mathlib.Core.List.{List, [], _∷_, _++_, map, append-nil}
-use mathlib.Core.Option.{Option, none, some}
-use Prim.Native.Nat.{ℕ, zero, suc, _+_, _-_, _*_, _^_, _≤_, _<_}
+use mathlib.Core.Option.{none, some}
+use Prim.Native.Nat.{ℕ, zero, suc, _+_, _-_, _*_, _/_, _%_, _^_, _≤_, _<_}
 use native.Mathlib.Nat.{mul-zero}
 use native.Mathlib.Numerals.{add-one}
 use borrow.Rule.Slice.PartMut.{putMid}
-use mathlib.Core.Logic.{dite, inl, inr}
+use mathlib.Core.Logic.{_≢_, dite, inl, inr}
 use native.Mathlib.Decide.{decLt}
 use native.Mathlib.Omega.{arith}
 use lib.ListN.{length, getD, set, take, drop, length-append, length-map}
@@ -25,13 +25,15 @@ use Rattle.page.proofs.Pages.{put-at}
 use Rattle.rules.specs.State.{mem}
 use Rattle.rules.proofs.Members.{mem-head, mem-later, those-below}
 use Rattle.device.specs.Plan.{writeAt}
-use Rattle.device.specs.Asked.{told}
+use Rattle.device.specs.Asked.{told, spelledIn, writeSize}
+use Rattle.device.proofs.CopyWrites.{page-spelled, first-spelled, second-spelled, pages-end, copies-end}
+use Rattle.counted.specs.Phase.{storeOf, shownIn}
 use Rattle.commitpage.specs.Heard.{prepared}
 use Rattle.commitpage.specs.Layout.{Known, Layout}
 use Rattle.commitpage.proofs.Places.{layout1, layout2}
 use Rattle.commit.specs.Phase.{sweep, copies, topSlot}
 use Rattle.pagewrites.specs.declared.Plan.{Plan}
-use Rattle.pagewrites.specs.Phases.{sourceOf, when, writesOf}
+use Rattle.pagewrites.specs.Phases.{pageNumber, bytesOf, sourceOf, when, writesOf}
 
 -- THE RECORD WITH A NUMBER, among those below d that a test picks; d where there is none
 module _ (p : ℕ → Bool) (d : ℕ) where
@@ -134,14 +136,37 @@ skip-phase n j k xs ys e h =
 in-phase : (n j k : ℕ) (xs ys : List PageWrite) → length xs ≡ k → n < j + k → j ≤ n → writeAt (n - j) (xs ++ ys) ≡ writeAt (n - j) xs
 in-phase n j k xs ys e h g = first-at (n - j) xs ys (rw e (omega arith))
 
--- what is told of it
-pub told-write : {o : Option PageWrite} (write write′ : List ℕ) (n : ℕ) (page : Page) → o ≡ some (sets n page) → write′ ≡ n ∷ page → (0 ≡ told o write .answer) × (write′ ≡ told o write .write)
-unfolding told
-told-write write write′ n page e q = rw e (refl, q)
+-- what is told of the write with a number, by the page write that it is or is a copy of
+halves : (n : ℕ) → n % 2 ≡ 0 → n ≡ 2 * (n / 2)
+halves n e = omega (arith, e)
 
-pub told-none : {o : Option PageWrite} (write : List ℕ) → o ≡ none → (12 ≡ told o write .answer) × (write ≡ told o write .write)
-unfolding told
-told-none write e = rw e (refl, refl)
+halves-odd : (n : ℕ) → n % 2 ≢ 0 → n ≡ 2 * (n / 2) + 1
+halves-odd n h = omega (arith, h)
+
+module _ (ws : List PageWrite) where
+  numbered : (tears : Bool) (index n : ℕ) (page : Page) → writeAt (pageNumber tears index) ws ≡ some (sets n page) → writeAt index (spelledIn tears ws) ≡ some (bytesOf tears index n page)
+  numbered false index n page e = page-spelled index ws n page e
+  numbered true index n page e = go (same? (index % 2) 0)
+    where
+      go : Same (index % 2) 0 → writeAt index (spelledIn true ws) ≡ some (n ∷ index % 2 ∷ page)
+      go (is z _ _) = ap (λ (k : ℕ). writeAt k (spelledIn true ws)) (halves index z) ∙ first-spelled (index / 2) ws n page e ∙ ap (λ (c : ℕ). some (n ∷ c ∷ page)) (sym z)
+      go (isnt z _ _) =
+          let odd : 1 ≡ index % 2 = omega (arith, z) in
+          ap (λ (k : ℕ). writeAt k (spelledIn true ws)) (halves-odd index z) ∙ second-spelled (index / 2) ws n page e ∙ ap (λ (c : ℕ). some (n ∷ c ∷ page)) odd
+
+  numbered-none : (tears : Bool) (index : ℕ) → writeAt (pageNumber tears index) ws ≡ none → writeAt index (spelledIn tears ws) ≡ none
+  numbered-none false index e = pages-end index ws e
+  numbered-none true index e = copies-end (index / 2) ws index e (let z : 2 * (index / 2) ≤ index = omega arith in z)
+
+  pub told-write : (tears : Bool) (index i : ℕ) → i ≡ pageNumber tears index → (write write′ : List ℕ) (n : ℕ) (page : Page) → writeAt i ws ≡ some (sets n page) → write′ ≡ bytesOf tears index n page
+      → (let said = told (writeAt index (spelledIn tears ws)) write in (0 ≡ said .answer) × (write′ ≡ said .write))
+  unfolding told
+  told-write tears index i named write write′ n page e q = rw (numbered tears index n page (ap (λ (k : ℕ). writeAt k ws) (sym named) ∙ e)) (refl, q)
+
+  pub told-none : (tears : Bool) (index i : ℕ) → i ≡ pageNumber tears index → (write : List ℕ) → writeAt i ws ≡ none
+      → (let said = told (writeAt index (spelledIn tears ws)) write in (12 ≡ said .answer) × (write ≡ said .write))
+  unfolding told
+  told-none tears index i named write e = rw (numbered-none tears index (ap (λ (k : ℕ). writeAt k ws) (sym named) ∙ e)) (refl, refl)
 
 less : (there : Bool) (n : ℕ) {k : ℕ} → n < cond there k 0 → n < k
 less true n h = h
@@ -155,12 +180,12 @@ pub record Lengths (p : Plan) (m a b c d e : ℕ) : Type 0 where
   pub homes : d ≡ cond (p .homes) m 0
   pub emptied : e ≡ cond (p .emptied) 1 0
 
-module _ (g : Geometry) (N : ℕ) (p : Plan) (work store : List ℕ) (index m a b c d e : ℕ) (ones : m ≡ count N (named g (p .map))) (S : Lengths p m a b c d e) where
+module _ (tears : Bool) (g : Geometry) (N : ℕ) (p : Plan) (work store : List ℕ) (index m a b c d e : ℕ) (ones : m ≡ count N (named g (p .map))) (S : Lengths p m a b c d e) where
   abbrev picks : ℕ → Bool
   picks = named g (p .map)
 
   abbrev pages : ℕ → ℕ → PageWrite
-  pages first = copies first (sourceOf p work store)
+  pages first = copies first (sourceOf tears p work store)
 
   abbrev committed : PageWrite
   committed = sets 0 (commitPage g (p .map))
@@ -193,52 +218,52 @@ module _ (g : Geometry) (N : ℕ) (p : Plan) (work store : List ℕ) (index m a 
   counted there k n h lt = rw (← ones, ← h) lt
 
   -- from each phase on
-  after-1 : a ≤ index → writeAt index (writesOf g N p work store) ≡ writeAt (index - a) from-2
+  after-1 : a ≤ index → writeAt index (writesOf tears g N p work store) ≡ writeAt (index - a) from-2
   unfolding writesOf
-  after-1 h = ap (λ (i : ℕ). writeAt i (writesOf g N p work store)) (let z : index ≡ index - 0 = omega arith in z) ∙ skip-phase index 0 a (when (p .intentions) (sweep picks (pages 1) N)) from-2 (sweeps (p .intentions) (pages 1) a (S .intentions)) (omega arith) ∙ ap (λ (i : ℕ). writeAt i from-2) (let z : index - (0 + a) ≡ index - a = omega arith in z)
+  after-1 h = ap (λ (i : ℕ). writeAt i (writesOf tears g N p work store)) (let z : index ≡ index - 0 = omega arith in z) ∙ skip-phase index 0 a (when (p .intentions) (sweep picks (pages 1) N)) from-2 (sweeps (p .intentions) (pages 1) a (S .intentions)) (omega arith) ∙ ap (λ (i : ℕ). writeAt i from-2) (let z : index - (0 + a) ≡ index - a = omega arith in z)
 
-  after-2 : a + b ≤ index → writeAt index (writesOf g N p work store) ≡ writeAt (index - (a + b)) from-3
+  after-2 : a + b ≤ index → writeAt index (writesOf tears g N p work store) ≡ writeAt (index - (a + b)) from-3
   after-2 h = after-1 (omega arith) ∙ skip-phase index a b (when (p .committed) (committed ∷ [])) from-3 (single (p .committed) committed b (S .committed)) h
 
-  after-3 : a + b + c ≤ index → writeAt index (writesOf g N p work store) ≡ writeAt (index - (a + b + c)) from-4
+  after-3 : a + b + c ≤ index → writeAt index (writesOf tears g N p work store) ≡ writeAt (index - (a + b + c)) from-4
   after-3 h = after-2 (omega arith) ∙ skip-phase index (a + b) c (when (p .prepared) (held ∷ [])) from-4 (single (p .prepared) held c (S .prepared)) h
 
-  after-4 : a + b + c + d ≤ index → writeAt index (writesOf g N p work store) ≡ writeAt (index - (a + b + c + d)) from-5
+  after-4 : a + b + c + d ≤ index → writeAt index (writesOf tears g N p work store) ≡ writeAt (index - (a + b + c + d)) from-5
   after-4 h = after-3 (omega arith) ∙ skip-phase index (a + b + c) d (when (p .homes) (sweep picks (pages (1 + N)) N)) from-5 (sweeps (p .homes) (pages (1 + N)) d (S .homes)) h
 
   -- the record whose page is written
-  page-of : (first n r : ℕ) (page : Page) → r ≡ getD (those N picks) n N → page ≡ sourceOf p work store r → pages first (getD (those N picks) n N) ≡ sets (first + r) page
+  page-of : (first n r : ℕ) (page : Page) → r ≡ getD (those N picks) n N → page ≡ sourceOf tears p work store r → pages first (getD (those N picks) n N) ≡ sets (first + r) page
   unfolding copies
-  page-of first n r page q z = ap (λ (k : ℕ). sets (first + k) (sourceOf p work store k)) (sym q) ∙ ap (sets (first + r)) (sym z)
+  page-of first n r page q z = ap (λ (k : ℕ). sets (first + k) (sourceOf tears p work store k)) (sym q) ∙ ap (sets (first + r)) (sym z)
 
-  pub in-1 : index < a → (r : ℕ) (page : Page) → r ≡ getD (those N picks) index N → page ≡ sourceOf p work store r → writeAt index (writesOf g N p work store) ≡ some (sets (1 + r) page)
+  pub in-1 : index < a → (r : ℕ) (page : Page) → r ≡ getD (those N picks) index N → page ≡ sourceOf tears p work store r → writeAt index (writesOf tears g N p work store) ≡ some (sets (1 + r) page)
   unfolding writesOf
   in-1 h r page q z =
       first-at index (when (p .intentions) (sweep picks (pages 1) N)) from-2 (rw (sweeps (p .intentions) (pages 1) a (S .intentions)) h)
       ∙ sweep-at N (p .intentions) index picks (pages 1) (counted (p .intentions) a index (S .intentions) h)
       ∙ ap some (page-of 1 index r page q z)
 
-  pub in-2 : a ≤ index → index < a + b → writeAt index (writesOf g N p work store) ≡ some committed
+  pub in-2 : a ≤ index → index < a + b → writeAt index (writesOf tears g N p work store) ≡ some committed
   in-2 l h =
       after-1 l ∙ in-phase index a b (when (p .committed) (committed ∷ [])) from-3 (single (p .committed) committed b (S .committed)) h l
       ∙ one-at (p .committed) (index - a) committed (rw (← S .committed) (omega arith))
 
-  pub in-3 : a + b ≤ index → index < a + b + c → writeAt index (writesOf g N p work store) ≡ some held
+  pub in-3 : a + b ≤ index → index < a + b + c → writeAt index (writesOf tears g N p work store) ≡ some held
   in-3 l h =
       after-2 l ∙ in-phase index (a + b) c (when (p .prepared) (held ∷ [])) from-4 (single (p .prepared) held c (S .prepared)) h l
       ∙ one-at (p .prepared) (index - (a + b)) held (rw (← S .prepared) (omega arith))
 
-  pub in-4 : a + b + c ≤ index → index < a + b + c + d → (r : ℕ) (page : Page) → r ≡ getD (those N picks) (index - (a + b + c)) N → page ≡ sourceOf p work store r
-      → writeAt index (writesOf g N p work store) ≡ some (sets (1 + N + r) page)
+  pub in-4 : a + b + c ≤ index → index < a + b + c + d → (r : ℕ) (page : Page) → r ≡ getD (those N picks) (index - (a + b + c)) N → page ≡ sourceOf tears p work store r
+      → writeAt index (writesOf tears g N p work store) ≡ some (sets (1 + N + r) page)
   in-4 l h r page q z =
       after-3 l ∙ in-phase index (a + b + c) d (when (p .homes) (sweep picks (pages (1 + N)) N)) from-5 (sweeps (p .homes) (pages (1 + N)) d (S .homes)) h l
       ∙ sweep-at N (p .homes) (index - (a + b + c)) picks (pages (1 + N)) (counted (p .homes) d (index - (a + b + c)) (S .homes) (omega arith))
       ∙ ap some (page-of (1 + N) (index - (a + b + c)) r page q z)
 
-  pub in-5 : a + b + c + d ≤ index → index < a + b + c + d + e → writeAt index (writesOf g N p work store) ≡ some empty
+  pub in-5 : a + b + c + d ≤ index → index < a + b + c + d + e → writeAt index (writesOf tears g N p work store) ≡ some empty
   in-5 l h = after-4 l ∙ one-at (p .emptied) (index - (a + b + c + d)) empty (rw (← S .emptied) (omega arith))
 
-  pub in-none : a + b + c + d + e ≤ index → writeAt index (writesOf g N p work store) ≡ none
+  pub in-none : a + b + c + d + e ≤ index → writeAt index (writesOf tears g N p work store) ≡ none
   in-none h = after-4 (omega arith) ∙ past-at (index - (a + b + c + d)) from-5 (rw (single (p .emptied) empty e (S .emptied)) (omega arith))
 
   -- a record with a number that there is
@@ -279,20 +304,52 @@ one-more-least true n r x e h = omega (arith, e, h)
 one-more-least false n r x e h = omega (arith, e, h)
 
 -- the page that is written
-pub source-stored : (p : Plan) (work store : List ℕ) (r : ℕ) (page : Page) → page ≡ pagesOf store (1 + r) → p .stored ≡ true → page ≡ sourceOf p work store r
+pub source-stored : (tears : Bool) (p : Plan) (work store : List ℕ) (r : ℕ) (page : Page) → page ≡ shownIn tears (storeOf tears store) (1 + r) → p .stored ≡ true → page ≡ sourceOf tears p work store r
 unfolding sourceOf
-source-stored p work store r page e q = e ∙ rw q
+source-stored tears p work store r page e q = e ∙ rw q
 
-pub source-version : (p : Plan) (work store : List ℕ) (r : ℕ) (page : Page) → page ≡ pagesOf work (r * depths) → p .stored ≡ false → page ≡ sourceOf p work store r
+pub source-version : (tears : Bool) (p : Plan) (work store : List ℕ) (r : ℕ) (page : Page) → page ≡ pagesOf work (r * depths) → p .stored ≡ false → page ≡ sourceOf tears p work store r
 unfolding sourceOf topSlot
-source-version p work store r page e q = e ∙ rw q
+source-version tears p work store r page e q = e ∙ rw q
 
--- the number before the page
-pub spelled : (l part page : List ℕ) (n : ℕ) → length l ≡ 33 → part ≡ page → putMid 1 (33 - 1) (set l 0 n) part ≡ n ∷ page
+-- the number before the page, and the copy's number between them
+spelled : (l part page : List ℕ) (n : ℕ) → length l ≡ 33 → part ≡ page → putMid 1 (33 - 1) (set l 0 n) part ≡ n ∷ page
 spelled [] part page n h e = absurd (omega (arith, h))
 spelled (x ∷ xs) part page n h e =
     put-at 1 32 (n ∷ xs) part ∙ ap (λ (l : List ℕ). n ∷ (part ++ l)) (ap (λ (k : ℕ). drop k xs) (let z : 32 ≡ length xs = omega (arith, h) in z) ∙ drop-length xs)
     ∙ ap (λ (l : List ℕ). n ∷ l) (append-nil part ∙ e)
+
+spelled-copy : (l part page : List ℕ) (n c : ℕ) → length l ≡ 34 → part ≡ page → putMid 2 (34 - 2) (set (set l 0 n) 1 c) part ≡ n ∷ c ∷ page
+spelled-copy [] part page n c h e = absurd (omega (arith, h))
+spelled-copy (x ∷ []) part page n c h e = absurd (omega (arith, h))
+spelled-copy (x ∷ y ∷ xs) part page n c h e =
+    put-at 2 32 (n ∷ c ∷ xs) part ∙ ap (λ (l : List ℕ). n ∷ c ∷ (part ++ l)) (ap (λ (k : ℕ). drop k xs) (let z : 32 ≡ length xs = omega (arith, h) in z) ∙ drop-length xs)
+    ∙ ap (λ (l : List ℕ). n ∷ c ∷ l) (append-nil part ∙ e)
+
+-- the buffer for a write, by the code's test
+pub sized-copy : (tears : Bool) (l : List ℕ) → tears ≡ true → length l ≡ writeSize tears → length l ≡ 34
+sized-copy true l q e = e
+sized-copy false l q e = absurd (true≢false (sym q))
+
+pub sized-page : (tears : Bool) (l : List ℕ) → tears ≡ false → length l ≡ writeSize tears → length l ≡ 33
+sized-page true l q e = absurd (true≢false q)
+sized-page false l q e = e
+
+pub at-least : (tears : Bool) (l : List ℕ) → length l ≡ writeSize tears → 0 < length l
+at-least true l e = omega (arith, e)
+at-least false l e = omega (arith, e)
+
+pub put-copy : (tears : Bool) (l part page : List ℕ) (index n : ℕ) → tears ≡ true → length l ≡ writeSize tears → part ≡ page → putMid 2 (34 - 2) (set (set l 0 n) 1 (index % 2)) part ≡ bytesOf tears index n page
+put-copy true l part page index n q h e = spelled-copy l part page n (index % 2) h e
+put-copy false l part page index n q h e = absurd (true≢false (sym q))
+
+pub put-whole : (tears : Bool) (l part page : List ℕ) (index n : ℕ) → tears ≡ false → length l ≡ writeSize tears → part ≡ page → putMid 1 (33 - 1) (set l 0 n) part ≡ bytesOf tears index n page
+put-whole true l part page index n q h e = absurd (true≢false q)
+put-whole false l part page index n q h e = spelled l part page n h e
+
+pub bytes-long : (tears : Bool) (index n : ℕ) (page : List ℕ) → length page ≡ 32 → length (bytesOf tears index n page) ≡ writeSize tears
+bytes-long false index n page h = ap suc h
+bytes-long true index n page h = ap (λ (k : ℕ). suc (suc k)) h
 
 pub within : (x : ℕ) (there : Bool) (n : ℕ) → x ≡ cond there n 0 → x ≤ n
 within x true n e = omega (arith, e)

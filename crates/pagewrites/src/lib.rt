@@ -1,8 +1,9 @@
-// The page writes of an event one by one, before it is played: which of them a number names is told from the map of the records that it changes. For any
-// edition: there are `records` records, and `joint` tells whether transactions can be prepared.
+// The writes of an event one by one, before it is played: which of them a number names is told from the map of the records that it changes. For any
+// edition: there are `records` records, `joint` tells whether transactions can be prepared, and `tears` whether pages can tear: then every page write is two
+// copy writes.
 ghost use mathlib.Core.Path.{_≡_};
 ghost use mathlib.Core.Bool.{Bool, true, false, cond};
-ghost use mathlib.Core.List.{List, _∷_};
+ghost use mathlib.Core.List.{List};
 ghost use mathlib.Core.Option.{some};
 ghost use Prim.Native.Nat.{ℕ, _+_, _*_, _^_, _<_, _≤_};
 ghost use lib.ListN.{length, getD};
@@ -10,16 +11,16 @@ ghost use Rattle.laws.specs.Counting.{those};
 ghost use Rattle.rules.specs.Geometry.{Geometry};
 ghost use Rattle.rules.specs.Store.{named};
 ghost use Rattle.rules.specs.Event.{recover, decide};
-ghost use Rattle.rules.specs.Form.{atomic};
-ghost use Rattle.rules.specs.Editions.{Edition, geometryOf, InNumbers};
+ghost use Rattle.rules.specs.Editions.{Edition, geometryOf, formIn, InNumbers};
 ghost use Rattle.device.specs.Plan.{writeAt};
-ghost use Rattle.device.specs.Asked.{told, planFor};
+ghost use Rattle.device.specs.Asked.{told, spelledIn, writeSize, saidOf};
+ghost use Rattle.counted.specs.Phase.{strideOf};
 ghost use Rattle.commitpage.specs.Layout.{Known, Layout};
 ghost use Rattle.commits.specs.Settling.{settling};
 ghost use Rattle.numbers.specs.Named.{transactionOf};
 ghost use Rattle.event.specs.Meaning.{meaning};
 ghost use Rattle.state.specs.Whole.{arrays, view, Intact, Reserves};
-ghost use Rattle.pagewrites.specs.Phases.{nothing, ofTop, ofRecovery, ofDecision, sourceOf, writesOf, Plans};
+ghost use Rattle.pagewrites.specs.Phases.{nothing, ofTop, ofRecovery, ofDecision, pageNumber, bytesOf, sourceOf, writesOf, Plans};
 use event::Event;
 use numbers::TransactionNamed;
 use numbers::TransactionNumber;
@@ -144,69 +145,111 @@ fn record_at(map: u64, records: u8, n: u8) -> u8
     at
 }
 
-// A page write as bytes: the page's number, then the page.
-fn put_write(write: &mut [u8], number: u8, page: [u8; 32])
-    requires { ⌜ length (now write) ≡ 33 ⌝ }
-    ensures { λ _. ⌜ now (write .exit) ≡ number ∷ page ⌝ }
+// The page write that the write with this number is, or is a copy of.
+fn page_number(tears: bool, index: u8) -> u8
+    ensures { λ r. ⌜ r ≡ pageNumber tears index ⌝ }
+{
+    if tears {
+        return index / 2;
+    }
+    index
+}
+
+// The write with this number as bytes: the page's number, then the page. Where pages tear the number of the copy stands between them, 0 for the first and 1
+// for the second.
+fn put_write(write: &mut [u8], tears: bool, index: u8, number: u8, page: [u8; 32])
+    requires { ⌜ length (now write) ≡ writeSize tears ⌝ }
+    ensures { λ _. ⌜ now (write .exit) ≡ bytesOf tears index number page ⌝ }
 {
     write[0] = number;
+    if tears {
+        write[1] = index % 2;
+        page::write_page(&mut write[2..34], page);
+        return;
+    }
     page::write_page(&mut write[1..33], page);
 }
 
 // The page that is written for record r.
-fn page_for(p: Plan, r: u8, work: &[u8], store: &[u8]) -> [u8; 32]
-    requires { ⌜ (r < 64) × (512 * r + 32 ≤ length (now work)) × (32 * r + 64 ≤ length (now store)) ⌝ }
-    ensures { λ x. ⌜ x ≡ sourceOf p (now (work .entry)) (now (store .entry)) r ⌝ }
+fn page_for(p: Plan, r: u8, work: &[u8], store: &[u8], tears: bool) -> [u8; 32]
+    requires { ⌜ (r < 64) × (512 * r + 32 ≤ length (now work)) × (strideOf tears * (1 + r) + strideOf tears ≤ length (now store)) ⌝ }
+    ensures { λ x. ⌜ x ≡ sourceOf tears p (now (work .entry)) (now (store .entry)) r ⌝ }
 {
     let n = r as usize;
     if p.stored {
-        return page::get_page(store, 1 + n);
+        return counted::get_page(store, tears, 1 + n);
     }
     page::get_page(work, n * page::DEPTHS)
 }
 
-// The page write number `index` of a plan: 0, or 12 where there is none.
+// The write number `index` of a plan: 0, or 12 where there is none.
 fn put_numbered(
     p: Plan,
     work: &[u8],
     store: &[u8],
     records: usize,
+    tears: bool,
     index: u8,
     write: &mut [u8],
 ) -> u8
     requires { ⌜ Known records × (p .map < 2 ^ records) × (p .prepared ≡ true → records ≡ 16) × (length (now work) ≡ 512 * records)
-        × (length (now store) ≡ 32 * (1 + (records + records))) × (length (now write) ≡ 33) ⌝ }
+        × (length (now store) ≡ strideOf tears * (1 + (records + records))) × (length (now write) ≡ writeSize tears) ⌝ }
     ensures { λ r. ⌜ ((g : Geometry) →
-        let said = told (writeAt index (writesOf g records p (now (work .entry)) (now (store .entry)))) (now (write .entry)) in
+        let said = told (writeAt index (spelledIn tears (writesOf tears g records p (now (work .entry)) (now (store .entry))))) (now (write .entry)) in
         Layout g records → (r ≡ said .answer) × (now (write .exit) ≡ said .write)) ⌝ }
 {
     let n = records as u8;
+    let i = page_number(tears, index);
     let m = commitpage::ones(p.map);
     let a = length_if(p.intentions, m);
     let b = a + length_if(p.committed, 1);
     let c = b + length_if(p.prepared, 1);
     let d = c + length_if(p.homes, m);
     let e = d + length_if(p.emptied, 1);
-    if index < a {
-        let r = record_at(p.map, n, index);
-        put_write(write, 1 + r, page_for(p, r, work, store));
+    if i < a {
+        let r = record_at(p.map, n, i);
+        put_write(
+            write,
+            tears,
+            index,
+            1 + r,
+            page_for(p, r, work, store, tears),
+        );
         return 0;
     }
-    if index < b {
-        put_write(write, 0, commitpage::commit_page(p.map, records));
+    if i < b {
+        put_write(
+            write,
+            tears,
+            index,
+            0,
+            commitpage::commit_page(p.map, records),
+        );
         return 0;
     }
-    if index < c {
-        put_write(write, 0, commitpage::prepared_page(p.map, p.identity));
+    if i < c {
+        put_write(
+            write,
+            tears,
+            index,
+            0,
+            commitpage::prepared_page(p.map, p.identity),
+        );
         return 0;
     }
-    if index < d {
-        let s = record_at(p.map, n, index - c);
-        put_write(write, 1 + n + s, page_for(p, s, work, store));
+    if i < d {
+        let s = record_at(p.map, n, i - c);
+        put_write(
+            write,
+            tears,
+            index,
+            1 + n + s,
+            page_for(p, s, work, store, tears),
+        );
         return 0;
     }
-    if index < e {
-        put_write(write, 0, commitpage::commit_page(0, records));
+    if i < e {
+        put_write(write, tears, index, 0, commitpage::commit_page(0, records));
         return 0;
     }
     12
@@ -226,10 +269,10 @@ fn top_plan(
 ) -> Plan
     requires { ⌜ (records ≤ 64) × (prepares ≡ true → records ≡ 16) × (length (now parent) ≡ 24) × (length (now depth) ≡ 24) × (length (now writers) ≡ records)
         × ((u : ℕ) → getD (now parent) u 0 < 32) ⌝ }
-    ensures { λ p. ⌜ ((edition : Edition) (joint : Bool) (line held retained work store : List ℕ) (k i : ℕ) →
+    ensures { λ p. ⌜ ((edition : Edition) (joint tears : Bool) (line held retained work store : List ℕ) (k i : ℕ) →
         let x = arrays up (now (parent .entry)) (now (depth .entry)) line held retained (now (writers .entry)) work store in
-        InNumbers edition records joint false → Intact (atomic (geometryOf edition)) x → Reserves false (geometryOf edition) store reserved i
-        → Plans (geometryOf edition) records x (some (settling prepares (transactionOf t) k identity)) p) ⌝ }
+        InNumbers edition records joint tears → Intact (formIn tears (geometryOf edition)) x → Reserves tears (geometryOf edition) store reserved i
+        → Plans tears (geometryOf edition) records x (some (settling prepares (transactionOf t) k identity)) p) ⌝ }
     ensures { λ p. ⌜ (p .map < 2 ^ records) × (p .prepared ≡ true → records ≡ 16) ⌝ }
 {
     let n = t.number();
@@ -255,17 +298,17 @@ fn top_plan(
 }
 
 // Of a recovery: none where it is refused.
-fn recovery_plan(up: u8, store: &[u8], records: usize, joint: bool) -> Plan
-    requires { ⌜ Known records × (joint ≡ true → records ≡ 16) × (length (now store) ≡ 32 * (1 + (records + records))) ⌝ }
+fn recovery_plan(up: u8, store: &[u8], records: usize, joint: bool, tears: bool) -> Plan
+    requires { ⌜ Known records × (joint ≡ true → records ≡ 16) × (length (now store) ≡ strideOf tears * (1 + (records + records))) ⌝ }
     ensures { λ p. ⌜ ((edition : Edition) (parent depth line held retained writers work : List ℕ) (k : ℕ) →
         let x = arrays up parent depth line held retained writers work (now (store .entry)) in
-        InNumbers edition records joint false → Intact (atomic (geometryOf edition)) x → Plans (geometryOf edition) records x (some (recover k)) p) ⌝ }
+        InNumbers edition records joint tears → Intact (formIn tears (geometryOf edition)) x → Plans tears (geometryOf edition) records x (some (recover k)) p) ⌝ }
     ensures { λ p. ⌜ (p .map < 2 ^ records) × (p .prepared ≡ true → records ≡ 16) ⌝ }
 {
     if up == 1 {
         return none();
     }
-    let c = commit::read_map(store, records, joint, false);
+    let c = commit::read_map(store, records, joint, tears);
     let map = c.map;
     if !c.good {
         return none();
@@ -276,10 +319,10 @@ fn recovery_plan(up: u8, store: &[u8], records: usize, joint: bool) -> Plan
 // Of the decision on identity i: none while down, and none on another than the prepared one.
 fn decision_plan(up: u8, records: usize, reserved: u64, identity: u8, commits: bool, i: u8) -> Plan
     requires { ⌜ reserved < 2 ^ records ⌝ }
-    ensures { λ p. ⌜ ((edition : Edition) (joint : Bool) (parent depth line held retained writers work store : List ℕ) (k : ℕ) →
+    ensures { λ p. ⌜ ((edition : Edition) (joint tears : Bool) (parent depth line held retained writers work store : List ℕ) (k : ℕ) →
         let x = arrays up parent depth line held retained writers work store in
-        InNumbers edition records joint false → Intact (atomic (geometryOf edition)) x → Reserves false (geometryOf edition) store reserved identity
-        → Plans (geometryOf edition) records x (some (decide commits k i)) p) ⌝ }
+        InNumbers edition records joint tears → Intact (formIn tears (geometryOf edition)) x → Reserves tears (geometryOf edition) store reserved identity
+        → Plans tears (geometryOf edition) records x (some (decide commits k i)) p) ⌝ }
     ensures { λ p. ⌜ (p .map < 2 ^ records) × (p .prepared ≡ true → records ≡ 16) ⌝ }
 {
     if up != 1 {
@@ -300,19 +343,20 @@ fn plan_of(
     store: &[u8],
     records: usize,
     joint: bool,
+    tears: bool,
     e: Event,
 ) -> Plan
     requires { ⌜ Known records × (joint ≡ true → records ≡ 16) × (8 < e .kind → joint ≡ true) × (length (now parent) ≡ 24) × (length (now depth) ≡ 24)
-        × (length (now writers) ≡ records) × (length (now store) ≡ 32 * (1 + (records + records))) × ((u : ℕ) → getD (now parent) u 0 < 32) ⌝ }
+        × (length (now writers) ≡ records) × (length (now store) ≡ strideOf tears * (1 + (records + records))) × ((u : ℕ) → getD (now parent) u 0 < 32) ⌝ }
     ensures { λ p. ⌜ ((edition : Edition) (line held retained work : List ℕ) →
         let x = arrays up (now (parent .entry)) (now (depth .entry)) line held retained (now (writers .entry)) work (now (store .entry)) in
-        InNumbers edition records joint false → Intact (atomic (geometryOf edition)) x → Plans (geometryOf edition) records x (meaning e) p) ⌝ }
+        InNumbers edition records joint tears → Intact (formIn tears (geometryOf edition)) x → Plans tears (geometryOf edition) records x (meaning e) p) ⌝ }
     ensures { λ p. ⌜ (p .map < 2 ^ records) × (p .prepared ≡ true → records ≡ 16) ⌝ }
 {
     let kind = e.kind;
-    let held = commit::read_held(store, records, joint, false);
+    let held = commit::read_held(store, records, joint, tears);
     if kind == 8 {
-        return recovery_plan(up, store, records, joint);
+        return recovery_plan(up, store, records, joint, tears);
     }
     if kind == 10 {
         return decision_plan(up, records, held.map, held.identity, e.offset != 0, e.value);
@@ -336,8 +380,7 @@ fn plan_of(
     none()
 }
 
-// The page write number `index`, from 0, that an event makes if nothing cuts it: 0, with the page's number and the page in `write`; or 12 where there
-// is none. Nothing is played.
+// The write number `index`, from 0, that an event makes if nothing cuts it: 0, with its bytes in `write`; or 12 where there is none. Nothing is played.
 pub fn page_write(
     up: u8,
     parent: &[u8; 24],
@@ -347,18 +390,19 @@ pub fn page_write(
     store: &[u8],
     records: usize,
     joint: bool,
+    tears: bool,
     e: Event,
     index: u8,
     write: &mut [u8],
 ) -> u8
     requires { ⌜ Known records × (joint ≡ true → records ≡ 16) × (8 < e .kind → joint ≡ true) × (length (now parent) ≡ 24) × (length (now depth) ≡ 24)
-        × (length (now writers) ≡ records) × (length (now work) ≡ 512 * records) × (length (now store) ≡ 32 * (1 + (records + records)))
-        × (length (now write) ≡ 33) × ((u : ℕ) → getD (now parent) u 0 < 32) ⌝ }
+        × (length (now writers) ≡ records) × (length (now work) ≡ 512 * records) × (length (now store) ≡ strideOf tears * (1 + (records + records)))
+        × (length (now write) ≡ writeSize tears) × ((u : ℕ) → getD (now parent) u 0 < 32) ⌝ }
     ensures { λ r. ⌜ ((edition : Edition) (line held retained : List ℕ) →
         let x = arrays up (now (parent .entry)) (now (depth .entry)) line held retained (now (writers .entry)) (now (work .entry)) (now (store .entry)) in
-        let said = told (writeAt index (planFor (geometryOf edition) (view (atomic (geometryOf edition)) x) (meaning e))) (now (write .entry)) in
-        InNumbers edition records joint false → Intact (atomic (geometryOf edition)) x → (r ≡ said .answer) × (now (write .exit) ≡ said .write)) ⌝ }
+        let said = saidOf tears (geometryOf edition) (view (formIn tears (geometryOf edition)) x) (meaning e) index (now (write .entry)) in
+        InNumbers edition records joint tears → Intact (formIn tears (geometryOf edition)) x → (r ≡ said .answer) × (now (write .exit) ≡ said .write)) ⌝ }
 {
-    let p = plan_of(up, parent, depth, writers, store, records, joint, e);
-    put_numbered(p, work, store, records, index, write)
+    let p = plan_of(up, parent, depth, writers, store, records, joint, tears, e);
+    put_numbered(p, work, store, records, tears, index, write)
 }

@@ -1,21 +1,24 @@
-// Whether the flag, the live transactions, the locks and the commit page go together.
+// Whether the flag, the live transactions, the locks and the store go together.
 ghost use mathlib.Core.Path.{_≡_};
 ghost use mathlib.Core.Bool.{true};
 ghost use mathlib.Core.List.{List};
-ghost use Prim.Native.Nat.{ℕ};
+ghost use Prim.Native.Nat.{ℕ, _*_};
 ghost use lib.ListN.{length};
 ghost use Rattle.laws.specs.Bits.{bits};
 ghost use Rattle.rules.specs.Store.{readCommit, isEmptied, readPrepared};
-ghost use Rattle.rules.specs.Editions.{geometry1};
+ghost use Rattle.rules.specs.Geometry.{Geometry, records};
+ghost use Rattle.rules.specs.Editions.{Edition, geometryOf, InNumbers};
 ghost use Rattle.arrays.specs.Kin.{livesIn};
 ghost use Rattle.commitpage.specs.Heard.{overheard};
+ghost use Rattle.commitpage.specs.Layout.{Layout};
+ghost use Rattle.counted.specs.Phase.{strideOf};
 ghost use Rattle.clauses.specs.Decides.{Decides};
 ghost use Rattle.clauses.specs.Clauses.{Unlocked, Phase};
 
 // Nobody has a lock of the records that a map names.
 fn are_unlocked(map: u64, held: &[u32; 32], retained: &[u32; 32]) -> bool
     requires { ⌜ (length (now held) ≡ 32) × (length (now retained) ≡ 32) ⌝ }
-    ensures { λ b. ⌜ Decides b (Unlocked map (now (held .entry)) (now (retained .entry))) ⌝ }
+    ensures { λ b. ⌜ ((g : Geometry) → records g ≡ 16 → Decides b (Unlocked g map (now (held .entry)) (now (retained .entry)))) ⌝ }
 {
     if map == 0 {
         return true;
@@ -30,34 +33,40 @@ fn are_unlocked(map: u64, held: &[u32; 32], retained: &[u32; 32]) -> bool
 }
 
 // The map of the prepared transaction, 0 where there is none. An empty commit page has none, and isn't read a second time.
-fn prepared_map(page: [u8; 32], empty: bool) -> u64
-    requires { ⌜ (empty ≡ true → isEmptied (readCommit geometry1 page) ≡ true) ⌝ }
-    ensures { λ r. ⌜ r ≡ overheard (readPrepared geometry1 page) .map ⌝ }
+fn prepared_map(page: [u8; 32], empty: bool, joint: bool) -> u64
+    requires { ⌜ ((g : Geometry) → Layout g 16 → empty ≡ true → isEmptied (readCommit g page) ≡ true) ⌝ }
+    ensures { λ r. ⌜ ((g : Geometry) → Layout g 16 → g .joint ≡ joint → r ≡ overheard (readPrepared g page) .map) ⌝ }
 {
     if empty {
         return 0;
     }
-    let p = commitpage::read_prepared(page, 16, true);
+    let p = commitpage::read_prepared(page, 16, joint);
     p.map
 }
 
-// The flag is 0 or 1, nothing is live while down, the commit page is empty or prepared while up, and nobody has a lock of a record that the prepared
-// transaction changed. The commit page is read as a map's, and where it isn't empty as a prepared transaction's.
-pub fn is_phase(up: u8, live: u32, held: &[u32; 32], retained: &[u32; 32], store: &[u8]) -> bool
-    requires { ⌜ (length (now held) ≡ 32) × (length (now retained) ≡ 32) × (length (now store) ≡ 1056) ⌝ }
-    ensures { λ r. ⌜ ((depth : List ℕ) → bits live ≡ livesIn depth → Decides r (Phase up depth (now (held .entry)) (now (retained .entry)) (now (store .entry)))) ⌝ }
+// The flag is 0 or 1, nothing is live while down, while up the commit page is empty or prepared and every page whole, and nobody has a lock of a record that
+// the prepared transaction changed.
+pub fn is_phase(
+    up: u8,
+    live: u32,
+    held: &[u32; 32],
+    retained: &[u32; 32],
+    store: &[u8],
+    joint: bool,
+    tears: bool,
+) -> bool
+    requires { ⌜ (length (now held) ≡ 32) × (length (now retained) ≡ 32) × (length (now store) ≡ strideOf tears * 33) ⌝ }
+    ensures { λ r. ⌜ ((edition : Edition) (depth : List ℕ) → InNumbers edition 16 joint tears → bits live ≡ livesIn depth
+        → Decides r (Phase tears (geometryOf edition) up depth (now (held .entry)) (now (retained .entry)) (now (store .entry)))) ⌝ }
 {
     let idle = sets::within(live, 0);
-    let page = page::get_page(store, 0);
-    let c = commitpage::read_commit(page, 16);
-    let good = c.good;
-    let empty = c.map == 0;
-    let map = prepared_map(page, good & empty);
+    let empty = calm::is_emptied(store, tears, 16);
+    let map = prepared_map(counted::get_page(store, tears, 0), empty, joint);
     let unlocked = are_unlocked(map, held, retained);
     let prepared = map != 0;
     let is_up = up == 1;
     let flag = up <= 1;
     let down_idle = is_up | idle;
-    let up_calm = !is_up | (good & empty | prepared);
+    let up_calm = !is_up | (empty | prepared);
     flag & down_idle & up_calm & unlocked
 }

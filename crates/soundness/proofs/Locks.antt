@@ -12,7 +12,7 @@ use Rattle.laws.proofs.Tests.{same-eq, same-refl}
 use Rattle.laws.proofs.Booleans.{or-cases, or-left, or-right}
 use Rattle.rules.specs.State.{isActive, lineOf, mem, live, holds, retains, holdsWriting, retainsWriting}
 use Rattle.rules.specs.Sound.{Sound, inLine}
-use Rattle.rules.specs.Editions.{edition1}
+use Rattle.rules.specs.Form.{Form}
 use Rattle.sets.specs.Sets.{sets}
 use Rattle.sets.proofs.Sets.{sets-past}
 use Rattle.arrays.specs.View.{bearersOf, anyMode, writeMode, Nested}
@@ -160,10 +160,10 @@ locks-of parent depth held retained writers low L r k = record {
         (λ f. or-cases (writeMode (sets held) r u) (writeMode (sets retained) r u) (L .by-lock u r f) (held-live u) (retained-live u))
 
 -- the locks of a sound state
-pub locked-of : (up : ℕ) (parent depth line held retained writers work store : List ℕ) → Nested (sets held) → Nested (sets retained)
-    → Sound edition1 (view edition1 (arrays up parent depth line held retained writers work store)) → Locked parent depth held retained writers
+pub locked-of : (form : Form) (up : ℕ) (parent depth line held retained writers work store : List ℕ) → Nested (sets held) → Nested (sets retained)
+    → Sound form (view form (arrays up parent depth line held retained writers work store)) → Locked parent depth held retained writers
 unfolding live holds retains holdsWriting retainsWriting view
-locked-of up parent depth line held retained writers work store H M S =
+locked-of form up parent depth line held retained writers work store H M S =
     let h = lock-is (sets held) H in
     let m = lock-is (sets retained) M in
     let v = writing-is (sets held) in

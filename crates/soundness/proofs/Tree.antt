@@ -11,7 +11,8 @@ use Rattle.laws.specs.Tests.{same}
 use Rattle.laws.specs.Bits.{bits}
 use Rattle.rules.specs.State.{Bearers, active, isActive, chain, lineOf, mem, live, open-state}
 use Rattle.rules.specs.Sound.{Sound}
-use Rattle.rules.specs.Editions.{edition1, depths}
+use Rattle.rules.specs.Form.{Form}
+use Rattle.rules.specs.Editions.{depths}
 use Rattle.rules.proofs.Bearers.{Rooted, parent-line}
 use Rattle.rules.proofs.Locks.{rooted-of}
 use Rattle.sets.specs.Sets.{sets}
@@ -105,8 +106,8 @@ module _ (parent depth line : List ℕ) (long : length depth ≡ 24) (E : (t : �
   tree-shallow t = dite (decLt 0 (getD depth t 0)) (λ lt. E t .seated lt .shallow) (λ ge. omega arith)
 
 -- and back
-module _ (up : ℕ) (parent depth line held retained writers work store : List ℕ)
-    (S : Sound edition1 (view edition1 (arrays up parent depth line held retained writers work store)))
+module _ (form : Form) (deep : form .geometry .depthLimit ≡ depths) (up : ℕ) (parent depth line held retained writers work store : List ℕ)
+    (S : Sound form (view form (arrays up parent depth line held retained writers work store)))
     (lines : sets line ≡ (λ t u. mem u (lineOf (bearersOf parent depth) t)))
     (tidy : (t : ℕ) → getD depth t 0 ≡ 0 → getD parent t 0 ≡ 0) where
   pub entry-of : (t : ℕ) → Entry parent depth line t
@@ -116,7 +117,7 @@ module _ (up : ℕ) (parent depth line held retained writers work store : List �
     seated = λ h. let q = borne parent depth t h in record {
       parented = go (S .parented t (getD parent t 0) (getD depth t 0) q);
       level = S .level t (getD parent t 0) (getD depth t 0) q ∙ ap suc (depth-is parent depth (getD parent t 0));
-      shallow = let k = S .shallow t in let l = depth-is parent depth t in omega arith;
+      shallow = let k = S .shallow t in let l = depth-is parent depth t in omega (arith, deep);
       lined = ap (λ (f : ℕ → ℕ → Bool). f t) lines
           ∙ fun-ext (λ u. next-line (rooted-of S) t (getD parent t 0) (getD depth t 0) u q)
           ∙ sym (ap {B = ℕ → Bool} (λ (f : ℕ → ℕ → Bool) (u : ℕ). f (getD parent t 0) u || same u t) lines);

@@ -15,7 +15,7 @@ use Rattle.laws.proofs.Booleans.{clash}
 use Rattle.rules.specs.State.{Bearers, Modes, depthIn, parentIn, isLock, isWriting, lineOf, mem}
 use Rattle.rules.specs.Step.{StateOf}
 use Rattle.rules.specs.Versions.{isSome}
-use Rattle.rules.specs.Editions.{edition1}
+use Rattle.rules.specs.Form.{Form}
 use Rattle.sets.specs.Sets.{sets}
 use Rattle.arrays.specs.View.{bearersOf, anyMode, writeMode, modesOf, Nested}
 use Rattle.arrays.proofs.View.{depth-is, parent-is, some-is}
@@ -53,13 +53,13 @@ same-flag a b h k e = go (same? a 1) (same? b 1)
     go (isnt p s _) (is q u _) = clash u (sym e ∙ s)
     go (isnt p s _) (isnt q u _) = omega arith
 
-module _ (up : ℕ) (parent depth line held retained writers work store : List ℕ)
+module _ (form : Form) (up : ℕ) (parent depth line held retained writers work store : List ℕ)
     (up′ : ℕ) (parent′ depth′ line′ held′ retained′ writers′ work′ store′ : List ℕ)
-    (N : Intact edition1 (arrays up parent depth line held retained writers work store)) (N′ : Intact edition1 (arrays up′ parent′ depth′ line′ held′ retained′ writers′ work′ store′))
-    (e : view edition1 (arrays up parent depth line held retained writers work store) ≡ view edition1 (arrays up′ parent′ depth′ line′ held′ retained′ writers′ work′ store′)) where
+    (N : Intact form (arrays up parent depth line held retained writers work store)) (N′ : Intact form (arrays up′ parent′ depth′ line′ held′ retained′ writers′ work′ store′))
+    (e : view form (arrays up parent depth line held retained writers work store) ≡ view form (arrays up′ parent′ depth′ line′ held′ retained′ writers′ work′ store′)) where
   bearers : bearersOf parent depth ≡ bearersOf parent′ depth′
   unfolding view
-  bearers = ap (λ (s : StateOf edition1). s .bearer) e
+  bearers = ap (λ (s : StateOf form). s .bearer) e
 
   depth-same : (t : ℕ) → getD depth t 0 ≡ getD depth′ t 0
   depth-same t = sym (depth-is parent depth t) ∙ ap (λ (b : Bearers). depthIn (b t)) bearers ∙ depth-is parent′ depth′ t
@@ -73,17 +73,17 @@ module _ (up : ℕ) (parent depth line held retained writers work store : List �
   unfolding view
   writers-same =
       fun-ext (λ r. fun-ext (λ t.
-      sym (some-is depth writers work t r) ∙ ap (λ (s : StateOf edition1). isSome (s .version t r)) e ∙ some-is depth′ writers′ work′ t r))
+      sym (some-is depth writers work t r) ∙ ap (λ (s : StateOf form). isSome (s .version t r)) e ∙ some-is depth′ writers′ work′ t r))
 
   pub encoding-unique : Alike up parent depth line held retained writers up′ parent′ depth′ line′ held′ retained′ writers′
   unfolding view lineIn
   encoding-unique = record {
-    ups = same-flag up up′ (N .form .flag) (N′ .form .flag) (ap (λ (s : StateOf edition1). s .up) e);
+    ups = same-flag up up′ (N .form .flag) (N′ .form .flag) (ap (λ (s : StateOf form). s .up) e);
     parents = ext-getD 0 parent parent′ (N .form .parents ∙ sym (N′ .form .parents)) (λ t h. parent-same t (getD depth t 0) refl);
     depths = ext-getD 0 depth depth′ (N .form .depths ∙ sym (N′ .form .depths)) (λ t h. depth-same t);
     lines = same-sets line line′ (N .form .long ∙ sym (N′ .form .long))
         (N .form .lines ∙ ap {B = ℕ → ℕ → Bool} (λ (b : Bearers) (t u : ℕ). mem u (lineOf b t)) bearers ∙ sym (N′ .form .lines));
-    helds = same-locks held held′ (N .form .helds ∙ sym (N′ .form .helds)) (N .form .held-nested) (N′ .form .held-nested) (ap (λ (s : StateOf edition1). s .held) e);
-    retaineds = same-locks retained retained′ (N .form .retaineds ∙ sym (N′ .form .retaineds)) (N .form .retained-nested) (N′ .form .retained-nested) (ap (λ (s : StateOf edition1). s .retained) e);
+    helds = same-locks held held′ (N .form .helds ∙ sym (N′ .form .helds)) (N .form .held-nested) (N′ .form .held-nested) (ap (λ (s : StateOf form). s .held) e);
+    retaineds = same-locks retained retained′ (N .form .retaineds ∙ sym (N′ .form .retaineds)) (N .form .retained-nested) (N′ .form .retained-nested) (ap (λ (s : StateOf form). s .retained) e);
     writerss = same-sets writers writers′ (N .form .writerss ∙ sym (N′ .form .writerss)) writers-same;
   }

@@ -1,4 +1,4 @@
-// Whether any bytes in the engine's arrays encode a sound state. The results of the tests are joined at the end, so that there are few branches; what a
+// Whether any bytes in the engine's arrays encode a sound state, on atomic pages or on pages that can tear. The results of the tests are joined at the end, so that there are few branches; what a
 // free number has of the locks isn't looked at, since holders and retainers are live.
 ghost use mathlib.Core.Path.{_≡_};
 ghost use mathlib.Core.Bool.{true, false, not, _||_};
@@ -7,7 +7,7 @@ ghost use Prim.Native.Nat.{ℕ, _<_};
 ghost use lib.ListN.{length};
 ghost use Rattle.laws.specs.Counting.{all};
 ghost use Rattle.laws.specs.Bits.{bits};
-ghost use Rattle.rules.specs.Editions.{edition1, workBytes};
+ghost use Rattle.rules.specs.Editions.{Edition, geometryOf, formIn, InNumbers, workBytes};
 ghost use Rattle.rules.specs.Geometry.{transactions};
 ghost use Rattle.sets.specs.Sets.{sets};
 ghost use Rattle.clauses.specs.Decides.{Decides};
@@ -185,16 +185,18 @@ pub fn is_sound(
     retained: &[u32; 32],
     writers: &[u32; 16],
     store: &[u8],
+    joint: bool,
+    tears: bool,
 ) -> bool
-    requires { ⌜ Sized (now parent) (now depth) (now line) (now held) (now retained) (now writers) (now store) ⌝ }
-    ensures { λ r. ⌜ ((work : List ℕ) → length work ≡ workBytes →
+    requires { ⌜ Sized tears (now parent) (now depth) (now line) (now held) (now retained) (now writers) (now store) ⌝ }
+    ensures { λ r. ⌜ ((edition : Edition) (work : List ℕ) → InNumbers edition 16 joint tears → length work ≡ workBytes →
         let lent = arrays up (now (parent .entry)) (now (depth .entry)) (now (line .entry)) (now (held .entry)) (now (retained .entry)) (now (writers .entry)) work (now (store .entry)) in
-        Decides r (Intact edition1 lent)) ⌝ }
+        Decides r (Intact (formIn tears (geometryOf edition)) lent)) ⌝ }
 {
     let tree = is_tree(parent, depth, line);
     let live = transactions::live_set(depth);
     let locks = are_locks(live, held, retained, writers);
     let shares = are_shares(line, held, retained);
-    let phase = phase::is_phase(up, live, held, retained, store);
+    let phase = phase::is_phase(up, live, held, retained, store, joint, tears);
     tree & locks & shares & phase
 }

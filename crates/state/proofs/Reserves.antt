@@ -45,7 +45,7 @@ pub prepared-in : (tears : Bool) (g : Geometry) (store : List ℕ) → mediumOf 
 prepared-in false g store = refl
 prepared-in true g store = refl
 
-pending-in : (tears : Bool) (g : Geometry) (store : List ℕ) (r : ℕ) → mediumOf tears g .pending (mediumOf tears g .fromBytes store) r ≡ pending g (shownIn tears (storeOf tears store)) r
+pub pending-in : (tears : Bool) (g : Geometry) (store : List ℕ) (r : ℕ) → mediumOf tears g .pending (mediumOf tears g .fromBytes store) r ≡ pending g (shownIn tears (storeOf tears store)) r
 pending-in false g store r = refl
 pending-in true g store r = refl
 

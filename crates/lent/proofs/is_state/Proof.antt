@@ -14,7 +14,7 @@ is-bare-requires c κs = search needs
 
 -- src/lib.rt:212:1
 returns : tie.Need-returns
-returns c = λ work long. decides-and (c .before .is-sound .ensures work long) (c .is-bare .ensures)
+returns c = λ edition work N long. decides-and (c .before .is-sound .ensures edition work N long) (c .is-bare .ensures)
 
 pub is-state-spec : {M : Type 1} → statement M
 is-state-spec = tie.close (tie.spec is-sound-requires is-bare-requires returns)

@@ -5,13 +5,14 @@ use mathlib.Core.Logic.{inl}
 use mathlib.Core.List.{List}
 use Prim.Native.Nat.{ℕ}
 use lib.ListN.{replicate, length-replicate}
-use Rattle.rules.specs.Editions.{geometry1, edition1, workBytes}
+use Rattle.rules.specs.Editions.{geometry1, edition1, first, workBytes}
 use Rattle.state.specs.Whole.{Intact}
 use Rattle.clauses.specs.Decides.{Decides}
 use Rattle.portions.specs.Portion.{whole}
 use Rattle.commitpage.proofs.Places.{layout1}
 use Rattle.records.proofs.Laying.{laid-all}
 use borrow.Author.Needs.{needs}
+use Rattle.lent.proofs.Portions.{first-in}
 use Rattle.lent.proofs.is_state_aside.Statement.{statement}
 use Rattle.lent.proofs.is_state_aside.Tie as tie
 
@@ -31,7 +32,7 @@ returns : tie.Need-returns
 returns c =
     let e = c .before .before .before .before .before .args .e in
     subst (λ (s : List ℕ). Decides (c .is-state .result) (Intact edition1 (whole e (replicate workBytes 0) s) × (e .spare ≡ replicate 3 0))) (laid-all false geometry1 16 (layout1 .many) (c .before .before .before .lay .ensures geometry1 layout1))
-    (c .is-state .ensures (replicate workBytes 0) (length-replicate {A = ℕ} workBytes 0))
+    (c .is-state .ensures first (replicate workBytes 0) first-in (length-replicate {A = ℕ} workBytes 0))
 
 pub is-state-aside-spec : {M : Type 1} → statement M
 is-state-aside-spec =

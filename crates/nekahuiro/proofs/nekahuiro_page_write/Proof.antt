@@ -37,15 +37,17 @@ use denote.Triple.Table.{entered, cited}
 use denote.Triple.Walked.{says, Stays, stay-dropped, gave-slice, walkOf, goes-dropped, goes-gave-slice, Walks, ends-at, walked, walk-meets}
 use denote.Triple.Clauses.{ensured, lasts}
 use denote.Exit.{yes}
+use mathlib.Core.Bool.{false}
+use Rattle.rules.specs.Editions.{geometry1}
 use Rattle.lent.specs.Portions.{kept}
 use Rattle.lent.specs.PageWrites.{Told-as}
 use Rattle.portions.specs.declared.Engine.{Engine}
 use Rattle.portions.proofs.Engine as D
 use Rattle.portions.proofs.Engine.Laws as D′
-use Rattle.lent.proofs.page_write_of as by-value
-use Rattle.lent.proofs.page_write_of.Symbol as by-value-def
-use Rattle.lent.proofs.page_write_of.Symbol.{name as #lent·page-write-of}
-use Rattle.lent.proofs.page_write_of.Met as by-value-thm
+use Rattle.nekahuiro.proofs.page_write_of as by-value
+use Rattle.nekahuiro.proofs.page_write_of.Symbol as by-value-def
+use Rattle.nekahuiro.proofs.page_write_of.Symbol.{name as #nekahuiro·page-write-of}
+use Rattle.nekahuiro.proofs.page_write_of.Met as by-value-thm
 use Rattle.nekahuiro.proofs.nekahuiro_page_write.Key.{name as #nekahuiro·nekahuiro-page-write}
 use Rattle.nekahuiro.proofs.nekahuiro_page_write as f
 use Rattle.nekahuiro.proofs.nekahuiro_page_write.Statement as stated
@@ -71,7 +73,7 @@ sv x = sliceVal (ptr x) (length (now x))
 
 -- what the call promises
 abbrev Says : Engine → List ℕ → List ℕ → List ℕ → ℕ → List ℕ → ℕ → List ℕ → Type 0
-Says h store event work index write r write′ = Told-as (kept h work store) event write index r write′
+Says h store event work index write r write′ = Told-as false geometry1 (kept h work store) event write index r write′
 
 abbrev Lasts : Type 0
 Lasts = Unit {0} × (Unit {0} × (Unit {0} × (Unit {0} × (Unit {0} × (List ℕ × Unit {0})))))
@@ -121,7 +123,7 @@ module _ {M : Type 1} (𝓤 : URA M) (H : Heap 𝓤) (A : Atoms 𝓤) (W : Given
       nothing ! $ fjoin ! $ nothing ! $ fjoin ! $ nothing ! $ fjoin ! $ nothing ! $ fjoin ! $ nothing ! $ fjoin ! $
       owned ! u8 (Is u8) (uint-makes 𝓤 H A W w8) t _ (refl, fits) $ move ! (1 ∷ 0 ∷ []) $ done !
 
-  module _ (C : Calls 𝓤 H) (Λ : Loops 𝓤 H) (fm : FmC 𝓤 H (W .laws) C) (known : Triple 𝓤 (C #lent·page-write-of) (ByValue 𝓤 H A at-mem run)) where
+  module _ (C : Calls 𝓤 H) (Λ : Loops 𝓤 H) (fm : FmC 𝓤 H (W .laws) C) (known : Triple 𝓤 (C #nekahuiro·page-write-of) (ByValue 𝓤 H A at-mem run)) where
     walk : Room u8 (length (now store)) → Room u8 (length (now event)) → Room u8 (length (now work)) → n < 2 ^ 8 → Room u8 (length (now write))
         → ent 𝓤 (onEntry 𝓤 H A f.signature κs qs x at) (WpFn 𝓤 H C Λ code.function (vptr b o ∷ sv store ∷ sv event ∷ sv work ∷ vint w8 n ∷ sv write ∷ []) Post)
     walk rs re rw′ small ra =
@@ -166,7 +168,7 @@ module _ {M : Type 1} (𝓤 : URA M) (H : Heap 𝓤) (A : Atoms 𝓤) (W : Given
         keep ! (0 ∷ 1 ∷ 3 ∷ []) $ by ! (exits t (zs .1 .1 .1 .1 .1 .0) e fits long))))))))))))))))))))
 
 module _ {M : Type 1} (𝓤 : URA M) (H : Heap 𝓤) (A : Atoms 𝓤) (W : Given 𝓤 H A) (at-mem : Memory → SProp 𝓤) (run : Routine → Fun 𝓤) where
-  page-write-walks : (C : Calls 𝓤 H) (Λ : Loops 𝓤 H) → FmC 𝓤 H (W .laws) C → Triple 𝓤 (C #lent·page-write-of) (ByValue 𝓤 H A at-mem run)
+  page-write-walks : (C : Calls 𝓤 H) (Λ : Loops 𝓤 H) → FmC 𝓤 H (W .laws) C → Triple 𝓤 (C #nekahuiro·page-write-of) (ByValue 𝓤 H A at-mem run)
       → Walks 𝓤 H A f.ended stayed (WpFn 𝓤 H C Λ code.function) (f.clauses 𝓤 H A at-mem run)
   page-write-walks C Λ fm known = walked 𝓤 H A f.ended stayed (f.clauses 𝓤 H A at-mem run) (WpFn 𝓤 H C Λ code.function)
       (λ κs. (ptr-vals, (slice-vals, (slice-vals, (slice-vals, (uint-vals w8, (slice-vals, tt)))))))
@@ -177,7 +179,7 @@ module _ {M : Type 1} (𝓤 : URA M) (H : Heap 𝓤) (A : Atoms 𝓤) (W : Given
       (are .1 .0 .0 .1) (are .1 .1 .0 .0 .1) (are .1 .1 .1 .0 .0 .1) (are .1 .1 .1 .1 .0 .1) (are .1 .1 .1 .1 .1 .0 .0 .1)))
 
 page-write-meets : {M : Type 1} (𝓤 : URA M) (H : Heap 𝓤) (A : Atoms 𝓤) (W : Given 𝓤 H A) (at-mem : Memory → SProp 𝓤) (run : Routine → Fun 𝓤) (𝓣 : Tables 𝓤 H)
-    → Triple 𝓤 (𝓣 .C #lent·page-write-of) (ByValue 𝓤 H A at-mem run)
+    → Triple 𝓤 (𝓣 .C #nekahuiro·page-write-of) (ByValue 𝓤 H A at-mem run)
     → Meets 𝓤 H A f.signature (WpFn 𝓤 H (𝓣 .C) (𝓣 .Λ) code.function) (f.spec 𝓤 H A at-mem run)
 page-write-meets 𝓤 H A W at-mem run 𝓣 known = walk-meets 𝓤 H A f.ended stayed W (
   goes-dropped 𝓤 H A W 5 state-slot yes (λ κs x f. refl),
@@ -201,4 +203,4 @@ nekahuiro-page-write-spec 𝓤 H 𝓜 𝓖 𝓡 =
     entered 𝓤 H (tripleOf 𝓤 H (𝓖 .A) f.signature (f.spec 𝓤 H (𝓖 .A) (𝓜 .mem) (𝓡 .run)))
     (tables 𝓤 H 𝓜 𝓡 code.env .C) (tables 𝓤 H 𝓜 𝓡 code.env .Λ) #nekahuiro·nekahuiro-page-write code.function (code.unfolded 𝓤 H 𝓜 𝓡)
     (page-write-meets 𝓤 H (𝓖 .A) (givenOf 𝓤 H 𝓜 𝓖) (𝓜 .mem) (𝓡 .run) (tablesOf 𝓤 H 𝓜 (tables 𝓤 H 𝓜 𝓡 code.env))
-    (cited 𝓤 H (ByValue 𝓤 H (𝓖 .A) (𝓜 .mem) (𝓡 .run)) 𝓜 𝓡 code.env #lent·page-write-of by-value-def.routine code.calls-lent·page-write-of (by-value-thm.met 𝓤 H 𝓜 𝓖 𝓡)))
+    (cited 𝓤 H (ByValue 𝓤 H (𝓖 .A) (𝓜 .mem) (𝓡 .run)) 𝓜 𝓡 code.env #nekahuiro·page-write-of by-value-def.routine code.calls-nekahuiro·page-write-of (by-value-thm.met 𝓤 H 𝓜 𝓖 𝓡)))

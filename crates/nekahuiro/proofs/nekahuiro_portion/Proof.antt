@@ -40,6 +40,7 @@ use denote.Triple.Table.{entered, cited}
 use denote.Triple.Walked.{says, Stays, stay-ref, stay-dropped, gave-slice, walkOf, goes-ref, goes-dropped, goes-gave-slice, Walks, ends-at, walked, walk-meets}
 use denote.Triple.Clauses.{ensured, lasts}
 use denote.Exit.{yes}
+use Rattle.rules.specs.Editions.{edition1}
 use Rattle.lent.specs.Portions.{kept, Portioned-as}
 use Rattle.portions.specs.declared.Engine.{Engine}
 use Rattle.lent.specs.declared.Portioned.{Portioned}
@@ -47,10 +48,10 @@ use Rattle.portions.proofs.Engine as D
 use Rattle.portions.proofs.Engine.Laws as D′
 use Rattle.lent.proofs.Portioned as T
 use Rattle.lent.proofs.Portioned.Laws as T′
-use Rattle.lent.proofs.portion_of as by-value
-use Rattle.lent.proofs.portion_of.Symbol as by-value-def
-use Rattle.lent.proofs.portion_of.Symbol.{name as #lent·portion-of}
-use Rattle.lent.proofs.portion_of.Met as by-value-thm
+use Rattle.nekahuiro.proofs.portion_of as by-value
+use Rattle.nekahuiro.proofs.portion_of.Symbol as by-value-def
+use Rattle.nekahuiro.proofs.portion_of.Symbol.{name as #nekahuiro·portion-of}
+use Rattle.nekahuiro.proofs.portion_of.Met as by-value-thm
 use Rattle.nekahuiro.proofs.nekahuiro_portion.Key.{name as #nekahuiro·nekahuiro-portion}
 use Rattle.nekahuiro.proofs.nekahuiro_portion as in-place
 use Rattle.nekahuiro.proofs.nekahuiro_portion.Statement as stated
@@ -76,7 +77,7 @@ sv x = sliceVal (ptr x) (length (now x))
 
 -- what the call promises
 abbrev Says : Engine → List ℕ → List ℕ → List ℕ → List ℕ → Portioned → List ℕ → List ℕ → List ℕ → Type 0
-Says h store events work answers r store′ work′ answers′ = Portioned-as (kept h work store) events answers (r .number) (kept (r .engine) work′ store′) answers′
+Says h store events work answers r store′ work′ answers′ = Portioned-as edition1 (kept h work store) events answers (r .number) (kept (r .engine) work′ store′) answers′
 
 abbrev Lasts : Type 0
 Lasts = Unit {0} × (List ℕ × (Unit {0} × (List ℕ × (List ℕ × Unit {0}))))
@@ -130,7 +131,7 @@ module _ {M : Type 1} (𝓤 : URA M) (H : Heap 𝓤) (A : Atoms 𝓤) (W : Given
       nothing ! $ move ! (2 ∷ 0 ∷ []) $ fjoin ! $ move ! (2 ∷ 0 ∷ []) $ fjoin ! $ nothing ! $ fjoin ! $ move ! (2 ∷ 0 ∷ []) $ fjoin ! $ move ! (1 ∷ 0 ∷ []) $ fjoin ! $
       owned ! u8 (Is u8) (uint-makes 𝓤 H A W w8) (t .number) _ (refl, fits) $ move ! (1 ∷ 0 ∷ []) $ done !
 
-  module _ (C : Calls 𝓤 H) (Λ : Loops 𝓤 H) (fm : FmC 𝓤 H (W .laws) C) (known : Triple 𝓤 (C #lent·portion-of) (ByValue 𝓤 H A at-mem run)) where
+  module _ (C : Calls 𝓤 H) (Λ : Loops 𝓤 H) (fm : FmC 𝓤 H (W .laws) C) (known : Triple 𝓤 (C #nekahuiro·portion-of) (ByValue 𝓤 H A at-mem run)) where
     walk : Room u8 (length (now store)) → Room u8 (length (now events)) → Room u8 (length (now work)) → Room u8 (length (now answers))
         → ent 𝓤 (onEntry 𝓤 H A in-place.signature κs qs x at) (WpFn 𝓤 H C Λ code.function (vptr b o ∷ sv store ∷ sv events ∷ sv work ∷ sv answers ∷ []) Post)
     walk rs re rw′ ra =
@@ -181,7 +182,7 @@ module _ {M : Type 1} (𝓤 : URA M) (H : Heap 𝓤) (A : Atoms 𝓤) (W : Given
         keep ! (0 ∷ 1 ∷ 2 ∷ 3 ∷ 4 ∷ 6 ∷ 7 ∷ []) $ by ! (exits t (zs .1 .0) (zs .1 .1 .1 .0) (zs .1 .1 .1 .1 .0) e fits long₁ long₃ long₄)))))))))))))))))))))))))))
 
 module _ {M : Type 1} (𝓤 : URA M) (H : Heap 𝓤) (A : Atoms 𝓤) (W : Given 𝓤 H A) (mem : Memory → SProp 𝓤) (run : Routine → Fun 𝓤) where
-  portion-walks : (C : Calls 𝓤 H) (Λ : Loops 𝓤 H) → FmC 𝓤 H (W .laws) C → Triple 𝓤 (C #lent·portion-of) (ByValue 𝓤 H A mem run)
+  portion-walks : (C : Calls 𝓤 H) (Λ : Loops 𝓤 H) → FmC 𝓤 H (W .laws) C → Triple 𝓤 (C #nekahuiro·portion-of) (ByValue 𝓤 H A mem run)
       → Walks 𝓤 H A in-place.ended stayed (WpFn 𝓤 H C Λ code.function) (in-place.clauses 𝓤 H A mem run)
   portion-walks C Λ fm known = walked 𝓤 H A in-place.ended stayed (in-place.clauses 𝓤 H A mem run) (WpFn 𝓤 H C Λ code.function)
       (λ κs. (ptr-vals, (slice-vals, (slice-vals, (slice-vals, (slice-vals, tt))))))
@@ -192,7 +193,7 @@ module _ {M : Type 1} (𝓤 : URA M) (H : Heap 𝓤) (A : Atoms 𝓤) (W : Given
       (are .1 .0 .0 .1) (are .1 .1 .0 .0 .1) (are .1 .1 .1 .0 .0 .1) (are .1 .1 .1 .1 .0 .0 .1)))
 
 portion-meets : {M : Type 1} (𝓤 : URA M) (H : Heap 𝓤) (A : Atoms 𝓤) (W : Given 𝓤 H A) (mem : Memory → SProp 𝓤) (run : Routine → Fun 𝓤) (𝓣 : Tables 𝓤 H)
-    → Triple 𝓤 (𝓣 .C #lent·portion-of) (ByValue 𝓤 H A mem run)
+    → Triple 𝓤 (𝓣 .C #nekahuiro·portion-of) (ByValue 𝓤 H A mem run)
     → Meets 𝓤 H A in-place.signature (WpFn 𝓤 H (𝓣 .C) (𝓣 .Λ) code.function) (in-place.spec 𝓤 H A mem run)
 portion-meets 𝓤 H A W mem run 𝓣 known = walk-meets 𝓤 H A in-place.ended stayed W
     (goes-ref 𝓤 H A W 5 0 tt (plain (λ _. D.the-row)), (goes-gave-slice 𝓤 H A W 5 1 tt bytes, (goes-dropped 𝓤 H A W 5 (shrSliceOf (2 ∷ []) tt bytes) yes (λ κs x f. refl), (goes-gave-slice 𝓤 H A W 5 3 tt bytes, (goes-gave-slice 𝓤 H A W 5 4 tt bytes, tt)))))
@@ -205,4 +206,4 @@ nekahuiro-portion-spec 𝓤 H 𝓜 𝓖 𝓡 =
     entered 𝓤 H (tripleOf 𝓤 H (𝓖 .A) in-place.signature (in-place.spec 𝓤 H (𝓖 .A) (𝓜 .mem) (𝓡 .run)))
     (tables 𝓤 H 𝓜 𝓡 code.env .C) (tables 𝓤 H 𝓜 𝓡 code.env .Λ) #nekahuiro·nekahuiro-portion code.function (code.unfolded 𝓤 H 𝓜 𝓡)
     (portion-meets 𝓤 H (𝓖 .A) (givenOf 𝓤 H 𝓜 𝓖) (𝓜 .mem) (𝓡 .run) (tablesOf 𝓤 H 𝓜 (tables 𝓤 H 𝓜 𝓡 code.env))
-    (cited 𝓤 H (ByValue 𝓤 H (𝓖 .A) (𝓜 .mem) (𝓡 .run)) 𝓜 𝓡 code.env #lent·portion-of by-value-def.routine code.calls-lent·portion-of (by-value-thm.met 𝓤 H 𝓜 𝓖 𝓡)))
+    (cited 𝓤 H (ByValue 𝓤 H (𝓖 .A) (𝓜 .mem) (𝓡 .run)) 𝓜 𝓡 code.env #nekahuiro·portion-of by-value-def.routine code.calls-nekahuiro·portion-of (by-value-thm.met 𝓤 H 𝓜 𝓖 𝓡)))

@@ -40,7 +40,7 @@ table-requires : tie.Need-table-requires
 table-requires c κs = search needs
 
 word-at-requires : tie.Need-word-at-requires
-word-at-requires c κs = let h = question-of 64 8 _ _ _ _ (sym (c .before .before .before .before .before .before .before .before .before .before .before .before .before .before .before .question .ensures) ∙ c .before .before .before .before .before .before .before .before .before .before .before .before .before .before .if2 .left) .event in (omega arith, omega (arith, h))
+word-at-requires c κs = let h = question-of false 64 8 _ _ _ _ (sym (c .before .before .before .before .before .before .before .before .before .before .before .before .before .before .before .question .ensures) ∙ c .before .before .before .before .before .before .before .before .before .before .before .before .before .before .if2 .left) .event in (omega arith, omega (arith, h))
 
 slice-aggregate-page-write : tie.Need-slice-aggregate-page-write
 unfolding records
@@ -53,7 +53,7 @@ page-write-requires : tie.Need-page-write-requires
 unfolding records pageCount
 page-write-requires c κs =
     let I = c .before .before .before .before .before .before .before .before .before .before .before .before .before .before .before .before .before .before .before .from-start .ensures .leads .intact in
-    (inr refl, (λ e. absurd (true≢false (sym e))), c .before .of-word .ensures .1 .joint, I .form .parents, I .form .depths, I .form .writerss, I .form .works, I .form .stores, question-of 64 8 _ _ _ _ (sym (c .before .before .before .before .before .before .before .before .before .before .before .before .before .before .before .before .before .before .before .before .before .before .before .before .question .ensures) ∙ c .before .before .before .before .before .before .before .before .before .before .before .before .before .before .before .before .before .before .before .before .before .before .before .if2 .left) .write, parent-named edition2 _ I)
+    (inr refl, (λ e. absurd (true≢false (sym e))), c .before .of-word .ensures .1 .joint, I .form .parents, I .form .depths, I .form .writerss, I .form .works, I .form .stores, question-of false 64 8 _ _ _ _ (sym (c .before .before .before .before .before .before .before .before .before .before .before .before .before .before .before .before .before .before .before .before .before .before .before .before .question .ensures) ∙ c .before .before .before .before .before .before .before .before .before .before .before .before .before .before .before .before .before .before .before .before .before .before .before .if2 .left) .write, parent-named edition2 _ I)
 
 same-length : tie.Need-same-length
 same-length c = search needs
@@ -75,7 +75,7 @@ returns-3 c =
     let asked = sym (c .before .before .before .before .before .before .before .before .before .before .before .before .before .before .before .before .before .before .before .before .before .before .before .before .before .before .before .question .ensures) ∙ c .before .before .before .before .before .before .before .before .before .before .before .before .before .before .before .before .before .before .before .before .before .before .before .before .before .before .if2 .left in
     let E = c .before .before .before .before .before .before .before .before .before .before .before .before .before .before .before .before .before .before .before .before .before .before .from-start .ensures in
     list-asked (a .store .now) (a .events .now) (a .work .now) (a .answers .now) (a .event .now) (a .index) (a .write .now) fits asked (E .before) _ _ (E .begun) (E .leads) (E .leads .intact .form .works ∙ sym (lengths-of false 64 8 _ _ _ _ fits .work)) _
-    (ap (decode geometry2) (sym (c .before .before .before .before .before .before .before .before .before .before .before .word-at .ensures ∙ word-is 8 (a .event .now) (question-of 64 8 _ _ _ _ asked .event))) ∙ c .before .before .before .before .of-word .ensures .0) _ _
+    (ap (decode geometry2) (sym (c .before .before .before .before .before .before .before .before .before .before .before .word-at .ensures ∙ word-is 8 (a .event .now) (question-of false 64 8 _ _ _ _ asked .event))) ∙ c .before .before .before .before .of-word .ensures .0) _ _
     (c .before .before .page-write .ensures second (E .line) (E .held) (E .retained) (record { many = layout2 .many; two-phase = refl; torn = refl }) (E .leads .intact))
 
 pub nekahuiro-page-write-edition2-spec : {M : Type 1} → statement M

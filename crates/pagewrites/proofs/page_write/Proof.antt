@@ -1,5 +1,6 @@
 -- The plan, and the write in it.
 use Rattle.rules.specs.Editions.{geometryOf}
+use Rattle.device.specs.Asked.{saidOf}
 use Rattle.crashes.proofs.Editions.{layout-of}
 use Rattle.pagewrites.proofs.Planned.{told-as}
 use borrow.Author.Needs.{needs}
@@ -16,7 +17,8 @@ same-length : tie.Need-same-length
 same-length c = search needs
 
 returns : tie.Need-returns
-returns c = λ edition line held retained N I. told-as (c .before .before .before .before .before .before .before .before .before .args .index) (c .before .before .before .before .before .before .before .before .before .args .write .now) (c .before .before .before .before .plan-of .ensures .0 edition line held retained (c .before .before .before .before .before .before .before .before .before .args .work .now) N I .writes) (c .before .before .put-numbered .ensures (geometryOf edition) (layout-of edition _ _ _ N))
+unfolding saidOf
+returns c = λ edition line held retained N I. told-as (c .before .before .before .before .before .before .before .before .before .args .tears) (c .before .before .before .before .before .before .before .before .before .args .index) (c .before .before .before .before .before .before .before .before .before .args .write .now) (c .before .before .before .before .plan-of .ensures .0 edition line held retained (c .before .before .before .before .before .before .before .before .before .args .work .now) N I .writes) (c .before .before .put-numbered .ensures (geometryOf edition) (layout-of edition _ _ _ N))
 
 pub page-write-spec : {M : Type 1} → statement M
 page-write-spec =

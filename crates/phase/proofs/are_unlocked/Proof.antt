@@ -1,10 +1,10 @@
 -- A map of 0 names nothing; so far nobody has a lock of the records that the map names.
+use mathlib.Core.Path.{_≡_}
 use Prim.Native.Nat.{ℕ, _-_, _<_, _≤_}
 use native.Mathlib.Omega.{arith}
 use borrow.Author.Needs.{needs}
 use Rattle.laws.specs.Tests.{same}
-use Rattle.rules.specs.Editions.{geometry1}
-use Rattle.commitpage.proofs.Places.{layout1}
+use Rattle.rules.specs.Geometry.{Geometry, records}
 use Rattle.clauses.specs.Decides.{Decides}
 use Rattle.clauses.specs.Clauses.{UnlockedOf}
 use Rattle.clauses.proofs.Decides.{decides-none, decides-more, decides-bound}
@@ -14,16 +14,16 @@ use Rattle.phase.proofs.are_unlocked.Tie as tie
 
 abbrev Inv-loop : tie.InvT-loop
 Inv-loop map held retained ok₀ r₀ ok r =
-    (r ≤ 16) × Decides ok ((k : ℕ) → k < r → UnlockedOf map held retained k)
+    (r ≤ 16) × ((g : Geometry) → records g ≡ 16 → Decides ok ((k : ℕ) → k < r → UnlockedOf g map held retained k))
 
 abbrev μ-loop : tie.MeasureT-loop
 μ-loop map held retained ok₀ r₀ ok r = 16 - r
 
 returns : tie.Need-returns Inv-loop μ-loop
-returns c = let a = c .before .args in none-unlocked (a .map) (a .held .now) (a .retained .now) (c .if1 .taken)
+returns c = λ g e. let a = c .before .args in none-unlocked g (a .map) (a .held .now) (a .retained .now) (c .if1 .taken)
 
 loop-holds : tie.Need-loop-holds Inv-loop μ-loop
-loop-holds c = (search needs, decides-none _)
+loop-holds c = (search needs, λ g e. decides-none _)
 
 cast-any : tie.Need-cast-any Inv-loop μ-loop
 cast-any c = search needs
@@ -56,13 +56,13 @@ loop-again : tie.Need-loop-again Inv-loop μ-loop
 unfolding same
 loop-again c = let a = c .before .before .before .before .before .before .args in let l = c .before .before .before .before .loop in (
   search needs,
-  decides-more (UnlockedOf (a .map) (a .held .now) (a .retained .now)) (l .r) (l .inv .1)
-      (unlocked-decided (a .map) (a .held .now) (a .retained .now) (l .r) (c .names .ensures geometry1 (layout1 .many))),
+  λ g e. decides-more (UnlockedOf g (a .map) (a .held .now) (a .retained .now)) (l .r) (l .inv .1 g e)
+      (unlocked-decided g (a .map) (a .held .now) (a .retained .now) (l .r) (c .names .ensures g e)),
 )
 
 returns-2 : tie.Need-returns-2 Inv-loop μ-loop
-returns-2 c = let a = c .before .before .before .args in let l = c .before .loop in
-    decides-bound (UnlockedOf (a .map) (a .held .now) (a .retained .now)) (l .r) 16 (omega arith) (l .inv .1)
+returns-2 c = λ g e. let a = c .before .before .before .args in let l = c .before .loop in
+    decides-bound (UnlockedOf g (a .map) (a .held .now) (a .retained .now)) (l .r) 16 (omega arith) (l .inv .1 g e)
 
 pub are-unlocked-spec : {M : Type 1} → statement M
 are-unlocked-spec =

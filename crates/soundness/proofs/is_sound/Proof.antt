@@ -3,6 +3,8 @@ use mathlib.Core.Path.{subst}
 use mathlib.Core.Bool.{Bool}
 use Prim.Native.Nat.{ℕ}
 use borrow.Author.Needs.{needs}
+use Rattle.rules.specs.Editions.{geometryOf}
+use Rattle.crashes.proofs.Editions.{served-of}
 use Rattle.clauses.specs.Decides.{Decides}
 use Rattle.clauses.specs.Clauses.{Locks}
 use Rattle.soundness.proofs.Whole.{whole-decided}
@@ -25,11 +27,12 @@ is-phase-requires : tie.Need-is-phase-requires
 is-phase-requires c κs = search needs
 
 returns : tie.Need-returns
-returns c = λ work long. let a = c .before .before .before .before .before .before .args in
-    whole-decided (a .up) (a .parent .now) (a .depth .now) (a .line .now) (a .held .now) (a .retained .now) (a .writers .now) work (a .store .now) (c .before .before .before .before .before .before .pre) long
+returns c = λ edition work N long. let a = c .before .before .before .before .before .before .args in
+    let S = served-of edition in
+    whole-decided (a .tears) (geometryOf edition) (N .many) (record { few = S .few; deep = S .deep }) (a .up) (a .parent .now) (a .depth .now) (a .line .now) (a .held .now) (a .retained .now) (a .writers .now) work (a .store .now) (c .before .before .before .before .before .before .pre) long
     (c .before .before .before .before .is-tree .ensures)
     (subst (λ (f : ℕ → Bool). Decides (c .before .before .are-locks .result) (Locks f (a .held .now) (a .retained .now) (a .writers .now))) (c .before .before .before .live-set .ensures) (c .before .before .are-locks .ensures))
-    (c .before .are-shares .ensures) (c .is-phase .ensures (a .depth .now) (c .before .before .before .live-set .ensures))
+    (c .before .are-shares .ensures) (c .is-phase .ensures edition (a .depth .now) N (c .before .before .before .live-set .ensures))
 
 pub is-sound-spec : {M : Type 1} → statement M
 is-sound-spec =
