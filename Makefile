@@ -5,6 +5,8 @@ CARGO_TARGET_DIR ?= rust/target
 VERSION := $(shell sed -n 's/^version = "\(.*\)"/\1/p' rust/Cargo.toml)
 prefix := $(shell realpath -m "$(PREFIX)")
 into := $(DESTDIR)$(prefix)
+headers := $(wildcard include/*.h)
+libraries := libnekahuiro.a libnekahuiro_edition2.a libnekahuiro_pairs.a
 
 .PHONY: all install uninstall
 all:
@@ -12,10 +14,10 @@ all:
 
 install: all
 	install -d "$(into)/include" "$(into)/lib/pkgconfig" "$(into)/bin"
-	install -m 644 include/nekahuiro.h include/nekahuiro_device.h include/nekahuiro_edition2.h "$(into)/include"
-	install -m 644 target/staticlib/libnekahuiro.a target/staticlib/libnekahuiro_edition2.a "$(into)/lib"
+	install -m 644 $(headers) "$(into)/include"
+	install -m 644 $(libraries:%=target/staticlib/%) "$(into)/lib"
 	sed 's|@PREFIX@|$(prefix)|; s|@VERSION@|$(VERSION)|' include/nekahuiro.pc.in > "$(into)/lib/pkgconfig/nekahuiro.pc"
 	install -m 755 "$(CARGO_TARGET_DIR)/release/nekahuiro-cli" "$(into)/bin/nekahuiro"
 
 uninstall:
-	rm -f "$(into)/include/nekahuiro.h" "$(into)/include/nekahuiro_device.h" "$(into)/include/nekahuiro_edition2.h" "$(into)/lib/libnekahuiro.a" "$(into)/lib/libnekahuiro_edition2.a" "$(into)/lib/pkgconfig/nekahuiro.pc" "$(into)/bin/nekahuiro"
+	rm -f $(patsubst include/%,"$(into)/include/%",$(headers)) $(libraries:%="$(into)/lib/%") "$(into)/lib/pkgconfig/nekahuiro.pc" "$(into)/bin/nekahuiro"

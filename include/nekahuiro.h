@@ -163,7 +163,7 @@ extern "C" {
 #define NEKAHUIRO_NOT_HELD 9       /* read without holding the lock, or write without holding it to write */
 #define NEKAHUIRO_LIVE_CHILD 10    /* commit or prepare with a live child */
 #define NEKAHUIRO_CUT 11           /* no refusal: cut by a crash in commit, recover, prepare or decide */
-#define NEKAHUIRO_NO_SUCH_WRITE 12 /* of nekahuiro_page_write alone, in either edition: the event makes no such page write */
+#define NEKAHUIRO_NO_SUCH_WRITE 12 /* of nekahuiro_page_write and its likes alone: the event makes no such page write */
 #define NEKAHUIRO_ONE_PREPARED 13  /* prepare or top commit with a changed record, and one is prepared */
 #define NEKAHUIRO_CHILD_AT_WORK 14 /* lock, read or write by a transaction with a live child */
 #define NEKAHUIRO_NOT_TAKEN 27     /* prepare by a child; in nekahuiro_depot: no such turn */

@@ -206,17 +206,49 @@ static inline nekahuiro_answer nekahuiro_device_lay(nekahuiro_device *device, ne
     return nekahuiro_device_start(device, program, medium, device->store);
 }
 
+/* Plays one event on a device of any kind. */
+typedef nekahuiro_answer nekahuiro_player(void *device, uint32_t word);
+
+/* The record of nekahuiro_device_put, on any device. */
+static inline nekahuiro_answer nekahuiro_put_by(nekahuiro_player *play, void *device, uint32_t transaction,
+                                                uint32_t record, const uint8_t bytes[NEKAHUIRO_PAGE_BYTES])
+{
+    nekahuiro_answer got = play(device, nekahuiro_word_lock(transaction, record, NEKAHUIRO_WRITE_MODE));
+    uint32_t offset;
+
+    for (offset = 0; got.number == NEKAHUIRO_DONE && offset < NEKAHUIRO_PAGE_BYTES; offset++)
+        got = play(device, nekahuiro_word_write(transaction, record, offset, bytes[offset]));
+    return got;
+}
+
+/* The record of nekahuiro_device_get, on any device. */
+static inline nekahuiro_answer nekahuiro_get_by(nekahuiro_player *play, void *device, uint32_t transaction,
+                                                uint32_t record, uint8_t bytes[NEKAHUIRO_PAGE_BYTES])
+{
+    nekahuiro_answer got = play(device, nekahuiro_word_lock(transaction, record, NEKAHUIRO_READ_MODE));
+    uint8_t page[NEKAHUIRO_PAGE_BYTES];
+    uint32_t offset;
+
+    for (offset = 0; got.number == NEKAHUIRO_DONE && offset < NEKAHUIRO_PAGE_BYTES; offset++) {
+        got = play(device, nekahuiro_word_read(transaction, record, offset));
+        page[offset] = got.value;
+    }
+    if (got.number == NEKAHUIRO_DONE)
+        memcpy(bytes, page, sizeof page);
+    return nekahuiro_answer_of(got.number, 0);
+}
+
+static inline nekahuiro_answer nekahuiro_device_player(void *device, uint32_t word)
+{
+    return nekahuiro_device_play((nekahuiro_device *)device, word);
+}
+
 /* Writes a whole record for a transaction: locks it to write, then its 32 bytes. Nothing reaches the medium
  * before the commit. NEKAHUIRO_DONE, or why not, and then no byte is written. */
 static inline nekahuiro_answer nekahuiro_device_put(nekahuiro_device *device, uint32_t transaction, uint32_t record,
                                                     const uint8_t bytes[NEKAHUIRO_PAGE_BYTES])
 {
-    nekahuiro_answer got = nekahuiro_device_play(device, nekahuiro_word_lock(transaction, record, NEKAHUIRO_WRITE_MODE));
-    uint32_t offset;
-
-    for (offset = 0; got.number == NEKAHUIRO_DONE && offset < NEKAHUIRO_PAGE_BYTES; offset++)
-        got = nekahuiro_device_play(device, nekahuiro_word_write(transaction, record, offset, bytes[offset]));
-    return got;
+    return nekahuiro_put_by(nekahuiro_device_player, device, transaction, record, bytes);
 }
 
 /* Reads a whole record for a transaction: locks it to read, then its 32 bytes. NEKAHUIRO_DONE, or why not, and
@@ -224,17 +256,7 @@ static inline nekahuiro_answer nekahuiro_device_put(nekahuiro_device *device, ui
 static inline nekahuiro_answer nekahuiro_device_get(nekahuiro_device *device, uint32_t transaction, uint32_t record,
                                                     uint8_t bytes[NEKAHUIRO_PAGE_BYTES])
 {
-    nekahuiro_answer got = nekahuiro_device_play(device, nekahuiro_word_lock(transaction, record, NEKAHUIRO_READ_MODE));
-    uint8_t page[NEKAHUIRO_PAGE_BYTES];
-    uint32_t offset;
-
-    for (offset = 0; got.number == NEKAHUIRO_DONE && offset < NEKAHUIRO_PAGE_BYTES; offset++) {
-        got = nekahuiro_device_play(device, nekahuiro_word_read(transaction, record, offset));
-        page[offset] = got.value;
-    }
-    if (got.number == NEKAHUIRO_DONE)
-        memcpy(bytes, page, sizeof page);
-    return nekahuiro_answer_of(got.number, 0);
+    return nekahuiro_get_by(nekahuiro_device_player, device, transaction, record, bytes);
 }
 
 #endif

@@ -32,7 +32,7 @@ text() { printf '%b' "$1" >"$2"; }
 no_leftovers() { [ -z "$(find "$1" -name '.*.nekahuiro')" ]; report "no file is left over in $1" $?; }
 
 # Each part goes on from the files that those before it left.
-for part in lists states input files together names commands page readme package script two_phase serial waiting sheets plan audit edition2; do . "$root/tests/cli/$part.sh"; done
+for part in lists states input files together names commands page readme package script two_phase serial waiting sheets plan audit edition2 pairs; do . "$root/tests/cli/$part.sh"; done
 
 printf 'command line: %d passed, %d failed\n' "$passed" "$failed"
 [ "$failed" = 0 ]

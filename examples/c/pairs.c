@@ -1,4 +1,5 @@
-/* A store on pages that can tear: laid fresh, then the age of a record is told through torn pages.
+/* A store on pages that can tear: laid fresh; the age of a record told through torn pages; a commit torn at its commit
+ * page, and the recovery after it; and the same events in portions, with their copy writes told.
  * Build at the root of the repository:
  *   cc -Wall -Wextra -Werror -Iinclude examples/c/pairs.c target/staticlib/libnekahuiro_pairs.a -o pairs
  * The exit status is 0 only if every result is the one that the header promises. */
@@ -40,7 +41,7 @@ static void stamp(int page, int which, uint32_t minutes)
 #define PAGES (1 + 2 * NEKAHUIRO_RECORDS)
 #define HOME (1 + NEKAHUIRO_RECORDS + 3)
 
-int main(void)
+static void ages(void)
 {
     int64_t age = -1;
 
@@ -90,6 +91,80 @@ int main(void)
     check("Torn, its second copy tells that it is empty.", nekahuiro_age_pairs(store, sizeof store, 3, 1060, 100, &age), 0);
     check("Record 3 is 60 minutes old.", (long)age, 60);
     check("Nothing was mended.", copy(0, 0)[0] == NEKAHUIRO_PAIRS_BAD && copy(HOME, 0)[0] == 2, 1);
+}
 
+static uint8_t work[NEKAHUIRO_WORK_BYTES], answers[8 * NEKAHUIRO_ANSWER_BYTES];
+
+/* Up, and a transaction that writes A5 at offset 2 of record 3; then its commit, which makes four page writes: the
+ * intention page, the commit page as committed, the home page, the commit page as empty. */
+static const uint8_t changes[] = {0x80, 0x00, 0x3F, 0x00, 0x1F, 0x80, 0x00, 0x00,
+                                  0x20, 0x18, 0x00, 0x00, 0x30, 0x18, 0x80, 0xA5};
+static const uint8_t whole_commit[] = {0x50, 0x00, 0x3F, 0x00};
+
+/* A whole list, whose commit is torn at its commit page: the power goes after one page write and within the next. */
+static void torn_commit(void)
+{
+    static const uint8_t torn[] = {NEKAHUIRO_PAIRS_NOT_TORN, NEKAHUIRO_PAIRS_FIRST_BAD, NEKAHUIRO_PAIRS_SECOND_BAD,
+                                   NEKAHUIRO_PAIRS_SECOND_OLD};
+    static const uint8_t recover_and_read[] = {0x80, 0x00, 0x3F, 0x00, 0x1F, 0x80, 0x00, 0x00,
+                                               0x20, 0x18, 0x00, 0x01, 0x40, 0x18, 0x80, 0x00};
+
+    for (int way = 0; way < 4; way++) {
+        uint8_t list[sizeof changes + 4] = {0};
+        int counts = torn[way] >= NEKAHUIRO_PAIRS_SECOND_BAD;
+
+        memcpy(list, changes, sizeof changes);
+        memcpy(list + sizeof changes, (uint8_t[]){0x50, 0x00, 0x01, torn[way]}, 4);
+        nekahuiro_fresh_pairs(store, sizeof store);
+        check("A list is played.",
+              nekahuiro_run_pairs(store, sizeof store, list, sizeof list, work, sizeof work, answers, sizeof answers), 0);
+        check("Its commit is cut.", answers[8], NEKAHUIRO_CUT);
+        check(counts ? "The torn page write counts: two were made." : "The torn page write doesn't count: one was made.",
+              answers[9], 1 + counts);
+        check("A recovery mends the store, and record 3 is read.",
+              nekahuiro_run_pairs(store, sizeof store, recover_and_read, sizeof recover_and_read, work, sizeof work,
+                                  answers, sizeof answers), 0);
+        check(counts ? "The commit page was stored: it is A5." : "It wasn't: it is 0.", answers[7], counts ? 0xA5 : 0);
+        check("Every copy is like its other.", memcmp(copy(0, 0), copy(0, 1), NEKAHUIRO_PAIRS_COPY_BYTES), 0);
+    }
+}
+
+/* The same events as they come, on a state that is kept, and what the commit writes before it is played. */
+static void in_portions(void)
+{
+    static const uint8_t pages[] = {4, 4, 0, 0, 20, 20, 0, 0};
+    static nekahuiro_state state; /* zeros: the start */
+    uint8_t write[NEKAHUIRO_PAIRS_COPY_WRITE_BYTES], index = 0;
+    int as_told = 1;
+
+    nekahuiro_fresh_pairs(store, sizeof store);
+    for (size_t at = 0; at < sizeof changes; at += NEKAHUIRO_EVENT_BYTES)
+        check("An event is a portion.",
+              nekahuiro_portion_pairs(&state, store, sizeof store, changes + at, NEKAHUIRO_EVENT_BYTES, work, sizeof work,
+                                      answers, sizeof answers), 0);
+    while (nekahuiro_page_write_pairs(&state, store, sizeof store, whole_commit, sizeof whole_commit, work, sizeof work,
+                                      index, write, sizeof write) == NEKAHUIRO_DONE) {
+        as_told &= index < sizeof pages && write[0] == pages[index] && write[1] == index % 2;
+        index++;
+    }
+    check("The commit makes eight copy writes.", index, 8);
+    check("Of each page the first copy comes first.", as_told, 1);
+    check("It is played.",
+          nekahuiro_portion_pairs(&state, store, sizeof store, whole_commit, sizeof whole_commit, work, sizeof work,
+                                  answers, sizeof answers), 0);
+    check("And answers four page writes.", answers[1], 4);
+    copy(HOME, 1)[0] = NEKAHUIRO_PAIRS_BAD;
+    check("A copy that goes bad while up is no state to go on from: 25.",
+          nekahuiro_portion_pairs(&state, store, sizeof store, changes, 0, work, sizeof work, answers, sizeof answers),
+          NEKAHUIRO_BAD_STATE);
+}
+
+int main(void)
+{
+    ages();
+    torn_commit();
+    in_portions();
+    if (failures == 0)
+        puts("all results are right");
     return failures != 0;
 }

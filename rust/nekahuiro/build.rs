@@ -1,5 +1,5 @@
-//! Links the proved static library, and that of edition 2 where it is asked for. NEKAHUIRO_LIB_DIR names another folder
-//! than the repository's.
+//! Links the proved static library, and those of edition 2 and of pages that can tear where they are asked for.
+//! NEKAHUIRO_LIB_DIR names another folder than the repository's.
 
 use std::path::{Path, PathBuf};
 
@@ -13,8 +13,10 @@ fn main() {
     };
     println!("cargo::rustc-link-search=native={}", folder.display());
     link(&folder, "nekahuiro");
-    if std::env::var_os("CARGO_FEATURE_EDITION2").is_some() {
-        link(&folder, "nekahuiro_edition2");
+    for (feature, name) in [("EDITION2", "nekahuiro_edition2"), ("PAIRS", "nekahuiro_pairs")] {
+        if std::env::var_os(format!("CARGO_FEATURE_{feature}")).is_some() {
+            link(&folder, name);
+        }
     }
 }
 

@@ -4,6 +4,9 @@ holds "the header" cmp "$root/include/nekahuiro.h" "in stalled/include/nekahuiro
 holds "the header for devices" cmp "$root/include/nekahuiro_device.h" "in stalled/include/nekahuiro_device.h"
 holds "the header of edition 2" cmp "$root/include/nekahuiro_edition2.h" "in stalled/include/nekahuiro_edition2.h"
 holds "the library of edition 2" cmp "$root/target/staticlib/libnekahuiro_edition2.a" "in stalled/lib/libnekahuiro_edition2.a"
+holds "the header for pages that tear" cmp "$root/include/nekahuiro_pairs.h" "in stalled/include/nekahuiro_pairs.h"
+holds "the header for devices that tear" cmp "$root/include/nekahuiro_device_pairs.h" "in stalled/include/nekahuiro_device_pairs.h"
+holds "the library for pages that tear" cmp "$root/target/staticlib/libnekahuiro_pairs.a" "in stalled/lib/libnekahuiro_pairs.a"
 holds "the library" cmp "$root/target/staticlib/libnekahuiro.a" "in stalled/lib/libnekahuiro.a"
 ok "the command line, as it is called" "^  nekahuiro play STORE EVENTS " "in stalled/bin/nekahuiro" help
 holds "and not as the script is" bash -c "! grep -q ./nekahuiro out"
@@ -18,6 +21,7 @@ else flags="-I$folder/plain/include -L$folder/plain/lib -lnekahuiro"; fi
 ok "a C program with what is installed" "^  it is lost: the stamp of record 3 is still 0, and at minute 5 the record is live$" \
     bash -c "cc -Wall -Werror '$root/examples/c/power_cut.c' $flags -o power_cut && ./power_cut"
 holds "its sentences say what was found" grep -qx "  its age is -2 minutes" out
+ok "a C program on pages that tear" "^all results are right$" bash -c "cc -Wall -Werror '$root/examples/c/pairs.c' $flags -lnekahuiro_pairs -o pairs && ./pairs"
 ok "a C program with both libraries" "^all results are right$" bash -c "cc -Wall -Werror '$root/examples/c/edition2.c' $flags -lnekahuiro_edition2 -o edition2 && ./edition2"
 sed 's/NEKAHUIRO_AHEAD);/NEKAHUIRO_STALE);/' "$root/examples/c/power_cut.c" >untrue.c
 ok "a sentence that isn't true is not told as true" "^NOT SO:   it survives: .* \(1, and 2 is due\)$" bash -c "cc $flags untrue.c $flags -o untrue && ! ./untrue >told; cat told"

@@ -1,7 +1,7 @@
 # The script ./nekahuiro: it builds only what has to be built, and says so. Prover and cargo are played by two scripts.
 mkdir -p tools tree/crates/laws tree/rust/{cli,history,lists,nekahuiro,player}; cp "$run" tree/
 for tool in bash dirname readlink find awk tee grep head tail mkdir touch cat chmod sleep uname; do ln -s "$(command -v $tool)" tools/; done
-text 'laws:\nrules: laws\nnekahuiro: laws rules\nworked: nekahuiro io\nnekahuiro_edition2: rules\n' tree/crates.txt
+text 'laws:\nrules: laws\nnekahuiro: laws rules\nworked: nekahuiro io\nnekahuiro_edition2: rules\nnekahuiro_pairs: rules\n' tree/crates.txt
 touch tree/rust/Cargo.{toml,lock}
 built() { env -u CARGO_TARGET_DIR PATH="$folder/tools" tree/nekahuiro "$@"; }
 mv tools/uname uname; printf '#!/bin/bash\necho Linux aarch64\n' >tools/uname; chmod +x tools/uname
@@ -27,9 +27,9 @@ CARGO
 chmod +x rt cargo; mv rt tools/
 fails "proved, and no cargo" 1 "there is no cargo to build it" built
 holds "it says that it proves" grep -q "it is proved and built, which takes some minutes" err
-holds "it counts what is proved, each once" test "$(grep -o '[0-9]* of 4 proved: [a-z_0-9]*' err | tr '\n' ',')" = "1 of 4 proved: laws,2 of 4 proved: rules,3 of 4 proved: nekahuiro,4 of 4 proved: nekahuiro_edition2,"
-holds "with the time so far" grep -q "1 of 4 proved: laws (0 min [0-9][0-9] s so far)" err
-holds "each library is proved once, as it is built" test "$(tr '\n' ',' <asked)" = "check laws rules,staticlib nekahuiro,staticlib nekahuiro_edition2,"
+holds "it counts what is proved, each once" test "$(grep -o '[0-9]* of 5 proved: [a-z_0-9]*' err | tr '\n' ',')" = "1 of 5 proved: laws,2 of 5 proved: rules,3 of 5 proved: nekahuiro,4 of 5 proved: nekahuiro_edition2,5 of 5 proved: nekahuiro_pairs,"
+holds "with the time so far" grep -q "1 of 5 proved: laws (0 min [0-9][0-9] s so far)" err
+holds "each library is proved once, as it is built" test "$(tr '\n' ',' <asked)" = "check laws rules,staticlib nekahuiro,staticlib nekahuiro_edition2,staticlib nekahuiro_pairs,"
 holds "the prover's text is in a log" grep -q "fn rules::f: proved" tree/target/nekahuiro.log
 holds "and not on the terminal" bash -c "! grep -q 'fn rules' err"
 mv cargo tools/
@@ -49,7 +49,7 @@ holds "a crate that isn't proved: where it is told" grep -q "target/nekahuiro.lo
 if command -v script >/dev/null; then
     text '#!/bin/bash\nexport PATH=%s/tools pause=1.2\nunset CARGO_TARGET_DIR\n%s/tree/nekahuiro\n' ask.terminal
     printf "$(cat ask.terminal)\n" "$folder" "$folder" >terminal; touch tree/crates/laws/newer
-    ok "what is being proved, on a terminal" "proving 2 of 4: rules \(0 min [0-9][0-9] s so far\)" bash -c "script -qec 'bash terminal' /dev/null </dev/null | tr '\r' '\n'"
-    holds "the libraries themselves at last" grep -q "proving 4 of 4: nekahuiro_edition2 (0 min [0-9][0-9] s so far)" out
-    holds "and at the end all" grep -q "4 of 4 proved (0 min [0-9][0-9] s)" out
+    ok "what is being proved, on a terminal" "proving 2 of 5: rules \(0 min [0-9][0-9] s so far\)" bash -c "script -qec 'bash terminal' /dev/null </dev/null | tr '\r' '\n'"
+    holds "the libraries themselves at last" grep -q "proving 5 of 5: nekahuiro_pairs (0 min [0-9][0-9] s so far)" out
+    holds "and at the end all" grep -q "5 of 5 proved (0 min [0-9][0-9] s)" out
 fi

@@ -29,7 +29,7 @@ fn run(words: &[String]) -> Outcome {
         Ok(verdict) => say(&format!("{verdict}\n")),
         Err(refusal) => {
             let reason = format!("{path}: {refusal}");
-            Err(Failure::refused(&reason, &format!("`./nekahuiro show {path}` says what is wrong with page 0")))
+            Err(Failure::refused(&reason, &format!("`./nekahuiro show {path}` says what is wrong with its pages")))
         }
     }
 }

@@ -2,7 +2,7 @@
 
 use crate::command::Command;
 use crate::failure::{Failure, Outcome, Status};
-use crate::files::{cant_read, need_first, read_store, read_up_to};
+use crate::files::{cant_read, need, read_store, read_up_to};
 use crate::show::digits;
 use crate::store::page_in_words;
 use crate::trace::what_happened;
@@ -25,7 +25,8 @@ START is the store before the list, ANSWERS a file that `play --answers` wrote, 
 The list is judged by an engine of its own, which keeps no locks and no versions and looks up in the events
 and answers so far what the next answer should be. If they don't belong together the status is 6, and the
 first wrong event is told, counted from 0, or else the first wrong page. A list with a prepare, decide or
-query, or a START with a prepared transaction, is refused with 30. It is for stores of edition 1.
+query, or a START with a prepared transaction, is refused with 30. It is for stores of edition 1 whose pages
+don't tear.
 ",
     run,
 };
@@ -48,11 +49,11 @@ fn run(words: &[String]) -> Outcome {
     }
 }
 
-/// The auditor is for edition 1.
+/// The auditor is for edition 1, on pages that don't tear.
 fn need_audited(path: &str) -> Outcome {
-    let why = "and the auditor is for edition 1";
+    let why = "and the auditor is for edition 1 on pages that are written all or nothing";
     let mend = "play EVENTS on a copy of START with `--expect ANSWERS`, and compare the copy with END by `show --diff`";
-    need_first(path, why, mend)
+    need(|edition| edition == Edition::FIRST, path, why, mend)
 }
 
 /// Reads a store of edition 1.

@@ -35,6 +35,9 @@ pub const WAIT: Choice = ("--wait", "SECONDS", "wait so long while another comma
 /// The name of the option for an edition.
 pub const EDITION: &str = "--edition";
 
+/// The name of the option for pages that can tear.
+pub const PAIRS: &str = "--pairs";
+
 /// The words of a call, told apart.
 pub struct Given<'w> {
     /// What is no option, in its order.
@@ -151,7 +154,12 @@ impl<'w> Given<'w> {
     /// The edition that was asked for, which is the first if none was.
     pub fn edition(&self) -> Outcome<Edition> {
         match self.value(EDITION) {
+            None | Some("1") if self.has(PAIRS) => Ok(Edition::PAIRS),
             None | Some("1") => Ok(Edition::FIRST),
+            Some("2") if self.has(PAIRS) => {
+                let reason = "pages that can tear are those of edition 1, and --edition 2 was given";
+                Err(Failure::usage(reason, "leave out --pairs or --edition"))
+            }
             Some("2") => Ok(Edition::SECOND),
             Some(other) => {
                 Err(Failure::usage(&format!("there is no edition `{other}`"), "write `--edition 1` or `--edition 2`"))

@@ -1,6 +1,6 @@
 //! `encode`: events in words to event words and back.
 
-use crate::command::{Command, EDITION};
+use crate::command::{Command, EDITION, PAIRS};
 use crate::failure::{Failure, Outcome};
 use crate::list::{self, hex_word, line_words};
 use crate::{files, say, say_bytes};
@@ -12,6 +12,7 @@ pub const COMMAND: Command = Command {
     names: &["[EVENT]"],
     options: &[
         (EDITION, "NUMBER", "1 or 2: whose event words; without it those of edition 1"),
+        (PAIRS, "", "the event words where pages can tear"),
         ("--raw", "", "write raw event words of 4 bytes, for `play --raw`"),
         ("--from-raw", "", "take standard input as raw event words, and write them in words"),
     ],

@@ -1,7 +1,7 @@
 //! Reading files.
 
 use crate::failure::{Failure, Outcome};
-use crate::store::Store;
+use crate::store::{edition_in_words, Store};
 use nekahuiro::{Edition, Refusal};
 use std::borrow::Cow;
 use std::fs::{self, File};
@@ -28,18 +28,16 @@ pub fn read_store(path: &str) -> Outcome<Store> {
 /// The edition of a store file by its length, before it is read. What is no store counts as edition 1: it is refused
 /// where it is read.
 pub fn edition_of(path: &str) -> Edition {
-    let is_second = |found: fs::Metadata| found.is_file() && found.len() == Edition::SECOND.store_bytes() as u64;
-    match fs::metadata(path).is_ok_and(is_second) {
-        true => Edition::SECOND,
-        false => Edition::FIRST,
-    }
+    let length = fs::metadata(path).ok().filter(fs::Metadata::is_file).map(|found| found.len() as usize);
+    let of_length = |edition: &Edition| Some(edition.store_bytes()) == length;
+    Edition::ALL.into_iter().find(of_length).unwrap_or(Edition::FIRST)
 }
 
-/// Refuses a store of edition 2 for what only edition 1 has; `why` is said of the store, and `mend` what to do instead.
-pub fn need_first(path: &str, why: &str, mend: &str) -> Outcome {
+/// Refuses a store whose edition hasn't got something; `why` is said of the store, and `mend` what to do instead.
+pub fn need(has: fn(Edition) -> bool, path: &str, why: &str, mend: &str) -> Outcome {
     match edition_of(path) {
-        Edition::SECOND => Err(Failure::refused(&format!("{path} is a store of edition 2, {why}"), mend)),
-        _ => Ok(()),
+        edition if has(edition) => Ok(()),
+        edition => Err(Failure::refused(&format!("{path} is a store of {}, {why}", edition_in_words(edition)), mend)),
     }
 }
 

@@ -1,7 +1,7 @@
-//! `fresh STORE [--force] [--edition 2]`: makes a store file.
+//! `fresh STORE [--force] [--edition 2] [--pairs]`: makes a store file.
 
 use crate::alone::Alone;
-use crate::command::{Command, EDITION, WAIT};
+use crate::command::{Command, EDITION, PAIRS, WAIT};
 use crate::failure::{visible, Failure, Outcome};
 use crate::files::need_plain;
 use crate::say;
@@ -16,12 +16,17 @@ pub const COMMAND: Command = Command {
     options: &[
         ("--force", "", "replace a store that is there"),
         (EDITION, "NUMBER", "1 or 2; a store of edition 2 has sixty-four records, and without it there are sixteen"),
+        (PAIRS, "", "a store on pages that can tear, each kept as two copies"),
         WAIT,
     ],
     summary: "make a store file",
     help: "\
 A store of edition 2 has 4128 bytes, and commands know it by its length. It has no prepare, decide and query, no
 state files, portions and sheets, and isn't audited.
+
+A store made with --pairs has 2178 bytes, and is known by its length too. Each of its pages is kept as two copies, a
+status (1 for good) before each, so that a page write within which the power goes loses nothing. Its records and event
+words are those of edition 1; it has no prepare, decide and query, and isn't audited.
 ",
     run,
 };

@@ -4,8 +4,6 @@ use crate::command::{digits, record, Command};
 use crate::failure::{Failure, Outcome};
 use crate::show::digits as digits_of;
 use crate::{files, say};
-use nekahuiro::any::CommitPage;
-use nekahuiro::Refusal;
 
 /// The command.
 pub const COMMAND: Command = Command {
@@ -25,8 +23,8 @@ fn run(words: &[String]) -> Outcome {
     digits(files::edition_of(path), number)?;
     let store = files::read_store(path)?;
     let record = record(store.edition, number)?;
-    if let CommitPage::Damaged(why) = store.commit_page() {
-        let reason = format!("{path}: {}, {why}, so it isn't known where records are settled", Refusal::Damaged);
+    if let Some(why) = store.damage() {
+        let reason = format!("{path}: refused 4: {why}, so it isn't known where records are settled");
         return Err(Failure::refused(&reason, &format!("`./nekahuiro show {path}` shows the home pages")));
     }
     say(&format!("{}\n", digits_of(&store.settled(record))))

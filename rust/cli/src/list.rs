@@ -3,6 +3,7 @@
 use crate::failure::{Failure, Outcome};
 use crate::files::{name_of, read_list};
 use crate::names::{Known, Named};
+use crate::store::is_lent;
 use nekahuiro::limits::EVENTS;
 use nekahuiro::{BadWords, Edition};
 use std::collections::BTreeMap;
@@ -38,6 +39,11 @@ words in hex; # starts a comment. With --raw it has raw event words of 4 bytes.
 
 A list for a store of edition 2 is written in the same way: its records are 0 to 63, a COUNT is at most 255 and left
 out 255, a word has 16 hex digits or 8 raw bytes, and there are no prepare, decide and query.
+
+In a list for a store on pages that can tear, a word after COUNT says what becomes of the page write that comes next:
+`first-bad`, its first copy is left bad; `second-bad`, its first copy is new and the second bad; `second-old`, its first
+copy is new and the second old. In the last two cases that page write counts as made. There are no prepare, decide
+and query.
 ";
 
 /// A list of events in raw words, with the names in it by event.
@@ -131,9 +137,9 @@ pub fn check_length(edition: Edition, path: &str, words: &[u8]) -> Outcome {
     if events > EVENTS {
         let name = name_of(path);
         let reason = format!("{name}: {events} events, but a run takes at most {EVENTS} (refusal 20)");
-        let mend = match edition {
-            Edition::SECOND => "cut the list where nothing is live; each part starts with a recover".to_string(),
-            _ => format!("play it in portions, with `--portions {EVENTS}`"),
+        let mend = match is_lent(edition) {
+            true => format!("play it in portions, with `--portions {EVENTS}`"),
+            false => "cut the list where nothing is live; each part starts with a recover".to_string(),
         };
         return Err(Failure::refused(&reason, &mend));
     }

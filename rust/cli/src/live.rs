@@ -2,9 +2,9 @@
 
 use crate::follow::Follower;
 use crate::state_file::Kept;
-use crate::store::{Refused, Store};
+use crate::store::{is_lent, Refused, Store, Write};
 use nekahuiro::any::{CommitPage, Event, Record};
-use nekahuiro::{Answer, Edition, Fields, Page, PageWrite};
+use nekahuiro::{Answer, Fields, Page};
 use std::collections::BTreeMap;
 
 /// The versions of live transactions, by record and writer.
@@ -13,7 +13,7 @@ pub type Versions = BTreeMap<(Record, u8), Page>;
 /// What goes on from one event to the next.
 #[derive(Clone, PartialEq, Eq)]
 pub enum Live {
-    /// Edition 1 is played in portions on a lent state.
+    /// Edition 1 is played in portions on a lent state, also where pages can tear.
     Lent(Box<Kept>),
     /// Edition 2 isn't: what is live is played again before each event.
     Again(Box<Again>),
@@ -33,14 +33,14 @@ pub struct Again {
 impl Live {
     /// Down, with nothing live.
     pub fn start(store: &Store) -> Live {
-        match store.edition {
-            Edition::SECOND => Live::Again(Box::new(Again {
+        match is_lent(store.edition) {
+            true => Live::Lent(Box::default()),
+            false => Live::Again(Box::new(Again {
                 before: store.clone(),
                 words: Vec::new(),
                 follower: Follower::down(store.edition),
                 versions: Versions::new(),
             })),
-            _ => Live::Lent(Box::default()),
         }
     }
 
@@ -75,12 +75,10 @@ impl Live {
         }
     }
 
-    /// The page writes that an event makes if nothing cuts it, in their order.
-    pub fn page_writes(&self, store: &Store, word: &[u8]) -> Result<Vec<PageWrite>, Refused> {
+    /// The writes to the medium that an event makes if nothing cuts it, in their order.
+    pub fn writes(&self, store: &Store, word: &[u8]) -> Result<Vec<Write>, Refused> {
         match self {
-            Live::Lent(kept) => {
-                (0..=u8::MAX).map_while(|index| store.page_write(kept, word, index).transpose()).collect()
-            }
+            Live::Lent(kept) => (0..=u8::MAX).map_while(|index| store.write(kept, word, index).transpose()).collect(),
             Live::Again(again) => again.page_writes(word),
         }
     }
@@ -111,7 +109,7 @@ impl Again {
         if self.follower.live.is_empty() {
             // A run from here is the same: down it starts anew, and up it has nothing to recover.
             self.before = store.clone();
-            let recover = Event::Recover { count: edition.count_limit() };
+            let recover = Event::Recover { count: edition.count_limit().into() };
             self.words = if self.follower.up { edition.word(recover.fields()) } else { Vec::new() };
         }
         Ok(answer)
@@ -120,7 +118,7 @@ impl Again {
     /// The page writes of an event: the event is cut after each of them, and what it wrote last is in the store. Which
     /// pages they are follows from the records that the commit page names: their intention pages, the commit page, their
     /// home pages, the commit page emptied; in a recover only the last two.
-    fn page_writes(&self, word: &[u8]) -> Result<Vec<PageWrite>, Refused> {
+    fn page_writes(&self, word: &[u8]) -> Result<Vec<Write>, Refused> {
         let edition = self.before.edition;
         let (Some(event), Some(fields)) = (edition.event(word), edition.fields(word)) else { return Ok(Vec::new()) };
         let commits = matches!(event, Event::Commit { .. });
@@ -146,7 +144,7 @@ impl Again {
             true => named().map(Store::intention).chain([0]).chain(home).collect(),
             false => home.collect(),
         };
-        let write = |(page, after): (usize, &Store)| PageWrite { page: page as u8, bytes: after.page(page) };
+        let write = |(page, after): (usize, &Store)| Write { page: page as u8, half: None, bytes: after.page(page) };
         Ok(pages.into_iter().zip(&stores[1..]).map(write).collect())
     }
 
@@ -178,6 +176,8 @@ impl Again {
 #[cfg(test)]
 mod tests {
     use super::*;
+    use nekahuiro::pairs::Half;
+    use nekahuiro::Edition;
     use nekahuiro_lists::Rng;
 
     /// The fields of some event, most often of a live transaction without a child; `None` as a count is as many page writes as are due.
@@ -205,50 +205,58 @@ mod tests {
         }
     }
 
-    /// Both editions on the same events: what is played again before each event is as the lent state says, and so are
-    /// the page writes, which edition 1's library tells.
+    /// All editions on the same events: what edition 2 plays again before each event is as the lent state says, also
+    /// where pages can tear, and so are the page writes, which edition 1's library tells.
     #[test]
     fn what_is_played_again_is_as_the_lent_state() {
         let (mut rng, mut versions, mut writes, mut cut) = (Rng::new(24), 0, 0, 0);
         for _ in 0..1_000 {
             let mut stores = Edition::ALL.map(Store::fresh);
-            let mut lives = [0, 1].map(|at: usize| Live::start(&stores[at]));
+            let mut lives = stores.each_ref().map(Live::start);
             for at in 0..100 {
                 let (fields, count) = event(&mut rng, &lives[0].follower(stores[0].commit_page()));
-                let words = Edition::ALL.map(|edition| {
-                    let counts = matches!(fields.kind, 5 | 8);
-                    let count = if counts { count.unwrap_or(edition.count_limit()) } else { 0 };
-                    edition.word(Fields { count, ..fields })
-                });
-                let planned = [0, 1].map(|edition: usize| {
-                    let told = lives[edition].page_writes(&stores[edition], &words[edition]);
-                    let told = told.unwrap_or_else(|refused| panic!("{refused}"));
-                    let place = |write: PageWrite| {
-                        let what = crate::store::page_in_words(Edition::ALL[edition], write.page.into());
-                        (what, if write.page == 0 { [write.bytes[0] & 15; 32] } else { write.bytes })
-                    };
-                    told.into_iter().map(place).collect::<Vec<_>>()
-                });
-                assert_eq!(planned[0], planned[1], "event {at}, {}", Edition::FIRST.describe(&words[0]));
-                let [one, two] = [0, 1].map(|edition: usize| {
-                    let played = lives[edition].portion(&mut stores[edition], &words[edition]);
-                    played.unwrap_or_else(|refused| panic!("{refused}"))
-                });
-                assert_eq!(one, two, "event {at}, {}", Edition::FIRST.describe(&words[0]));
-                let page = stores[0].commit_page();
-                let [first, mut second] = [&lives[0], &lives[1]].map(|live| live.follower(page));
-                second.locks.truncate(Edition::FIRST.records);
-                assert!(first == second, "event {at}, {}", Edition::FIRST.describe(&words[0]));
-                assert!(lives[0].versions() == lives[1].versions(), "event {at}: versions");
-                let settled =
-                    [0, 1].map(|at: usize| stores[0].records().map(|r| stores[at].settled(r)).collect::<Vec<_>>());
-                assert_eq!(settled[0], settled[1], "event {at}: settled");
+                let each = Edition::ALL.into_iter().zip(&mut stores).zip(&mut lives);
+                let each = each.map(|((edition, store), live)| told_of(edition, store, live, fields, count));
+                let told: Vec<Told> = each.collect();
+                for other in &told[1..] {
+                    assert!(*other == told[0], "event {at}, {fields:?}: {other:?} and {:?}", told[0]);
+                }
                 versions += lives[0].versions().len();
-                writes += planned[0].len();
-                cut += usize::from(one[0].is_cut());
+                writes += told[0].writes.len();
+                cut += usize::from(told[0].answers[0].is_cut());
             }
         }
         assert!(versions > 10_000 && writes > 1_000 && cut > 40, "{versions} versions, {writes} writes, {cut} cut");
+    }
+
+    /// What an event leads to, as far as editions have it in common.
+    #[derive(Debug, PartialEq)]
+    struct Told {
+        /// What each page is, and its bytes; of page 0 its state.
+        writes: Vec<(String, Page)>,
+        answers: Vec<Answer>,
+        locks: String,
+        versions: Versions,
+        settled: Vec<Page>,
+    }
+
+    /// Plays an event; `None` as a count is as many page writes as are due.
+    fn told_of(edition: Edition, store: &mut Store, live: &mut Live, fields: Fields, count: Option<u8>) -> Told {
+        let counts = matches!(fields.kind, 5 | 8);
+        let count = if counts { count.unwrap_or(edition.count_limit()) } else { 0 };
+        let word = edition.word(Fields { count, ..fields });
+        let write = |write: Write| {
+            let what = crate::store::page_in_words(edition, write.page.into());
+            (what, if write.page == 0 { [write.bytes[0] & 15; 32] } else { write.bytes })
+        };
+        let writes = live.writes(store, &word).unwrap_or_else(|refused| panic!("{refused}"));
+        // Where pages can tear each is written twice.
+        let writes = writes.into_iter().filter(|write| write.half != Some(Half::Second)).map(write).collect();
+        let answers = live.portion(store, &word).unwrap_or_else(|refused| panic!("{refused}"));
+        let follower = live.follower(store.commit_page());
+        let settled = store.records().take(Edition::FIRST.records).map(|record| store.settled(record)).collect();
+        let locks = format!("{}; {}", follower.in_words(), follower.locks_in_words());
+        Told { writes, answers, locks, versions: live.versions(), settled }
     }
 
     /// A portion that is refused changes nothing.
@@ -257,7 +265,7 @@ mod tests {
         for edition in Edition::ALL {
             let mut store = Store::fresh(edition);
             let (mut live, before) = (Live::start(&store), store.clone());
-            let recover = edition.word(Event::Recover { count: edition.count_limit() }.fields());
+            let recover = edition.word(Event::Recover { count: edition.count_limit().into() }.fields());
             let refused = live.portion(&mut store, &[&recover[..], &[0x70]].concat());
             assert_eq!(refused.map_err(|refused| refused.number), Err(20));
             assert!(store == before && live == Live::start(&before));

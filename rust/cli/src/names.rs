@@ -197,7 +197,11 @@ mod tests {
     /// name began, and to nobody if that has ended or was refused.
     #[test]
     fn a_name_is_the_last_that_began_with_it_and_lives() {
-        for (edition, form, lists) in [(Edition::FIRST, Form::PLAIN, 2_000), (Edition::SECOND, Form::EDITION_2, 500)] {
+        for (edition, form, lists) in [
+            (Edition::FIRST, Form::PLAIN, 2_000),
+            (Edition::SECOND, Form::EDITION_2, 500),
+            (Edition::PAIRS, Form::PAIRS, 500),
+        ] {
             let (mut rng, mut owned, mut nobody) = (Rng::new(12), 0, 0);
             for _ in 0..lists {
                 let (mut known, mut words, mut names) = (Known::of(edition), Vec::new(), BTreeMap::new());

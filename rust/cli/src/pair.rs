@@ -1,11 +1,11 @@
 //! A store file and the state file that goes with it: read together, replaced together.
 
 use crate::failure::{Failure, Outcome, Status};
-use crate::files::{need_first, place_of, read_store};
+use crate::files::{need, place_of, read_store};
 use crate::live::Live;
 use crate::staged::{self, Staged};
 use crate::state_file;
-use crate::store::Store;
+use crate::store::{is_lent, Store};
 use nekahuiro::Edition;
 
 /// What is said if something fails after the point of no return.
@@ -99,18 +99,18 @@ impl<'n> Pair<'n> {
     }
 }
 
-/// A state file goes with a store of edition 1 alone.
+/// A state file goes with a store that is played in portions.
 pub fn need_no_state(store_name: &str, state_name: Option<&str>) -> Outcome {
     let why = "which has no state files: what is live is lost at the end of a list";
     let mend = "leave out --state, and play in one list what belongs together";
-    state_name.map_or(Ok(()), |_| need_first(store_name, why, mend))
+    state_name.map_or(Ok(()), |_| need(is_lent, store_name, why, mend))
 }
 
 /// Under which condition nothing is kept: where there are state files it is for want of one.
 pub fn without_state(edition: Edition) -> &'static str {
-    match edition {
-        Edition::SECOND => "",
-        _ => " without --state",
+    match is_lent(edition) {
+        true => " without --state",
+        false => "",
     }
 }
 

@@ -100,7 +100,7 @@ impl Refused {
 
 /// Plays what writes the bytes, up to the first event that isn't done.
 fn write(store: &mut Store, live: &mut Live, record: Record, offset: u8, bytes: &[u8]) -> Result<(), Refused> {
-    let count = store.edition.count_limit();
+    let count = store.edition.count_limit().into();
     let is_up = live.follower(store.commit_page()).up;
     let mut play = |event: Event| {
         let word = store.edition.word(event.fields());

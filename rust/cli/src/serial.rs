@@ -47,8 +47,8 @@ fn run(words: &[String]) -> Outcome {
     let words = list::read(edition, events, given.has("--raw"))?;
     let store = files::read_store(path)?;
     need_edition(path, &store, edition)?;
-    match edition {
-        Edition::SECOND => say(&tell::<8>(&store, words)?),
+    match edition.event_bytes {
+        8 => say(&tell::<8>(&store, words)?),
         _ => say(&tell::<4>(&store, words)?),
     }
 }
@@ -96,9 +96,13 @@ fn text<const WORD: usize>(store: &Store, first: &Played, history: &History, ser
     let edition = store.edition;
     let all = first.words.len() / WORD;
     let mut text = format!("# {}, as if one transaction came at a time\n", number_of(all, "event"));
-    let refused = matches!(store.commit_page(), CommitPage::Damaged(_));
-    let recover = Event::Recover { count: edition.count_limit() }.to_string();
-    let _ = writeln!(text, "{recover:24}{}", if refused { "  # refused: page 0 is damaged" } else { "" });
+    let refused = match (store.commit_page(), store.lost()) {
+        (CommitPage::Damaged(_), _) => "  # refused: page 0 is damaged".to_string(),
+        (_, Some(page)) => format!("  # refused: page {page} has no good copy"),
+        (_, None) => String::new(),
+    };
+    let recover = Event::Recover { count: edition.count_limit().into() }.to_string();
+    let _ = writeln!(text, "{recover:24}{refused}");
     for turn in &serial.turns {
         let _ = writeln!(text, "# {}", heading(history, turn));
         for placed in &turn.events {

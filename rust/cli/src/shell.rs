@@ -8,10 +8,10 @@ use crate::follow::Follower;
 use crate::live::Live;
 use crate::names::{Bound, Known, Named};
 use crate::pair::{need_no_state, without_state, Pair};
-use crate::store::{Refused, Store};
+use crate::store::{is_lent, Refused, Store};
 use crate::{as_called, complain, list, say, show, state_file, trace};
 use nekahuiro::limits::EVENTS;
-use nekahuiro::{Answer, Edition, Refusal};
+use nekahuiro::{Answer, Refusal};
 use std::io::{self, BufRead, IsTerminal, Read};
 use std::time::Duration;
 
@@ -160,7 +160,7 @@ impl<'n> Shell<'n> {
         match self.state_name {
             Some(name) if refused.is_of_state() => state_file::unsound(name),
             // Edition 2 plays what is live again before each event.
-            None if refused.edition == Edition::SECOND && refused.number == Refusal::List.number() => {
+            None if !is_lent(refused.edition) && refused.number == Refusal::List.number() => {
                 let reason = format!("{EVENTS} events are live, and no more can be played at once (refusal 20)");
                 Failure::refused(&reason, "begin again: what is live is lost, as by a crash; no file was changed")
             }

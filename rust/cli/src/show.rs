@@ -6,10 +6,11 @@ use crate::failure::{visible, Failure, Outcome};
 use crate::files::cant_read;
 use crate::live::Live;
 use crate::pair::{need_no_state, Pair};
-use crate::store::{page_in_words, Store};
+use crate::store::{edition_in_words, page_in_words, Store};
 use crate::{files, number_of, say, state_file};
 use nekahuiro::any::{CommitPage, Map, Record};
-use nekahuiro::Place;
+use nekahuiro::pairs::PageCopy;
+use nekahuiro::{Page, Place};
 use std::fmt::Write;
 use std::fs;
 
@@ -22,7 +23,10 @@ pub const COMMAND: Command = Command {
         ("--state", "FILE", "also who is live, who holds and retains, and what is written and not committed"),
     ],
     summary: "the commit page in words, each record and where it stands",
-    help: "",
+    help: "\
+Where pages can tear, a page is what its first good copy says. Pages whose copies aren't both good and alike are shown
+with both copies and their status.
+",
     run,
 };
 
@@ -44,7 +48,58 @@ pub fn records(store: &Store) -> String {
         let value = line(&store.settled(record));
         let _ = writeln!(text, "{:6}  {:19}  {value}", record.number(), place(store, record));
     }
+    if store.edition.tears {
+        let _ = write!(text, "\n{}", copies(store));
+    }
     text
+}
+
+/// The pages that aren't two good copies that are alike, each with both of them.
+fn copies(store: &Store) -> String {
+    let mut text = torn(store);
+    if text.is_empty() {
+        return "every page is two good copies that are alike\n".to_string();
+    }
+    for (page, parts) in uneven(store) {
+        let _ = writeln!(text, "page {page}, {}", page_in_words(store.edition, page));
+        parts.iter().for_each(|(label, bytes)| text += &format!("  {label}  {}\n", line(bytes)));
+    }
+    text
+}
+
+/// What of the copies of pages isn't as it is while up, in a line; nothing where all is.
+pub fn torn(store: &Store) -> String {
+    match (store.lost(), uneven(store).count()) {
+        (Some(page), _) => {
+            format!("page {page} has no good copy: recover and age are refused with 4, and nothing is mended\n")
+        }
+        (None, 0) => String::new(),
+        (None, 1) => "1 page has a copy that a recover will mend\n".to_string(),
+        (None, torn) => format!("{torn} pages have a copy that a recover will mend\n"),
+    }
+}
+
+/// The pages whose copies aren't both good and alike, with their parts.
+fn uneven(store: &Store) -> impl Iterator<Item = (usize, Vec<(String, Page)>)> + '_ {
+    let copies = (0..store.edition.pages()).filter_map(|page| store.copies(page).map(|copies| (page, copies)));
+    let uneven = copies.filter(|(_, [first, second])| !first.is_good() || first != second);
+    uneven.map(|(page, _)| (page, parts(store, page)))
+}
+
+/// What a page is made of: itself, or where pages can tear its two copies, each with its status.
+fn parts(store: &Store, page: usize) -> Vec<(String, Page)> {
+    let status = |copy: &PageCopy| match copy.status {
+        _ if copy.is_good() => "good".to_string(),
+        0 => "bad".to_string(),
+        other => format!("bad, {other}"),
+    };
+    match store.copies(page) {
+        Some(copies) => {
+            let named = ["first", "second"].iter().zip(&copies);
+            named.map(|(name, copy)| (format!("{name:6} {:8}", status(copy)), copy.bytes)).collect()
+        }
+        None => vec![(String::new(), store.page(page))],
+    }
 }
 
 /// A store with what is live in a state file.
@@ -81,12 +136,12 @@ fn difference(one: &str, other: &str) -> Outcome<String> {
     let stores = [files::read_store(one)?, files::read_store(other)?];
     let edition = stores[0].edition;
     if stores[1].edition != edition {
-        let numbers = [edition.number, stores[1].edition.number];
-        let reason = format!("{one} is a store of edition {}, and {other} one of edition {}", numbers[0], numbers[1]);
+        let editions = [edition, stores[1].edition].map(edition_in_words);
+        let reason = format!("{one} is a store of {}, and {other} one of {}", editions[0], editions[1]);
         return Err(Failure::refused(&reason, "name two stores of one edition"));
     }
     let all = edition.pages();
-    let pages: Vec<usize> = (0..all).filter(|page| stores[0].page(*page) != stores[1].page(*page)).collect();
+    let pages: Vec<usize> = (0..all).filter(|page| parts(&stores[0], *page) != parts(&stores[1], *page)).collect();
     if pages.is_empty() {
         return Ok(format!("{} and {} are equal\n", visible(one), visible(other)));
     }
@@ -94,15 +149,22 @@ fn difference(one: &str, other: &str) -> Outcome<String> {
     let mut text = format!("{} of {all} differ\n", number_of(pages.len(), "page"));
     for page in pages {
         let _ = writeln!(text, "page {page}, {}", page_in_words(edition, page));
-        let [old, new] = [stores[0].page(page), stores[1].page(page)];
-        for (name, page) in names.iter().zip([&old, &new]) {
-            let _ = writeln!(text, "  {:width$}  {}", visible(name), line(page));
+        for (old, new) in parts(&stores[0], page).iter().zip(&parts(&stores[1], page)).filter(|(old, new)| old != new) {
+            for (name, (label, bytes)) in names.iter().zip([old, new]) {
+                let _ = writeln!(text, "  {:width$}  {label}{}", visible(name), line(bytes));
+            }
+            let marked = format!("  {:width$}  {:2$}{3}", "", "", old.0.len(), marks(&old.1, &new.1));
+            let _ = writeln!(text, "{}", marked.trim_end());
         }
-        let marks = old.iter().zip(&new).map(|(old, new)| if old == new { "  " } else { "^^" });
-        let groups: Vec<String> = marks.collect::<Vec<_>>().chunks(4).map(|group| group.concat()).collect();
-        let _ = writeln!(text, "  {:width$}  {}", "", groups.join(" ").trim_end());
     }
     Ok(text)
+}
+
+/// Carets under the bytes that differ.
+fn marks(old: &Page, new: &Page) -> String {
+    let marks = old.iter().zip(new).map(|(old, new)| if old == new { "  " } else { "^^" });
+    let groups: Vec<String> = marks.collect::<Vec<_>>().chunks(4).map(|group| group.concat()).collect();
+    groups.join(" ")
 }
 
 /// The commit page in words.

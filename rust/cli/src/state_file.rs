@@ -6,9 +6,9 @@ use crate::failure::{Failure, Outcome};
 use crate::files::{cant_read, edition_of, folder_of, length_in_words, place_of, read_up_to};
 use crate::live::Versions;
 use crate::staged::digest;
-use crate::store::Store;
+use crate::store::{is_lent, Store};
 use nekahuiro::limits::{STATE_BYTES, WORK_BYTES};
-use nekahuiro::{any, Edition, Record, State, Work};
+use nekahuiro::{any, Record, State, Work};
 use std::io::ErrorKind;
 use std::os::unix::ffi::OsStrExt;
 use std::path::{Path, PathBuf};
@@ -60,7 +60,7 @@ fn parts<'b>(name: &str, bytes: &'b [u8]) -> Outcome<Parts<'b>> {
         let mend = format!("play on with the version that left it, or {}", start_down(name));
         return Err(Failure::refused(&format!("{name} is a state file of another version of nekahuiro"), &mend));
     }
-    if !headed && edition_of(name) == Edition::SECOND {
+    if !headed && !is_lent(edition_of(name)) {
         let reason =
             format!("{name} is no state file: it is as long as a store of edition 2, which has no state files");
         return Err(Failure::refused(&reason, "name the state file that a play on a store of edition 1 left"));

@@ -4,8 +4,9 @@ use crate::follow::Follower;
 use crate::names::Names;
 use crate::number_of;
 use crate::show::digits;
+use crate::store::refusal_in_words;
 use nekahuiro::any::Event;
-use nekahuiro::{page_writes, Answer, Edition};
+use nekahuiro::{page_writes, Answer, Edition, Tear};
 use nekahuiro_history::{End, History};
 use std::collections::BTreeMap;
 use std::fmt::Write;
@@ -66,8 +67,14 @@ pub fn what_happened(edition: Edition, word: &[u8], answer: Answer) -> String {
         let stored = if answer.value > 0 { "is stored" } else { "isn't stored" };
         return format!("{answer}; the decision {stored}");
     }
-    if answer.number != 0 {
+    if let (true, Some(Event::Commit { count, .. } | Event::Recover { count })) = (answer.is_cut(), event) {
+        return format!("{answer}{}", torn(count.tear));
+    }
+    if answer.is_cut() {
         return answer.to_string();
+    }
+    if answer.number != 0 {
+        return refusal_in_words(edition, answer.number);
     }
     match event {
         Some(Event::Begin { .. }) => format!("transaction {} begins", answer.value),
@@ -84,6 +91,16 @@ pub fn what_happened(edition: Edition, word: &[u8], answer: Answer) -> String {
         Some(Event::Abort { report: true, .. }) => "done, with a report".to_string(),
         Some(Event::Crash) => "the store is down".to_string(),
         _ => "done".to_string(),
+    }
+}
+
+/// What a cut left torn.
+fn torn(tear: Tear) -> &'static str {
+    match tear {
+        Tear::None => "",
+        Tear::FirstBad => "; the next is torn, its first copy left bad",
+        Tear::SecondBad => "; the last of them is torn, its second copy left bad",
+        Tear::SecondOld => "; the last of them is torn, its second copy left old",
     }
 }
 

@@ -119,8 +119,11 @@ impl Form {
     pub(crate) fn again<const WORD: usize>(&self, bytes: &[u8], number: Option<u8>) -> [u8; WORD] {
         let old = bits(bytes);
         let named = number.map_or(old, |number| TRANSACTION.put(old, number));
+        let whole = |bits| word_of(self.count_field().put(bits, self.whole()));
         match self.word(bytes).kind {
-            Kind::Commit | Kind::Prepare | Kind::Decide => word_of(self.count_field().put(named, self.whole())),
+            // Its value says how it is torn, if it says anything.
+            Kind::Commit => whole(self.value_field().put(named, 0)),
+            Kind::Prepare | Kind::Decide => whole(named),
             _ => word_of(named),
         }
     }

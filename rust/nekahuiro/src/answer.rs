@@ -1,7 +1,7 @@
 //! Answers to events, and refusals of whole operations.
 
 use crate::limits::{ANSWER_BYTES, EVENTS, LIST_BYTES, RECORDS, ROWS, STORE_BYTES, WORK_BYTES};
-use crate::Reason;
+use crate::{Edition, Reason};
 use std::fmt;
 
 /// The answer to one event: a number, then a value.
@@ -76,7 +76,7 @@ pub fn page_writes(number: u8) -> String {
 pub enum Refusal {
     /// 1: a waiting row has a mode that there isn't.
     Mode,
-    /// 4: page 0 is damaged.
+    /// 4: page 0 is damaged, or where pages can tear some page has no good copy.
     Damaged,
     /// 5: the transaction of a waiting row isn't live.
     NotLive,
@@ -155,11 +155,17 @@ impl fmt::Display for Refusal {
         write!(f, "refused {}: ", self.number())?;
         match self {
             Refusal::Mode => write!(f, "a lock is waited for in mode 0, to write, or 1, to read"),
-            Refusal::Damaged => write!(f, "page 0 is damaged"),
+            Refusal::Damaged => write!(f, "page 0 is damaged, or where pages can tear a page has no good copy"),
             Refusal::NotLive => write!(f, "the transaction that waits isn't live"),
             Refusal::List => write!(f, "the event list must be whole words of 4 bytes, at most {EVENTS} of them"),
             Refusal::Answers => write!(f, "the answer buffer must have {ANSWER_BYTES} bytes for each event"),
-            Refusal::Store => write!(f, "a store has exactly {STORE_BYTES} bytes"),
+            Refusal::Store => {
+                write!(
+                    f,
+                    "a store has exactly {STORE_BYTES} bytes, {} where pages can tear",
+                    Edition::PAIRS.store_bytes()
+                )
+            }
             Refusal::Record => write!(f, "records are numbered from 0 to {}", RECORDS - 1),
             Refusal::Work => write!(f, "the working buffer has exactly {WORK_BYTES} bytes"),
             Refusal::State => write!(f, "the state isn't one that the last portion left with this store"),

@@ -1,8 +1,9 @@
 //! A device: a session whose page writes reach a medium, one by one and in their order.
 
 use crate::answer::Answer;
-use crate::limits::PAGES;
-use crate::{Event, Page, PageWrite, Reason, Session, Store, Transact};
+use crate::form::{First, Form};
+use crate::limits::{PAGES, PAGE_BYTES};
+use crate::{Event, Page, PageWrite, Reason, Session, StoreOf, Transact};
 use std::fmt;
 
 /// Where a device keeps its store: flash, EEPROM, FRAM, a file.
@@ -16,6 +17,24 @@ pub trait Medium {
     fn program(&mut self, page: u8, bytes: &Page) -> Result<(), Self::Error>;
 }
 
+/// What programs the writes of a form: every [`Medium`] does pages, and every `pairs::Medium`
+/// copies of pages. Implement one of these two.
+pub trait Programs<W> {
+    /// Why one can't be programmed.
+    type Error;
+
+    /// Programs one.
+    fn program_one(&mut self, write: &W) -> Result<(), Self::Error>;
+}
+
+impl<M: Medium> Programs<PageWrite> for M {
+    type Error = M::Error;
+
+    fn program_one(&mut self, write: &PageWrite) -> Result<(), M::Error> {
+        self.program(write.page, &write.bytes)
+    }
+}
+
 /// Why something isn't done on a device.
 #[derive(Clone, Copy, Debug, PartialEq, Eq)]
 pub enum Fault<E> {
@@ -25,7 +44,7 @@ pub enum Fault<E> {
     /// failed is on the medium isn't known. A commit that fails so survives as a whole or not at all; what the
     /// medium holds says which.
     Medium {
-        /// How many page writes were made before.
+        /// How many writes were made before, of pages or of copies of pages.
         made: u8,
         /// What the medium says.
         error: E,
@@ -45,7 +64,7 @@ impl<E: fmt::Display> fmt::Display for Fault<E> {
         match self {
             Fault::Refused(reason) => reason.fmt(f),
             Fault::Medium { made, error } => {
-                write!(f, "the medium failed after {}: {error}", crate::page_writes(*made))
+                write!(f, "the medium failed after {made} write{}: {error}", if *made == 1 { "" } else { "s" })
             }
             Fault::Failed => write!(f, "the medium failed before: read it and restart the device"),
         }
@@ -87,48 +106,48 @@ impl<E: fmt::Debug + fmt::Display> std::error::Error for Fault<E> {}
 /// # Ok::<(), Box<dyn std::error::Error>>(())
 /// ```
 #[derive(Clone, Debug)]
-pub struct Device<M> {
+pub struct Device<M, F: Form = First> {
     medium: M,
     /// None once a page write has failed.
-    session: Option<Session>,
+    session: Option<Session<F>>,
 }
 
-impl<M: Medium> Device<M> {
+impl<F: Form, M: Programs<F::Write>> Device<M, F> {
     /// The power has come on: the medium, and the store that was read from it. It is down; recover comes next.
-    pub fn new(medium: M, store: Store) -> Device<M> {
+    pub fn new(medium: M, store: StoreOf<F>) -> Device<M, F> {
         Device { medium, session: Some(Session::new(store)) }
     }
 
     /// As after a power cut, with what was read from the medium. Whatever the device was has no effect.
-    pub fn restart(&mut self, store: Store) {
+    pub fn restart(&mut self, store: StoreOf<F>) {
         self.session = Some(Session::new(store));
     }
 
     /// Lays down a fresh store on a medium that may hold anything; recover comes next. All that was there is
     /// lost. Page 0 comes first, as zeros, so that it can't be read until all others are blank; then pages 1 to
-    /// 32; then page 0 as the empty commit page: 34 page writes. Cut by the power, the medium is as it was, or
+    /// 32; then page 0 as the empty commit page: 34 page writes, or both copies of each. Cut by the power, the medium is as it was, or
     /// its recover is refused as damaged with a page 0 of zeros, or it is fresh; laying down again mends it.
     pub fn lay_down(&mut self) -> Result<(), Fault<M::Error>> {
-        let fresh = Store::fresh();
+        let fresh = StoreOf::fresh();
         let page = |page: u8| PageWrite { page, bytes: fresh.page(page.into()) };
-        let unreadable = PageWrite { page: 0, bytes: [0; crate::limits::PAGE_BYTES] };
+        let unreadable = PageWrite { page: 0, bytes: [0; PAGE_BYTES] };
         let writes = std::iter::once(unreadable).chain((1..PAGES as u8).map(page)).chain([page(0)]);
         self.session = None;
-        self.program(writes)?;
+        self.program(writes.flat_map(F::writes))?;
         self.restart(fresh);
         Ok(())
     }
 
-    /// Hands page writes to the medium, one by one.
-    fn program(&mut self, writes: impl Iterator<Item = PageWrite>) -> Result<(), Fault<M::Error>> {
-        for (made, PageWrite { page, bytes }) in (0..).zip(writes) {
-            self.medium.program(page, &bytes).map_err(|error| Fault::Medium { made, error })?;
+    /// Hands writes to the medium, one by one.
+    fn program(&mut self, writes: impl Iterator<Item = F::Write>) -> Result<(), Fault<M::Error>> {
+        for (made, write) in (0..).zip(writes) {
+            self.medium.program_one(&write).map_err(|error| Fault::Medium { made, error })?;
         }
         Ok(())
     }
 
     /// The copy of the medium in memory with what is live on it; none once a page write has failed.
-    pub fn session(&self) -> Option<&Session> {
+    pub fn session(&self) -> Option<&Session<F>> {
         self.session.as_ref()
     }
 
@@ -148,16 +167,17 @@ impl<M: Medium> Device<M> {
     }
 }
 
-impl<M: Medium> Transact for Device<M> {
+impl<F: Form, M: Programs<F::Write>> Transact for Device<M, F> {
     type Error = Fault<M::Error>;
 
     /// Through to the medium, whatever the event: its page writes first, then the event on the copy. The count
-    /// of the event is set to 63.
+    /// of the event is set to 63. Where pages can tear, a recovery mends the medium before its page writes.
     fn play(&mut self, event: Event) -> Result<Answer, Fault<M::Error>> {
         let event = event.uncut();
         // Where a page write fails the session is gone.
         let mut session = self.session.take().ok_or(Fault::Failed)?;
-        self.program((0..).map_while(|index| session.page_write(event, index)))?;
+        let mends = session.mends(event).into_iter();
+        self.program(mends.chain((0..).map_while(|index| session.write(event, index))))?;
         let answer = session.play(event);
         self.session = Some(session);
         Ok(answer?)

@@ -1,9 +1,9 @@
 //! The editions of the store: the numbers in which they differ, and how their words and commit pages are laid out.
 
-use crate::limits::{DEPTH_LIMIT, PAGE_BYTES};
+use crate::limits::{DEPTH_LIMIT, PAGE_BYTES, PAIR_BYTES};
 use crate::Fields;
 
-/// An edition, where it is known only when the program runs. With [`any`](crate::any) events, records and commit pages
+/// An edition, where it is known only when the program runs: its numbers, and whether its pages can tear. With [`any`](crate::any) events, records and commit pages
 /// of each edition are of one type.
 ///
 /// ```
@@ -12,7 +12,7 @@ use crate::Fields;
 /// let word = Edition::SECOND.word(lock.fields());
 /// assert_eq!(word, [0x20, 0x7E, 0, 0, 0, 0, 0, 0]);
 /// assert_eq!(Edition::SECOND.event(&word), Some(lock));
-/// assert!(Edition::FIRST.parse::<64, nekahuiro::Identity>("lock 0 63").is_err());
+/// assert!(Edition::FIRST.parse::<64, nekahuiro::Identity, u8>("lock 0 63").is_err());
 /// # Ok::<(), nekahuiro::BadWords>(())
 /// ```
 #[derive(Clone, Copy, Debug, PartialEq, Eq)]
@@ -25,6 +25,8 @@ pub struct Edition {
     pub event_bytes: usize,
     /// Whether there are prepare, decide and query.
     pub two_phases: bool,
+    /// Whether pages can tear: each is kept as two copies, and a commit or recovery can be cut within a page write.
+    pub tears: bool,
     /// Bits of a word's record field; the count in page 0 has one more.
     pub(crate) record_bits: u32,
     /// Bits of a word's count field.
@@ -33,24 +35,50 @@ pub struct Edition {
 
 impl Edition {
     /// Sixteen records, words of four bytes, and transactions that can be prepared.
-    pub const FIRST: Edition =
-        Edition { number: 1, records: 16, event_bytes: 4, two_phases: true, record_bits: 4, count_bits: 6 };
+    pub const FIRST: Edition = Edition {
+        number: 1,
+        records: 16,
+        event_bytes: 4,
+        two_phases: true,
+        tears: false,
+        record_bits: 4,
+        count_bits: 6,
+    };
 
     /// Sixty-four records and words of eight bytes.
-    pub const SECOND: Edition =
-        Edition { number: 2, records: 64, event_bytes: 8, two_phases: false, record_bits: 6, count_bits: 8 };
+    pub const SECOND: Edition = Edition {
+        number: 2,
+        records: 64,
+        event_bytes: 8,
+        two_phases: false,
+        tears: false,
+        record_bits: 6,
+        count_bits: 8,
+    };
 
-    /// Both.
-    pub const ALL: [Edition; 2] = [Edition::FIRST, Edition::SECOND];
+    /// Edition 1 on pages that can tear; nothing can be prepared.
+    pub const PAIRS: Edition = Edition { two_phases: false, tears: true, ..Edition::FIRST };
+
+    /// All of them.
+    pub const ALL: [Edition; 3] = [Edition::FIRST, Edition::SECOND, Edition::PAIRS];
 
     /// Pages of a store: the commit page, then an intention and a home page for each record.
     pub const fn pages(self) -> usize {
         1 + 2 * self.records
     }
 
+    /// Bytes of a page's space in a store: those of the page, or of two copies with their status.
+    pub const fn space(self) -> usize {
+        if self.tears {
+            PAIR_BYTES
+        } else {
+            PAGE_BYTES
+        }
+    }
+
     /// Bytes of a store.
     pub const fn store_bytes(self) -> usize {
-        self.pages() * PAGE_BYTES
+        self.pages() * self.space()
     }
 
     /// Bytes of the working buffer.

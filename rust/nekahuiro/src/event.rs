@@ -1,7 +1,7 @@
 //! Events and their words: six fields, most significant first.
 
 use crate::limits::{COUNT_LIMIT, EVENT_BYTES, RECORDS};
-use crate::{Edition, Identifies, Identity, RecordOf, Transaction};
+use crate::{Cuts, Edition, Identifies, Identity, RecordOf, Transaction};
 
 /// The six fields of an event word, in their order. Any word has them, also a bad one.
 ///
@@ -20,7 +20,7 @@ pub struct Fields {
     /// The page writes that happen before the power goes; 6 bits.
     pub count: u8,
     /// The byte to write; or the mode of a lock: 0 write, 1 read; or 1 in an abort with a report; or an
-    /// identity; 8 bits.
+    /// identity; or, where pages can tear, how a commit or recover is torn; 8 bits.
     pub value: u8,
 }
 
@@ -37,9 +37,9 @@ impl Fields {
 }
 
 /// An event that is not bad, over so many records. Where there is no identity, nothing can be prepared, decided or
-/// queried.
+/// queried. A commit or recovery is cut at a count of page writes; where pages can tear, at a [`Cut`](crate::Cut).
 #[derive(Clone, Copy, Debug, PartialEq, Eq)]
-pub enum EventOf<const RECORDS: usize, I> {
+pub enum EventOf<const RECORDS: usize, I, C = u8> {
     /// Begin a transaction under a parent, or at the top with [`Transaction::NONE`].
     Begin {
         /// The parent.
@@ -84,7 +84,7 @@ pub enum EventOf<const RECORDS: usize, I> {
         /// Who commits.
         transaction: Transaction,
         /// After how many page writes the power goes.
-        count: u8,
+        count: C,
     },
     /// Abort, with all live descendants.
     Abort {
@@ -98,7 +98,7 @@ pub enum EventOf<const RECORDS: usize, I> {
     /// Recover.
     Recover {
         /// After how many page writes the power goes.
-        count: u8,
+        count: C,
     },
     /// Prepare: the top transaction ends, and its changes wait for the decision on an identity.
     Prepare {
@@ -138,7 +138,7 @@ pub enum EventOf<const RECORDS: usize, I> {
 /// ```
 pub type Event = EventOf<RECORDS, Identity>;
 
-impl<const RECORDS: usize, I: Identifies> EventOf<RECORDS, I> {
+impl<const RECORDS: usize, I: Identifies, C: Cuts> EventOf<RECORDS, I, C> {
     /// The event's fields.
     pub fn fields(&self) -> Fields {
         let of =
@@ -155,10 +155,14 @@ impl<const RECORDS: usize, I: Identifies> EventOf<RECORDS, I> {
             EventOf::Read { transaction, record, offset } => {
                 Fields { record: record.number(), offset, ..of(4, transaction) }
             }
-            EventOf::Commit { transaction, count } => Fields { count, ..of(5, transaction) },
+            EventOf::Commit { transaction, count } => {
+                Fields { count: count.count(), value: count.value(), ..of(5, transaction) }
+            }
             EventOf::Abort { transaction, report } => Fields { value: u8::from(report), ..of(6, transaction) },
             EventOf::Crash => Fields { kind: 7, ..Fields::default() },
-            EventOf::Recover { count } => Fields { kind: 8, count, ..Fields::default() },
+            EventOf::Recover { count } => {
+                Fields { kind: 8, count: count.count(), value: count.value(), ..Fields::default() }
+            }
             EventOf::Prepare { transaction, count, identity } => {
                 Fields { count, value: identity.number(), ..of(9, transaction) }
             }
@@ -179,10 +183,10 @@ impl<const RECORDS: usize, I: Identifies> EventOf<RECORDS, I> {
             2 => EventOf::Lock { transaction, record },
             3 => EventOf::Write { transaction, record, offset, value },
             4 => EventOf::Read { transaction, record, offset },
-            5 => EventOf::Commit { transaction, count },
+            5 => EventOf::Commit { transaction, count: C::of(count, value)? },
             6 => EventOf::Abort { transaction, report: value == 1 },
             7 => EventOf::Crash,
-            8 => EventOf::Recover { count },
+            8 => EventOf::Recover { count: C::of(count, value)? },
             9 => EventOf::Prepare { transaction, count, identity: I::of(value)? },
             10 => EventOf::Decide { commit: offset == 1, count, identity: I::of(value)? },
             11 => EventOf::Query { identity: I::of(value)? },
@@ -195,14 +199,18 @@ impl<const RECORDS: usize, I: Identifies> EventOf<RECORDS, I> {
 
 impl Edition {
     /// The event of a word of this edition, or none if the word is bad.
-    pub fn event<const RECORDS: usize, I: Identifies>(self, word: &[u8]) -> Option<EventOf<RECORDS, I>> {
-        let event = EventOf::of_fields(self.fields(word)?)?;
-        let joint = matches!(event, EventOf::Prepare { .. } | EventOf::Decide { .. } | EventOf::Query { .. });
-        (self.two_phases || !joint).then_some(event)
+    pub fn event<const RECORDS: usize, I: Identifies, C: Cuts>(self, word: &[u8]) -> Option<EventOf<RECORDS, I, C>> {
+        let event: EventOf<RECORDS, I, C> = EventOf::of_fields(self.fields(word)?)?;
+        let is_known = match event {
+            EventOf::Prepare { .. } | EventOf::Decide { .. } | EventOf::Query { .. } => self.two_phases,
+            EventOf::Commit { count, .. } | EventOf::Recover { count } => self.tears || count.value() == 0,
+            _ => true,
+        };
+        is_known.then_some(event)
     }
 }
 
-impl Event {
+impl<I: Identifies, C: Cuts> EventOf<RECORDS, I, C> {
     /// The event's word. An offset or count too large for its field keeps its low bits only.
     pub fn word(&self) -> [u8; EVENT_BYTES] {
         self.fields().word()
@@ -216,17 +224,19 @@ impl Event {
     /// assert_eq!(event.uncut(), "commit 3 63".parse()?);
     /// # Ok::<(), nekahuiro::BadWords>(())
     /// ```
-    pub fn uncut(mut self) -> Event {
-        if let Event::Commit { count, .. }
-        | Event::Recover { count }
-        | Event::Prepare { count, .. }
-        | Event::Decide { count, .. } = &mut self
-        {
-            *count = COUNT_LIMIT;
+    pub fn uncut(mut self) -> Self {
+        match &mut self {
+            EventOf::Commit { count, .. } | EventOf::Recover { count } => {
+                *count = C::of(COUNT_LIMIT, 0).unwrap_or(*count)
+            }
+            EventOf::Prepare { count, .. } | EventOf::Decide { count, .. } => *count = COUNT_LIMIT,
+            _ => {}
         }
         self
     }
+}
 
+impl Event {
     /// The event of a word, or none if the word is bad.
     pub fn of(word: [u8; EVENT_BYTES]) -> Option<Event> {
         Edition::FIRST.event(&word)
@@ -234,6 +244,6 @@ impl Event {
 }
 
 /// The words of a list of events, one after the other, as a run takes them.
-pub fn encode(events: &[Event]) -> Vec<u8> {
-    events.iter().flat_map(Event::word).collect()
+pub fn encode<I: Identifies, C: Cuts>(events: &[EventOf<RECORDS, I, C>]) -> Vec<u8> {
+    events.iter().flat_map(|event| event.word()).collect()
 }

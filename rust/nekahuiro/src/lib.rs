@@ -69,8 +69,8 @@
 //! [`State`] and a [`Work`] that the caller keeps from one portion to the next. A [`Session`] keeps all three,
 //! and has a method for each thing to do.
 //!
-//! A store of edition 2 has sixty-four records: the feature `edition2` has a module for it. Where the edition is known
-//! only when the program runs, an [`Edition`] reads words and commit pages into the types of [`any`].
+//! A store of edition 2 has sixty-four records: the feature `edition2` has a module for it. On a medium whose writes can
+//! tear every page is kept as two copies: the feature `pairs` has a module for that. Where the edition is known only when the program runs, an [`Edition`] reads words and commit pages into the types of [`any`].
 //!
 //! All this changes a copy of the store in memory. A [`Device`] brings it to a [`Medium`], page write by page
 //! write, so that the power may go at any moment; `docs/DEVICE.md` says what a medium owes.
@@ -98,15 +98,19 @@ mod age;
 mod answer;
 pub mod audit;
 mod commit_page;
+mod cut;
 mod depot;
 mod device;
 mod edition;
 #[cfg(feature = "edition2")]
 pub mod edition2;
 mod event;
+mod form;
 pub mod limits;
 mod numbers;
 mod page_write;
+#[cfg(feature = "pairs")]
+pub mod pairs;
 #[allow(unsafe_code)] // the only module that calls the linked library
 pub mod raw;
 mod reason;
@@ -121,30 +125,32 @@ mod work;
 pub use age::{Age, Clock, Limit, Verdict};
 pub use answer::{page_writes, Answer, Refusal, CUT, DONE};
 pub use commit_page::{CommitPage, CommitPageOf, Map, MapOf, Page};
+pub use cut::{Cut, Cuts, Tear};
 pub use depot::{vote, Depot, Message, Order, Stage};
-pub use device::{Device, Fault, Medium};
+pub use device::{Device, Fault, Medium, Programs};
 pub use edition::Edition;
 pub use event::{encode, Event, EventOf, Fields};
+pub use form::{First, Form};
 pub use numbers::{Identifies, Identity, NoIdentity, Record, RecordOf, Transaction};
 pub use page_write::PageWrite;
 pub use reason::Reason;
 pub use session::{Session, Transact};
 pub use sheet::{sheet_words, BadSheet};
 pub use state::State;
-pub use store::{Place, Store};
+pub use store::{Place, Store, StoreOf};
 pub use waiting::{Ring, Row};
 pub use words::{describe, why_bad, BadWords};
 pub use work::Work;
 
 /// Events, records and commit pages of whichever edition, for an [`Edition`] that is known only when the program runs.
 pub mod any {
-    use crate::{CommitPageOf, EventOf, Identity, MapOf, RecordOf};
+    use crate::{CommitPageOf, Cut, EventOf, Identity, MapOf, RecordOf};
 
     /// The records of the edition that has the most.
     const RECORDS: usize = crate::Edition::SECOND.records;
 
     /// An event of any edition.
-    pub type Event = EventOf<RECORDS, Identity>;
+    pub type Event = EventOf<RECORDS, Identity, Cut>;
     /// A record of any edition.
     pub type Record = RecordOf<RECORDS>;
     /// What page 0 says, in any edition.

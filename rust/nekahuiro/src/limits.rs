@@ -32,3 +32,8 @@ pub const ROWS: usize = 24;
 pub const STATE_BYTES: usize = 468;
 /// Bytes of a page write: the number of the page, then its bytes.
 pub const PAGE_WRITE_BYTES: usize = 1 + PAGE_BYTES;
+
+/// Bytes of a copy of a page, where pages can tear: its status, then the page.
+pub const COPY_BYTES: usize = 1 + PAGE_BYTES;
+/// Bytes of a page where pages can tear: its first copy, then its second.
+pub const PAIR_BYTES: usize = 2 * COPY_BYTES;

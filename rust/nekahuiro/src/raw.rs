@@ -6,6 +6,8 @@
 
 #[cfg(feature = "edition2")]
 pub mod edition2;
+#[cfg(feature = "pairs")]
+pub mod pairs;
 
 use crate::waiting::{Ring, Row};
 use crate::State;

@@ -19,7 +19,7 @@ pub enum Reason {
     Down,
     /// 3: a recover while up.
     Up,
-    /// 4: page 0 is damaged.
+    /// 4: page 0 is damaged, or where pages can tear some page has no good copy.
     Damaged,
     /// 5: the named transaction isn't live.
     NotLive,
@@ -85,7 +85,7 @@ impl fmt::Display for Reason {
             }
             Reason::Down => "the store is down: recover first",
             Reason::Up => "the store is up already",
-            Reason::Damaged => "page 0 is damaged",
+            Reason::Damaged => "page 0 is damaged, or where pages can tear a page has no good copy",
             Reason::NotLive => "the named transaction isn't live",
             Reason::TooDeep => return write!(f, "the parent has depth {DEPTH_LIMIT} already"),
             Reason::TooMany => return write!(f, "{TRANSACTIONS} transactions are live already"),

@@ -1,11 +1,14 @@
 //! Transactions by name: in memory, or through to a medium.
 
 use crate::answer::{Answer, Refusal};
-use crate::limits::{ANSWER_BYTES, COUNT_LIMIT, PAGE_BYTES};
-use crate::{Event, Identity, Page, PageWrite, Reason, Record, State, Store, Transaction, Work};
+use crate::form::{First, Form};
+use crate::limits::{ANSWER_BYTES, COUNT_LIMIT, EVENT_BYTES, PAGE_BYTES};
+use crate::{Event, Identity, Page, PageWrite, Reason, Record, State, StoreOf, Transaction, Work};
 
 /// What can be done with a store: on a [`Session`] in memory, or on a [`Device`](crate::Device) through to its
-/// medium. All but [`Transact::play`] follows from it. What writes pages is sent with the count 63.
+/// medium. All but [`Transact::play`] follows from it. What writes pages is sent with the count 63. Where pages can tear
+/// nothing can be prepared: [`Transact::prepare`], [`Transact::decide`] and [`Transact::query`] are refused there, as
+/// [`Reason::BadEvent`].
 pub trait Transact {
     /// Why something isn't done.
     type Error: From<Reason>;
@@ -107,26 +110,26 @@ pub trait Transact {
 /// # Ok::<(), Reason>(())
 /// ```
 #[derive(Clone, Debug)]
-pub struct Session {
-    store: Store,
+pub struct Session<F: Form = First> {
+    store: StoreOf<F>,
     state: State,
     work: Work,
 }
 
-impl Session {
+impl<F: Form> Session<F> {
     /// On a store, as after a power cut: down, and nothing is live.
-    pub fn new(store: Store) -> Session {
+    pub fn new(store: StoreOf<F>) -> Session<F> {
         Session { store, state: State::new(), work: Work::new() }
     }
 
     /// Goes on from what an earlier one had; refused if the state can't be with this store.
-    pub fn resume(mut store: Store, mut state: State, mut work: Work) -> Result<Session, Refusal> {
+    pub fn resume(mut store: StoreOf<F>, mut state: State, mut work: Work) -> Result<Session<F>, Refusal> {
         store.portion_lent(&mut state, &[], work.bytes_mut(), &mut [])?;
         Ok(Session { store, state, work })
     }
 
     /// The store.
-    pub fn store(&self) -> &Store {
+    pub fn store(&self) -> &StoreOf<F> {
         &self.store
     }
 
@@ -136,26 +139,48 @@ impl Session {
     }
 
     /// All three, to put away.
-    pub fn into_parts(self) -> (Store, State, Work) {
+    pub fn into_parts(self) -> (StoreOf<F>, State, Work) {
         (self.store, self.state, self.work)
     }
 
-    /// The page write of this number, from 0, that an event makes if nothing cuts it; none if there are fewer.
-    pub fn page_write(&self, event: Event, index: u8) -> Option<PageWrite> {
+    /// Plays one event word. Its count is honoured, and where pages can tear the way in which it is torn: it may be cut,
+    /// and the session is down then.
+    pub fn play_word(&mut self, word: [u8; EVENT_BYTES]) -> Result<Answer, Reason> {
+        let mut answer = [0; ANSWER_BYTES];
+        let played = self.store.portion_lent(&mut self.state, &word, self.work.bytes_mut(), &mut answer);
+        // The lengths are right and the state is sound, so only the event is ever refused.
+        let answer = played.map(|()| Answer::of(answer)).map_err(|refusal| Reason::Other(refusal.number()))?;
+        answer.refusal().map_or(Ok(answer), Err)
+    }
+
+    /// The write to the medium of this number, from 0, that an event makes if nothing cuts it: a page, or a copy of one;
+    /// none if there are fewer.
+    pub fn write(&self, event: Event, index: u8) -> Option<F::Write> {
         // The lengths are right and the state is sound, so this isn't refused.
-        self.store.page_write(&self.state, &self.work, event.word(), index).ok().flatten()
+        self.store.write(&self.state, &self.work, event.word(), index).ok().flatten()
+    }
+
+    /// The writes to the medium that come before those of an event: they mend it, before a recovery that isn't refused.
+    pub(crate) fn mends(&self, event: Event) -> Vec<F::Write> {
+        match event {
+            Event::Recover { .. } if !self.state.is_up() => F::mends(self.store.bytes()),
+            _ => Vec::new(),
+        }
     }
 }
 
-impl Transact for Session {
+impl Session {
+    /// The page write of this number, from 0, that an event makes if nothing cuts it; none if there are fewer.
+    pub fn page_write(&self, event: Event, index: u8) -> Option<PageWrite> {
+        self.write(event, index)
+    }
+}
+
+impl<F: Form> Transact for Session<F> {
     type Error = Reason;
 
     /// The count of the event is honoured: it may be cut, and the session is down then.
     fn play(&mut self, event: Event) -> Result<Answer, Reason> {
-        let mut answer = [0; ANSWER_BYTES];
-        let played = self.store.portion_lent(&mut self.state, &event.word(), self.work.bytes_mut(), &mut answer);
-        // The lengths are right and the state is sound, so only the event is ever refused.
-        let answer = played.map(|()| Answer::of(answer)).map_err(|refusal| Reason::Other(refusal.number()))?;
-        answer.refusal().map_or(Ok(answer), Err)
+        self.play_word(event.word())
     }
 }

@@ -2,11 +2,24 @@
 
 use crate::age::{Clock, Limit, Verdict};
 use crate::answer::{Answer, Refusal};
-use crate::commit_page::{CommitPage, Page};
-use crate::event::{encode, Event};
-use crate::limits::{ANSWER_BYTES, EVENT_BYTES, PAGE_BYTES, PAGE_WRITE_BYTES, RECORDS, STORE_BYTES, WORK_BYTES};
+use crate::commit_page::{CommitPageOf, Page};
+use crate::event::{encode, EventOf};
+use crate::form::{First, Form};
+use crate::limits::{ANSWER_BYTES, EVENT_BYTES, PAGE_BYTES, RECORDS, WORK_BYTES};
 use crate::page_write::NO_SUCH_WRITE;
-use crate::{raw, PageWrite, Record, State, Work};
+use crate::{PageWrite, Record, State, Work};
+
+/// The stable store of a form, owned.
+#[derive(Clone, Debug, PartialEq, Eq)]
+pub struct StoreOf<F: Form> {
+    bytes: F::Bytes,
+}
+
+/// An event of a form.
+type EventIn<F> = EventOf<RECORDS, <F as Form>::Identity, <F as Form>::Cut>;
+
+/// What page 0 of a form says.
+type CommitPageIn<F> = CommitPageOf<RECORDS, <F as Form>::Identity>;
 
 /// The stable store, owned.
 ///
@@ -20,10 +33,7 @@ use crate::{raw, PageWrite, Record, State, Work};
 /// assert_eq!(store.settled(nekahuiro::Record::new(3).unwrap())[2], 0xA5);
 /// # Ok::<(), nekahuiro::Refusal>(())
 /// ```
-#[derive(Clone, Debug, PartialEq, Eq)]
-pub struct Store {
-    bytes: [u8; STORE_BYTES],
-}
+pub type Store = StoreOf<First>;
 
 /// Which page a record's settled value stands in.
 #[derive(Clone, Copy, Debug, PartialEq, Eq)]
@@ -34,33 +44,33 @@ pub enum Place {
     Home,
 }
 
-impl Store {
+impl<F: Form> StoreOf<F> {
     /// A fresh store: an empty commit page and zeros elsewhere.
-    pub fn fresh() -> Store {
-        let mut bytes = [0; STORE_BYTES];
+    pub fn fresh() -> Self {
+        let mut bytes = F::zeros();
         // The length is right, so this can't be refused.
-        raw::fresh(&mut bytes);
-        Store { bytes }
+        F::fresh(bytes.as_mut());
+        StoreOf { bytes }
     }
 
     /// The store in these bytes, which may be anything as long as their number is right.
-    pub fn of(bytes: &[u8]) -> Result<Store, Refusal> {
-        bytes.try_into().map(|bytes| Store { bytes }).map_err(|_| Refusal::Store)
+    pub fn of(bytes: &[u8]) -> Result<Self, Refusal> {
+        bytes.try_into().map(|bytes| StoreOf { bytes }).map_err(|_| Refusal::Store)
     }
 
     /// All bytes.
-    pub fn bytes(&self) -> &[u8; STORE_BYTES] {
+    pub fn bytes(&self) -> &F::Bytes {
         &self.bytes
     }
 
     /// All bytes, to change.
-    pub fn bytes_mut(&mut self) -> &mut [u8; STORE_BYTES] {
+    pub fn bytes_mut(&mut self) -> &mut F::Bytes {
         &mut self.bytes
     }
 
     /// Plays a list of events: one answer each. A run starts down, so the first event that can do
     /// anything is a recover.
-    pub fn play(&mut self, events: &[Event]) -> Result<Vec<Answer>, Refusal> {
+    pub fn play(&mut self, events: &[EventIn<F>]) -> Result<Vec<Answer>, Refusal> {
         self.play_words(&encode(events))
     }
 
@@ -74,7 +84,7 @@ impl Store {
 
     /// As [`Store::play_words`], with buffers lent by the caller: no memory is asked for.
     pub fn play_lent(&mut self, words: &[u8], work: &mut [u8], answers: &mut [u8]) -> Result<(), Refusal> {
-        match raw::run(&mut self.bytes, words, work, answers) {
+        match F::run(self.bytes.as_mut(), words, work, answers) {
             0 => Ok(()),
             number => Err(Refusal::of(number)),
         }
@@ -95,7 +105,12 @@ impl Store {
     /// assert!(state.is_up() && state.live().next().is_none());
     /// # Ok::<(), Box<dyn std::error::Error>>(())
     /// ```
-    pub fn portion(&mut self, state: &mut State, work: &mut Work, events: &[Event]) -> Result<Vec<Answer>, Refusal> {
+    pub fn portion(
+        &mut self,
+        state: &mut State,
+        work: &mut Work,
+        events: &[EventIn<F>],
+    ) -> Result<Vec<Answer>, Refusal> {
         self.portion_words(state, work, &encode(events))
     }
 
@@ -121,12 +136,69 @@ impl Store {
         work: &mut [u8],
         answers: &mut [u8],
     ) -> Result<(), Refusal> {
-        match raw::portion(state, &mut self.bytes, words, work, answers) {
+        match F::portion(state, self.bytes.as_mut(), words, work, answers) {
             0 => Ok(()),
             number => Err(Refusal::of(number)),
         }
     }
 
+    /// The write to the medium of this number, from 0, that an event word makes on this store, state and working buffer
+    /// if nothing cuts it: a page, or a copy of one; none if there are fewer. No memory is asked for.
+    pub fn write(
+        &self,
+        state: &State,
+        work: &Work,
+        word: [u8; EVENT_BYTES],
+        index: u8,
+    ) -> Result<Option<F::Write>, Refusal> {
+        match F::write(state, self.bytes.as_ref(), &word, work.bytes(), index) {
+            Ok(write) => Ok(Some(write)),
+            Err(NO_SUCH_WRITE) => Ok(None),
+            Err(number) => Err(Refusal::of(number)),
+        }
+    }
+
+    /// All of [`StoreOf::write`], in their order.
+    pub(crate) fn writes(&self, state: &State, work: &Work, word: [u8; EVENT_BYTES]) -> Result<Vec<F::Write>, Refusal> {
+        (0..=u8::MAX).map_while(|index| self.write(state, work, word, index).transpose()).collect()
+    }
+
+    /// How old a record is at a clock reading.
+    pub fn age(&self, record: Record, clock: Clock, limit: Limit) -> Result<Verdict, Refusal> {
+        let mut age = 0;
+        let answer = F::age(self.bytes.as_ref(), record.number(), clock.0, limit.0, &mut age);
+        Verdict::of(answer, age)
+    }
+
+    /// What page 0 says.
+    pub fn commit_page(&self) -> CommitPageIn<F> {
+        F::EDITION.commit_page(&self.page(0))
+    }
+
+    /// Where a record's settled value stands.
+    pub fn place(&self, record: Record) -> Place {
+        match self.commit_page() {
+            CommitPageOf::Committed(map) if map.names(record) => Place::Intention,
+            _ => Place::Home,
+        }
+    }
+
+    /// A record's settled value.
+    pub fn settled(&self, record: Record) -> Page {
+        let number = usize::from(record.number());
+        match self.place(record) {
+            Place::Intention => self.page(1 + number),
+            Place::Home => self.page(1 + RECORDS + number),
+        }
+    }
+
+    /// A page by its number; zeros if there is no such page, or nothing of it is good.
+    pub fn page(&self, number: usize) -> Page {
+        F::page(&self.bytes, number).unwrap_or([0; PAGE_BYTES])
+    }
+}
+
+impl Store {
     /// The page writes that an event word makes on this store, state and working buffer if nothing cuts it,
     /// in their order. None if the event is refused or writes no page. Nothing is played.
     ///
@@ -143,7 +215,7 @@ impl Store {
     /// # Ok::<(), Box<dyn std::error::Error>>(())
     /// ```
     pub fn page_writes(&self, state: &State, work: &Work, word: [u8; EVENT_BYTES]) -> Result<Vec<PageWrite>, Refusal> {
-        (0..=u8::MAX).map_while(|index| self.page_write(state, work, word, index).transpose()).collect()
+        self.writes(state, work, word)
     }
 
     /// The one of [`Store::page_writes`] with this number, from 0, if there is one. No memory is asked for.
@@ -154,50 +226,7 @@ impl Store {
         word: [u8; EVENT_BYTES],
         index: u8,
     ) -> Result<Option<PageWrite>, Refusal> {
-        let mut write = [0; PAGE_WRITE_BYTES];
-        match raw::page_write(state, &self.bytes, &word, work.bytes(), index, &mut write) {
-            0 => Ok(Some(PageWrite::of(write))),
-            NO_SUCH_WRITE => Ok(None),
-            number => Err(Refusal::of(number)),
-        }
-    }
-
-    /// How old a record is at a clock reading.
-    pub fn age(&self, record: Record, clock: Clock, limit: Limit) -> Result<Verdict, Refusal> {
-        let mut age = 0;
-        let answer = raw::age(&self.bytes, record.number(), clock.0, limit.0, &mut age);
-        Verdict::of(answer, age)
-    }
-
-    /// What page 0 says.
-    pub fn commit_page(&self) -> CommitPage {
-        CommitPage::of(&self.page(0))
-    }
-
-    /// Where a record's settled value stands.
-    pub fn place(&self, record: Record) -> Place {
-        match self.commit_page() {
-            CommitPage::Committed(map) if map.names(record) => Place::Intention,
-            _ => Place::Home,
-        }
-    }
-
-    /// A record's settled value.
-    pub fn settled(&self, record: Record) -> Page {
-        let number = usize::from(record.number());
-        match self.place(record) {
-            Place::Intention => self.page(1 + number),
-            Place::Home => self.page(1 + RECORDS + number),
-        }
-    }
-
-    /// A page by its number; zeros if there is no such page.
-    pub fn page(&self, number: usize) -> Page {
-        let mut page = [0; PAGE_BYTES];
-        if let Some(bytes) = self.bytes.chunks_exact(PAGE_BYTES).nth(number) {
-            page.copy_from_slice(bytes);
-        }
-        page
+        self.write(state, work, word, index)
     }
 }
 

@@ -1,8 +1,9 @@
 //! Events in words: `write 1 3 2 A5`. Values are two hex digits, all else is decimal, identities too. A count may be
-//! left out: then it is the largest that there is, 63 in edition 1, with which no power cut comes.
+//! left out: then it is the largest that there is, 63 in edition 1, with which no power cut comes. Where pages can tear,
+//! a word after the count says what becomes of the next page write: `commit 0 1 second-bad`.
 
 use crate::limits::{EVENT_BYTES, PAGE_BYTES, TRANSACTION_NAMES};
-use crate::{any, Edition, Event, EventOf, Fields, Identifies, RecordOf, Transaction};
+use crate::{any, Cuts, Edition, Event, EventOf, Fields, Identifies, RecordOf, Tear, Transaction};
 use std::fmt;
 use std::str::{FromStr, SplitWhitespace};
 
@@ -44,11 +45,17 @@ const FORMS: [Form; 12] = [
 /// How many of them are of two phases.
 const OF_TWO_PHASES: usize = 3;
 
+/// How a commit and a recover are written where pages can tear.
+const TORN_FORMS: [Form; 2] = [
+    ("commit", "commit TRANSACTION [COUNT [first-bad | second-bad | second-old]]"),
+    ("recover", "recover [COUNT [first-bad | second-bad | second-old]]"),
+];
+
 /// The names of the kinds of events, from 1.
 const KINDS: [&str; 11] =
     ["begin", "lock", "write", "read", "commit", "abort", "crash", "recover", "prepare", "decide", "query"];
 
-impl<const RECORDS: usize, I: Identifies> fmt::Display for EventOf<RECORDS, I> {
+impl<const RECORDS: usize, I: Identifies, C: Cuts> fmt::Display for EventOf<RECORDS, I, C> {
     fn fmt(&self, f: &mut fmt::Formatter) -> fmt::Result {
         match self {
             EventOf::Begin { parent } if *parent == Transaction::NONE => write!(f, "begin none"),
@@ -94,7 +101,7 @@ impl Edition {
 
     /// Why a word of this edition is bad, or none if it isn't.
     pub fn why_bad(self, word: &[u8]) -> Option<String> {
-        if self.event::<64, crate::Identity>(word).is_some() {
+        if self.event::<64, crate::Identity, crate::Cut>(word).is_some() {
             return None;
         }
         if word.len() != self.event_bytes {
@@ -111,13 +118,19 @@ impl Edition {
         Some(match *name {
             "lock" if value > 1 => format!("lock in mode {value}: there are 0 to write and 1 to read"),
             "abort" if value > 1 => format!("abort with value {value}: there are 0, and 1 with a report"),
+            "commit" | "recover" if self.tears && value > 3 => {
+                format!("{name} with value {value}: there are 0, and 1 to 3 for a torn page write")
+            }
             "decide" if offset > 1 => format!("decide with offset {offset}: there are 1 to commit and 0 to abort"),
             name => format!("{name} with a field that it doesn't use and that isn't 0"),
         })
     }
 
     /// An event of this edition in words.
-    pub fn parse<const RECORDS: usize, I: Identifies>(self, line: &str) -> Result<EventOf<RECORDS, I>, BadWords> {
+    pub fn parse<const RECORDS: usize, I: Identifies, C: Cuts>(
+        self,
+        line: &str,
+    ) -> Result<EventOf<RECORDS, I, C>, BadWords> {
         let (name, mut words) = Words::of(line, self)?;
         let event = match name {
             "begin" => EventOf::Begin { parent: words.parent()? },
@@ -132,7 +145,7 @@ impl Edition {
             "read" => {
                 EventOf::Read { transaction: words.transaction()?, record: words.record()?, offset: words.offset()? }
             }
-            "commit" => EventOf::Commit { transaction: words.transaction()?, count: words.count(0)? },
+            "commit" => EventOf::Commit { transaction: words.transaction()?, count: words.cut()? },
             "abort" => EventOf::Abort { transaction: words.transaction()?, report: words.report() },
             "crash" => EventOf::Crash,
             "prepare" => EventOf::Prepare {
@@ -144,7 +157,7 @@ impl Edition {
                 EventOf::Decide { commit: words.decision()?, count: words.count(1)?, identity: words.identity()? }
             }
             "query" => EventOf::Query { identity: words.identity()? },
-            _ => EventOf::Recover { count: words.count(0)? },
+            _ => EventOf::Recover { count: words.cut()? },
         };
         words.end()?;
         Ok(event)
@@ -186,7 +199,10 @@ impl<'l> Words<'l> {
         let mut rest = line.split_whitespace();
         let name = rest.next().unwrap_or_default();
         match edition.forms().iter().find(|(known, _)| known.eq_ignore_ascii_case(name)) {
-            Some((name, form)) => Ok((name, Words { rest, form, edition })),
+            Some((name, form)) => {
+                let torn = TORN_FORMS.iter().find(|(torn, _)| edition.tears && torn == name);
+                Ok((name, Words { rest, form: torn.map_or(*form, |(_, form)| *form), edition }))
+            }
             None => Err(unknown(name, edition.forms())),
         }
     }
@@ -275,6 +291,22 @@ impl<'l> Words<'l> {
             return Ok(self.edition.count_limit());
         }
         self.below("count", usize::from(self.edition.count_limit()) + 1, 10)
+    }
+
+    /// The count, and where pages can tear what becomes of the next page write.
+    fn cut<C: Cuts>(&mut self) -> Result<C, BadWords> {
+        let count = self.count(0)?;
+        let tears = if self.edition.tears { &Tear::ALL[..] } else { &[Tear::None] };
+        let said = self.rest.clone().next().unwrap_or_default();
+        let tear = (0..).zip(tears).find(|(_, tear)| tear.word().eq_ignore_ascii_case(said));
+        match tear.map(|(value, _)| C::of(count, value)) {
+            Some(Some(cut)) => {
+                self.rest.next();
+                Ok(cut)
+            }
+            _ if self.edition.tears => self.bad(format!("`{said}` is no way in which a page write is torn")),
+            _ => self.bad(format!("`{said}` is one word too many")),
+        }
     }
 
     fn end(&mut self) -> Result<(), BadWords> {

@@ -5,7 +5,8 @@ use nekahuiro::{Record, State, Transaction, Work};
 use nekahuiro_lists::stores::Bytes;
 use nekahuiro_player::event::{Mode, Record as PlayersRecord, Transaction as PlayersTransaction};
 use nekahuiro_player::soundness::{Begun, Facts, Fault};
-use nekahuiro_player::store::commit_page;
+use nekahuiro_player::store::CommitPage;
+use nekahuiro_player::{Form, Plain};
 
 /// Why a struct may not be lent.
 #[derive(Clone, Copy, Debug, PartialEq, Eq, PartialOrd, Ord)]
@@ -15,6 +16,8 @@ pub enum Unsound {
     /// It isn't the struct of the facts it tells: a wrong line, write mode without any mode, a dead entry
     /// or a spare byte that isn't 0, an `up` above 1.
     Struct,
+    /// While up a page isn't a pair of good copies that are alike.
+    Uneven,
 }
 
 /// The facts that a struct tells with a working buffer, be they sound or not.
@@ -87,10 +90,17 @@ fn bit(transaction: PlayersTransaction) -> u32 {
 
 /// The facts of a struct that may be lent with this store, or why it may not.
 pub fn judge(state: &State, work: &Work, store: &Bytes) -> Result<Facts, Unsound> {
+    judge_in::<Plain>(state, work, store)
+}
+
+/// The same with the store of a form.
+pub fn judge_in<F: Form>(state: &State, work: &Work, store: &[u8]) -> Result<Facts, Unsound> {
     let facts = facts(state, work);
-    match facts.fault(&commit_page(store)) {
+    let page = F::commit_page(store).unwrap_or(CommitPage::Damaged);
+    match facts.fault(&page) {
         Some(fault) => Err(Unsound::Facts(fault)),
         None if encode(&facts) != *state => Err(Unsound::Struct),
+        None if facts.up && !F::is_even(store) => Err(Unsound::Uneven),
         None => Ok(facts),
     }
 }

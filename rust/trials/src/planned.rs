@@ -6,31 +6,37 @@ use nekahuiro::limits::{ANSWER_BYTES, COUNT_LIMIT, EVENT_BYTES, PAGES, PAGE_BYTE
 use nekahuiro::{raw, Fields, PageWrite, State, Work, CUT};
 use nekahuiro_lists::stores::Bytes;
 use nekahuiro_player::event::uncut;
+use std::ops::Range;
 
-/// What the buffer for a page write holds before the call.
-const UNTOUCHED: [u8; PAGE_WRITE_BYTES] = [0xD7; PAGE_WRITE_BYTES];
+/// What each byte of the buffer for a write holds before the call.
+const UNTOUCHED: u8 = 0xD7;
 /// The library's answer where there is no such page write.
 pub const NO_SUCH_WRITE: u8 = 12;
 
 /// The page writes that the library tells of an event word, or why it doesn't; nothing else may be written.
 pub fn plan(state: &State, store: &Bytes, work: &Work, word: [u8; EVENT_BYTES]) -> Result<Vec<PageWrite>, String> {
     let lent = (state.clone(), *store, work.clone());
-    let mut writes = Vec::new();
-    let mut end = None;
-    // Behind the last one a few are enough.
-    for index in (0..40).chain([63, 64, 127, 128, 254, 255]) {
-        let mut write = UNTOUCHED;
-        let number = raw::page_write(&lent.0, &lent.1, &word, lent.2.bytes(), index, &mut write);
+    let ask = |index, write: &mut [u8]| raw::page_write(&lent.0, &lent.1, &word, lent.2.bytes(), index, write);
+    let writes = all::<PAGE_WRITE_BYTES>(0..40, ask)?;
+    match lent == (state.clone(), *store, work.clone()) {
+        true => Ok(writes.into_iter().map(PageWrite::of).collect()),
+        false => Err("state, store or working buffer was changed".to_string()),
+    }
+}
+
+/// All writes that are told, the first of them at these numbers; behind the last one a few are enough.
+pub fn all<const N: usize>(first: Range<u8>, ask: impl Fn(u8, &mut [u8]) -> u8) -> Result<Vec<[u8; N]>, String> {
+    let (mut writes, mut end) = (Vec::new(), None);
+    for index in first.chain([127, 128, 254, 255]) {
+        let mut write = [UNTOUCHED; N];
+        let number = ask(index, &mut write);
         match end {
-            None if number == 0 => writes.push(PageWrite::of(write)),
-            _ if write != UNTOUCHED => return Err(format!("page write {index}: {number}, and something is written")),
+            None if number == 0 => writes.push(write),
+            _ if write != [UNTOUCHED; N] => return Err(format!("write {index}: {number}, and something is written")),
             None => end = Some(number),
-            Some(before) if before != number => return Err(format!("page write {index}: {number} after {before}")),
+            Some(before) if before != number => return Err(format!("write {index}: {number} after {before}")),
             Some(_) => {}
         }
-    }
-    if lent != (state.clone(), *store, work.clone()) {
-        return Err("state, store or working buffer was changed".to_string());
     }
     match end {
         Some(NO_SUCH_WRITE) => Ok(writes),

@@ -190,6 +190,6 @@ fn a_fault_in_words() {
     let refused: Fault<&str> = Reason::Down.into();
     assert_eq!(refused.to_string(), "refused 2: the store is down: recover first");
     let failed = Fault::Medium { made: 1, error: "worn out" };
-    assert_eq!(failed.to_string(), "the medium failed after 1 page write: worn out");
+    assert_eq!(failed.to_string(), "the medium failed after 1 write: worn out");
     assert!(Fault::<&str>::Failed.to_string().contains("restart"));
 }

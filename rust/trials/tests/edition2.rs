@@ -3,14 +3,13 @@
 
 use nekahuiro::limits::{PAGE_BYTES, PAGE_WRITE_BYTES};
 use nekahuiro::{edition2, raw, CommitPage, Fields};
-use nekahuiro_history::serial_of;
 use nekahuiro_lists::stores::edition2::{committed, damaged, fresh, DAMAGES, STORE_BYTES};
 use nekahuiro_lists::stores::{self, Bytes};
 use nekahuiro_lists::{timing, Rng};
 use nekahuiro_player::{Age, Form as _, Volatile};
 use nekahuiro_trials::forms::events::{begin, commit, crash, lock, read, read_lock, recover, words, write, TOP};
 use nekahuiro_trials::forms::every::Family;
-use nekahuiro_trials::forms::{check, hex, random, run_of, Case, Edition2, Form, Program};
+use nekahuiro_trials::forms::{check, hex, random, Case, Edition2, Form, Program};
 use nekahuiro_trials::portions::share;
 use nekahuiro_trials::{random as plain, settings};
 use std::sync::atomic::{AtomicU64, Ordering};
@@ -664,24 +663,4 @@ fn its_first_sixteen_records_are_edition_1() {
         }
     });
     assert_eq!(failure, None);
-}
-
-/// As if one transaction came at a time, which is said of any list over atomic pages.
-#[test]
-fn as_if_one_transaction_at_a_time() {
-    let lists = settings::lists() / 50;
-    let reads = AtomicU64::new(0);
-    let failure = share(lists, |number| {
-        let case = random::case::<Edition2>(settings::seed() + 54, number);
-        let played = Program::Engine.play::<Edition2>(&case, 0);
-        let run = run_of::<Edition2>(&case, &played);
-        let history = Edition2::HISTORY.tell(run.events, run.answers).map_err(|absurd| format!("{absurd:?}"))?;
-        let serial = serial_of::<8>(&history, run.events, run.answers);
-        let again = Case { store: case.store.clone(), events: serial.words() };
-        let replayed = Program::Engine.play::<Edition2>(&again, 0);
-        reads.fetch_add(serial.events().filter(|placed| placed.word[0] >> 4 == 4).count() as u64, Ordering::Relaxed);
-        serial.check(run, run_of::<Edition2>(&again, &replayed)).map_err(|unlike| format!("{unlike:?}"))
-    });
-    assert_eq!(failure, None);
-    assert!(reads.into_inner() > lists / 10);
 }

@@ -1,11 +1,11 @@
-//! examples/c/flash.c killed at random moments: after each kill the records on its medium are those of one refresh,
-//! and of no earlier one than the last that it told. The same program with its pages sent in another order is
+//! examples/c/flash.c and flash_pairs.c killed at random moments: after each kill the records on the medium are those of
+//! one refresh, and of no earlier one than the last that it told. The same program with its pages sent in another order is
 //! found out.
 
-use nekahuiro::limits::STORE_BYTES;
+use nekahuiro_history::Form as History;
 use nekahuiro_lists::Rng;
-use nekahuiro_player::event::Record;
-use nekahuiro_player::store::{commit_page, settled_if_sound, CommitPage, Page};
+use nekahuiro_player::store::{CommitPage, Page};
+use nekahuiro_player::{Form as _, Pairs, Plain};
 use std::fs;
 use std::io::Read;
 use std::path::{Path, PathBuf};
@@ -16,6 +16,9 @@ use std::time::{Duration, Instant};
 /// Kills of a device that goes on from one to the next, and of one that lays its store down.
 const KILLS: u64 = 300;
 const KILLS_OF_LAYING: u64 = 60;
+/// The same where writes tear, which takes longer.
+const KILLS_TEARING: u64 = 100;
+const KILLS_OF_LAYING_TEARING: u64 = 30;
 
 /// A folder that goes when the test is over.
 struct Folder(PathBuf);
@@ -35,10 +38,46 @@ impl Drop for Folder {
     }
 }
 
+/// A kind of device: its library, how its records are read, and what its page 0 says.
+struct Kind {
+    library: &'static str,
+    history: History,
+    store_bytes: usize,
+    commit_page: fn(&[u8]) -> Option<CommitPage>,
+    is_even: fn(&[u8]) -> bool,
+}
+
+const ATOMIC: Kind = Kind {
+    library: "libnekahuiro.a",
+    history: History::PLAIN,
+    store_bytes: Plain::STORE_BYTES,
+    commit_page: Plain::commit_page,
+    is_even: Plain::is_even,
+};
+
+/// On a file that tears.
+const TEARING: Kind = Kind {
+    library: "libnekahuiro_pairs.a",
+    history: History::PAIRS,
+    store_bytes: Pairs::STORE_BYTES,
+    commit_page: Pairs::commit_page,
+    is_even: Pairs::is_even,
+};
+
 /// A device: its program, and the file that is its medium.
 struct Flash {
+    kind: Kind,
     program: PathBuf,
     medium: PathBuf,
+}
+
+/// What a medium holds.
+struct Held {
+    /// The refresh that all records are of.
+    refresh: u32,
+    page: CommitPage,
+    /// Whether nothing on it is torn.
+    even: bool,
 }
 
 /// What a device had told when it was killed.
@@ -51,17 +90,17 @@ struct Told {
 
 impl Flash {
     /// Builds a program of the repository.
-    fn new(folder: &Folder, source: &str) -> Flash {
+    fn new(kind: Kind, folder: &Folder, source: &str) -> Flash {
         let root = Path::new(env!("CARGO_MANIFEST_DIR")).join("../..");
         let library = std::env::var_os("NEKAHUIRO_LIB_DIR").map_or(root.join("target/staticlib"), PathBuf::from);
         let program = folder.0.join("flash");
         let built = Command::new(std::env::var_os("CC").unwrap_or("cc".into()))
             .args(["-std=c11", "-Wall", "-Wextra", "-Werror", "-pedantic", "-O2", "-I"])
-            .args([root.join("include"), root.join(source), library.join("libnekahuiro.a")])
+            .args([root.join("include"), root.join(source), library.join(kind.library)])
             .args([Path::new("-o"), &program])
             .status();
         assert!(built.expect("a C compiler").success(), "{source} doesn't build");
-        Flash { program, medium: folder.0.join("medium") }
+        Flash { kind, program, medium: folder.0.join("medium") }
     }
 
     /// Runs it with so many refreshes to make, and kills it after a while.
@@ -98,24 +137,26 @@ impl Flash {
         2 * (start + self.time(10).saturating_sub(start) / 10)
     }
 
-    /// The refresh that all records are of, and what page 0 says; none where there is no store yet. Errors are mixtures.
-    fn held(&self) -> Result<Option<(u32, CommitPage)>, String> {
-        let mut bytes = fs::read(&self.medium).unwrap_or_default();
-        bytes.resize(STORE_BYTES, 0);
-        let store: [u8; STORE_BYTES] = bytes.try_into().map_err(|_| "the medium is too long")?;
-        if store[..32] == [0; 32] {
+    /// What the medium holds; none where there is no store yet. Errors are mixtures.
+    fn held(&self) -> Result<Option<Held>, String> {
+        let mut store = fs::read(&self.medium).unwrap_or_default();
+        if store.len() > self.kind.store_bytes {
+            return Err("the medium is too long".to_string());
+        }
+        store.resize(self.kind.store_bytes, 0);
+        let page = (self.kind.commit_page)(&store).ok_or("the medium is no store")?;
+        if page == CommitPage::Damaged {
             return Ok(None);
         }
-        let settled = |r| settled_if_sound(&store, Record(r)).ok_or("page 0 is damaged".to_string());
-        let pages = [settled(0)?, settled(1)?, settled(2)?];
+        let pages = &self.kind.history.settled(&store)[..3];
         let refresh = number(&pages[0], 4);
-        for (record, page) in (0..).zip(&pages) {
+        for (record, page) in (0..).zip(pages) {
             if *page != due(record, number(&pages[0], 0), refresh) {
-                let numbers = pages.map(|page| number(&page, 4));
+                let numbers: Vec<u32> = pages.iter().map(|page| number(page, 4)).collect();
                 return Err(format!("record {record} isn't of refresh {refresh}: they are of {numbers:?}"));
             }
         }
-        Ok(Some((refresh, commit_page(&store))))
+        Ok(Some(Held { refresh, page, even: (self.kind.is_even)(&store) }))
     }
 }
 
@@ -144,52 +185,72 @@ fn part(rng: &mut Rng, whole: Duration) -> Duration {
 
 #[test]
 fn kills_lose_nothing_that_was_told_and_leave_no_mixture() {
-    let folder = Folder::new("flash");
-    let flash = Flash::new(&folder, "examples/c/flash.c");
+    let (folder, mut rng) = (Folder::new("flash"), Rng::new(20));
+    killed_often(&Flash::new(ATOMIC, &folder, "examples/c/flash.c"), "a device", KILLS, &mut rng);
+    let (folder, mut rng) = (Folder::new("flash-pairs"), Rng::new(23));
+    let flash = Flash::new(TEARING, &folder, "examples/c/flash_pairs.c");
+    let torn = killed_often(&flash, "a device that tears", KILLS_TEARING, &mut rng);
+    assert!(torn > 0, "no kill tore a page");
+}
+
+/// Kills a device again and again; how often that left something torn.
+fn killed_often(flash: &Flash, what: &str, kills: u64, rng: &mut Rng) -> u64 {
     flash.time(1);
     let pace = flash.pace();
-    let (mut rng, mut last, mut cut, mut begun) = (Rng::new(20), 11, 0, 0);
-    for round in 0..KILLS {
-        let told = flash.killed(u32::MAX, part(&mut rng, pace));
-        assert_eq!(told.status, None, "round {round}: it ended by itself");
+    let (mut last, mut cut, mut begun, mut torn) = (11, 0, 0, 0);
+    for round in 0..kills {
+        let told = flash.killed(u32::MAX, part(rng, pace));
+        assert_eq!(told.status, None, "{what}, round {round}: it ended by itself");
         last = told.refresh.unwrap_or(last);
-        let (found, page) = flash.held().unwrap_or_else(|text| panic!("round {round}: {text}")).expect("a store");
-        assert!(found == last || found == last + 1, "round {round}: told {last}, found {found}");
-        cut += u64::from(matches!(page, CommitPage::Committed(_)));
+        let held = flash.held().unwrap_or_else(|text| panic!("{what}, round {round}: {text}")).expect("a store");
+        let found = held.refresh;
+        assert!(found == last || found == last + 1, "{what}, round {round}: told {last}, found {found}");
+        cut += u64::from(matches!(held.page, CommitPage::Committed(_)));
         begun += u64::from(found > last);
+        torn += u64::from(!held.even);
         last = found;
     }
     flash.time(0); // it comes up again
-    println!("kills of a device: {KILLS}, {last} refreshes, {begun} kept that it couldn't tell, {cut} with home pages to copy");
+    println!(
+        "kills of {what}: {kills}, {last} refreshes, {begun} kept that it couldn't tell, {cut} with home pages to copy, \
+         {torn} with a torn page"
+    );
+    torn
 }
 
 #[test]
 fn kills_while_a_store_is_laid_down() {
-    let folder = Folder::new("flash-laying");
-    let flash = Flash::new(&folder, "examples/c/flash.c");
-    let laying = flash.time(0);
-    let (mut rng, mut unfinished) = (Rng::new(21), 0);
-    for round in 0..KILLS_OF_LAYING {
+    let (folder, mut rng) = (Folder::new("flash-laying"), Rng::new(21));
+    let flash = Flash::new(ATOMIC, &folder, "examples/c/flash.c");
+    killed_laying(&flash, "a device that lays down", KILLS_OF_LAYING, &mut rng);
+    let (folder, mut rng) = (Folder::new("flash-pairs-laying"), Rng::new(24));
+    let flash = Flash::new(TEARING, &folder, "examples/c/flash_pairs.c");
+    killed_laying(&flash, "a device that tears and lays down", KILLS_OF_LAYING_TEARING, &mut rng);
+}
+
+fn killed_laying(flash: &Flash, what: &str, kills: u64, rng: &mut Rng) {
+    let (laying, mut unfinished) = (flash.time(0), 0);
+    for round in 0..kills {
         // Over nothing, or over what the last round left.
         if rng.percent(50) {
             let _ = fs::remove_file(&flash.medium);
         }
-        let told = flash.killed(1, part(&mut rng, laying + laying / 4));
-        assert!(matches!(told.status, None | Some(0)), "round {round}: {:?}", told.status);
-        match flash.held().unwrap_or_else(|text| panic!("round {round}: {text}")) {
+        let told = flash.killed(1, part(rng, laying + laying / 4));
+        assert!(matches!(told.status, None | Some(0)), "{what}, round {round}: {:?}", told.status);
+        match flash.held().unwrap_or_else(|text| panic!("{what}, round {round}: {text}")) {
             None => unfinished += 1,
-            Some((found, _)) => assert!(found >= told.refresh.unwrap_or(0), "round {round}: told, and lost"),
+            Some(held) => assert!(held.refresh >= told.refresh.unwrap_or(0), "{what}, round {round}: told, and lost"),
         }
     }
     flash.time(1);
-    assert!(matches!(flash.held(), Ok(Some((1.., _)))));
-    println!("kills of a device that lays down: {KILLS_OF_LAYING}, {unfinished} before there was a store");
+    assert!(matches!(flash.held(), Ok(Some(Held { refresh: 1.., .. }))));
+    println!("kills of {what}: {kills}, {unfinished} before there was a store");
 }
 
 #[test]
 fn pages_in_another_order_are_found_to_mix() {
     let folder = Folder::new("flash-page-order");
-    let flash = Flash::new(&folder, "tests/c/page_order.c");
+    let flash = Flash::new(ATOMIC, &folder, "tests/c/page_order.c");
     flash.time(1);
     let (pace, mut rng) = (flash.pace(), Rng::new(22));
     let found = (1..=KILLS).find_map(|round| {

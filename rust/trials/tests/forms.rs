@@ -1,14 +1,16 @@
-//! Other forms than the plain one: random lists on the proved engine, or on the player where a form has none, against
-//! the player and demand 3; and copies of the player with one bug each, which the same tests must find.
+//! Other forms than the plain one: random lists on the proved engine, against the player and demand 3; and copies of the player with one bug each, which the same tests must find.
 
 use nekahuiro::Fields;
+use nekahuiro_history::serial_of;
 use nekahuiro_lists::{stores, timing, Rng};
 use nekahuiro_player::planted::Bug;
 use nekahuiro_player::Form as _;
 use nekahuiro_trials::forms::events::{begin, commit, crash, lock, read, recover, torn, write, TOP};
 use nekahuiro_trials::forms::every::Family;
-use nekahuiro_trials::forms::{check, random, Case, Edition2, Form, Pairs, Program};
+use nekahuiro_trials::forms::{check, random, run_of, Case, Edition2, Form, Pairs, Program};
+use nekahuiro_trials::portions::share;
 use nekahuiro_trials::settings;
+use std::sync::atomic::{AtomicU64, Ordering};
 
 #[test]
 fn random_lists_keep_demand_3() {
@@ -18,7 +20,7 @@ fn random_lists_keep_demand_3() {
 
 fn demand_3<F: Form>() {
     let (seed, lists) = (settings::seed(), settings::lists() / 25);
-    let (text, failure) = random::search::<F>(Program::tested::<F>(), Program::Player, seed, lists);
+    let (text, failure) = random::search::<F>(Program::Engine, Program::Player, seed, lists);
     println!("random lists, {}: {text}", F::NAME);
     assert_eq!(failure, None);
 }
@@ -33,10 +35,34 @@ fn lists_of_the_greatest_length_keep_demand_3() {
 fn longest<F: Form>() {
     for make in [timing::deep_of, timing::flat_of, timing::mixed_of] {
         let case = Case { store: F::fresh(), events: make(F::LISTS, 1) };
-        let played = check::<F>(Program::tested::<F>(), Program::Player, &case).expect("demand 3");
+        let played = check::<F>(Program::Engine, Program::Player, &case).expect("demand 3");
         assert_eq!((played.number, played.told().len()), (0, 4_096));
         assert!(played.told().iter().filter(|(number, _)| *number == 0).count() > 500);
     }
+}
+
+/// As if one transaction came at a time.
+#[test]
+fn as_if_one_transaction_at_a_time() {
+    one_at_a_time::<Edition2, 8>();
+    one_at_a_time::<Pairs, 4>();
+}
+
+fn one_at_a_time<F: Form, const WORD: usize>() {
+    let (lists, reads) = (settings::lists() / 50, AtomicU64::new(0));
+    let failure = share(lists, |number| {
+        let case = random::case::<F>(settings::seed() + 54, number);
+        let played = Program::Engine.play::<F>(&case, 0);
+        let run = run_of::<F>(&case, &played);
+        let history = F::HISTORY.tell(run.events, run.answers).map_err(|absurd| format!("{absurd:?}"))?;
+        let serial = serial_of::<WORD>(&history, run.events, run.answers);
+        let again = Case { store: case.store.clone(), events: serial.words() };
+        let replayed = Program::Engine.play::<F>(&again, 0);
+        reads.fetch_add(serial.events().filter(|placed| placed.word[0] >> 4 == 4).count() as u64, Ordering::Relaxed);
+        serial.check(run, run_of::<F>(&again, &replayed)).map_err(|unlike| format!("{unlike:?}"))
+    });
+    assert_eq!(failure, None, "{}", F::NAME);
+    assert!(reads.into_inner() > lists / 10);
 }
 
 /// The rules that every form has, and those of the form.

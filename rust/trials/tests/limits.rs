@@ -66,6 +66,35 @@ fn edition_2_has_the_same_numbers_in_all_three() {
 }
 
 #[test]
+fn pages_that_can_tear_have_the_same_numbers_in_all_three() {
+    use nekahuiro::pairs::limits::{BAD, COPY_BYTES, COPY_WRITE_BYTES, GOOD, PAIR_BYTES, STORE_BYTES};
+    use nekahuiro::pairs::Half;
+    use nekahuiro::{Edition, Tear};
+    use nekahuiro_player::{Form, Pairs};
+    let path = concat!(env!("CARGO_MANIFEST_DIR"), "/../../include/nekahuiro_pairs.h");
+    let header = std::fs::read_to_string(path).expect("include/nekahuiro_pairs.h");
+    let rows = [
+        ("COPY_BYTES", COPY_BYTES),
+        ("PAIR_BYTES", PAIR_BYTES),
+        ("STORE_BYTES", STORE_BYTES),
+        ("COPY_WRITE_BYTES", COPY_WRITE_BYTES),
+        ("GOOD", GOOD.into()),
+        ("BAD", BAD.into()),
+        ("FIRST_COPY", Half::First as usize),
+        ("SECOND_COPY", Half::Second as usize),
+        ("NOT_TORN", Tear::None as usize),
+        ("FIRST_BAD", Tear::FirstBad as usize),
+        ("SECOND_BAD", Tear::SecondBad as usize),
+        ("SECOND_OLD", Tear::SecondOld as usize),
+    ];
+    for (name, wrapper) in rows {
+        assert_eq!(defined_in(&header, &format!("NEKAHUIRO_PAIRS_{name}")), wrapper, "{name}");
+    }
+    assert_eq!((Edition::PAIRS.store_bytes(), Pairs::STORE_BYTES), (STORE_BYTES, STORE_BYTES));
+    assert_eq!(Tear::ALL.map(|tear| tear as u8), [0, 1, 2, 3]);
+}
+
+#[test]
 fn header_and_wrapper_have_the_same_kinds_and_numbers() {
     let kinds = [
         ("BEGIN", "begin none"),

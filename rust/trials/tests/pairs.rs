@@ -1,18 +1,33 @@
 //! Pages that can tear, each kept as a pair of copies: the points of the rules in literal bytes, every tear of every
 //! page write of short commits and recoveries, and what is mended.
 
-use nekahuiro::Fields;
+use nekahuiro::pairs::{CommitPage, Event, Store};
+use nekahuiro::{raw, Edition, Fields, Record};
 use nekahuiro_lists::stores::pairs::{all_bad, even, fresh, uneven, COPY_BYTES, PAIR_BYTES, STORE_BYTES};
 use nekahuiro_lists::{stores, Rng};
 use nekahuiro_player::{Age, Form as _, Volatile};
 use nekahuiro_trials::forms::events::{abort, begin, commit, crash, lock, read, recover, torn, words, write, TOP};
 use nekahuiro_trials::forms::every::Family;
-use nekahuiro_trials::forms::{check, hex, random, Case, Form, Pairs, Program};
+use nekahuiro_trials::forms::{check, copies, hex, random, Case, Form, Pairs, Program};
 use nekahuiro_trials::portions::share;
 use nekahuiro_trials::{random as plain, settings};
 use std::sync::atomic::{AtomicU64, Ordering};
 
 type Player = <Pairs as Form>::Player;
+
+/// The age that the engine tells, which must be the player's. The age of a refusal stays as it was.
+fn age(store: &[u8], record: u8, clock: u32, limit: u32) -> Result<Age, u8> {
+    let mut age = i64::MIN;
+    let told = match raw::pairs::age(store, record, clock, limit, &mut age) {
+        0 => Ok(Age::Live(age)),
+        1 => Ok(Age::Ahead(age)),
+        2 => Ok(Age::Stale(age)),
+        number => Err(number),
+    };
+    assert!(told.is_ok() || age == i64::MIN, "refused, but the age was written");
+    assert_eq!(told, Player::age(store, record, clock, limit), "record {record}, clock {clock}, limit {limit}");
+    told
+}
 
 /// Up, with one transaction that wrote A5 at offset 2 of record 3: n = 1, W = 4.
 const ONE: &str = "80003F00 1F800000 20180000 301880A5";
@@ -46,28 +61,60 @@ fn is_even(store: &[u8]) -> bool {
 fn sizes_and_a_fresh_store() {
     assert_eq!((STORE_BYTES, Player::STORE_BYTES, Player::WORK_BYTES, Player::EVENT_BYTES), (2_178, 2_178, 8_192, 4));
     let mut store = [0xAB; 2_178];
-    assert_eq!(Player::fresh(&mut store), 0);
-    assert_eq!(store[..], fresh()[..]);
+    for lay in [raw::pairs::fresh, Player::fresh] {
+        store.fill(0xAB);
+        assert_eq!(lay(&mut store), 0);
+        assert_eq!(store[..], fresh()[..]);
+    }
     let mut pair = [0; 66];
     (pair[0], pair[33]) = (1, 1);
     assert!(store.chunks_exact(66).skip(1).all(|page| page == pair));
     (pair[1], pair[34]) = (0x10, 0x10);
     assert_eq!(store[..66], pair);
     for wrong in [0, 1_056, 2_177, 2_179, 4_128] {
-        let mut store = vec![0xAB; wrong];
-        assert_eq!((Player::fresh(&mut store), store), (22, vec![0xAB; wrong]));
+        for lay in [raw::pairs::fresh, Player::fresh] {
+            let mut store = vec![0xAB; wrong];
+            assert_eq!((lay(&mut store), store), (22, vec![0xAB; wrong]));
+        }
     }
 }
 
+/// Every wrong length beside every other: the first wrong one in the order of the refusals is told, and nothing changed.
 #[test]
 fn refusals_before_the_first_event_are_those_of_the_plain_form() {
-    let run = |store: usize, work: usize, events: usize, answers: usize| {
-        Player::run(&mut vec![0; store], &vec![0; events], &mut vec![0; work], &mut vec![0; answers])
-    };
-    assert_eq!(run(1_056, 1, 1, 0), 22);
-    assert_eq!(run(2_178, 4_096, 1, 0), 24);
-    assert_eq!((run(2_178, 8_192, 6, 0), run(2_178, 8_192, 16_388, 9_000)), (20, 20));
-    assert_eq!((run(2_178, 8_192, 8, 3), run(2_178, 8_192, 8, 4), run(2_178, 8_192, 0, 0)), (21, 0, 0));
+    let lengths = |due: usize| [due, due - 1, due + 1, 0, 2 * due];
+    let mut tried = 0;
+    for (store, work) in lengths(2_178).into_iter().chain([1_056, 4_128]).flat_map(|s| lengths(8_192).map(|w| (s, w))) {
+        for (events, answers) in
+            [0, 3, 4, 6, 8, 16_384, 16_388].into_iter().flat_map(|e| [0, 1, 3, 4, 8_192].map(|a| (e, a)))
+        {
+            let wrong = [
+                (22, store != 2_178),
+                (24, work != 8_192),
+                (20, events % 4 != 0 || events > 16_384),
+                (21, answers < events / 4 * 2),
+            ];
+            let due = wrong.iter().find(|(_, wrong)| *wrong).map_or(0, |(number, _)| *number);
+            for run in [raw::pairs::run, Player::run] {
+                let mut lent = (vec![0; store], vec![7; work], vec![9; answers]);
+                let before = lent.clone();
+                assert_eq!(run(&mut lent.0, &vec![0; events], &mut lent.1, &mut lent.2), due);
+                assert!(due == 0 || lent == before);
+            }
+            tried += 1;
+        }
+    }
+    assert_eq!(tried, 1_225);
+}
+
+#[test]
+fn random_ages_are_the_players() {
+    let mut rng = Rng::new(99);
+    for _ in 0..settings::lists() / 5 {
+        let store = stores::pairs::any(&mut rng);
+        let (clock, limit) = (rng.bits() as u32 >> rng.below(32), rng.bits() as u32 >> rng.below(32));
+        let _ = age(&store, rng.below(18) as u8, clock, limit);
+    }
 }
 
 /// READINGS 5.1.
@@ -163,7 +210,7 @@ fn a_pair_all_bad_anywhere_is_4_and_nothing_is_mended() {
         set(&mut store, page, 1, 0, &[]);
         let (answers, after) = play(&store, "80003F00 80000000 70000000 10000000 80003F01");
         assert_eq!((answers.as_str(), &after), ("0400 0400 0000 0200 0400", &store), "page {page}");
-        assert!((0..16).all(|record| Player::age(&store, record, 0, 0) == Err(4)));
+        assert!((0..16).all(|record| age(&store, record, 0, 0) == Err(4)));
         // With one of both good again it recovers, and all is mended.
         set(&mut store, page, 1, 1, &[]);
         let (answers, after) = play(&store, "80003F00");
@@ -177,11 +224,11 @@ fn page_0_is_judged_by_its_first_good_copy() {
     let mut store = fresh();
     set(&mut store, 0, 0, 1, &hex::bytes("15000000"));
     assert_eq!(play(&store, "80003F00"), ("0400".to_string(), store.clone()));
-    assert_eq!(Player::age(&store, 0, 0, 0), Err(4));
+    assert_eq!(age(&store, 0, 0, 0), Err(4));
     // Bad, the first has no say.
     set(&mut store, 0, 0, 0, &[]);
     assert_eq!(play(&store, "80003F00"), ("0000".to_string(), fresh()));
-    assert_eq!(Player::age(&store, 0, 0, 0), Ok(Age::Live(0)));
+    assert_eq!(age(&store, 0, 0, 0), Ok(Age::Live(0)));
     // Two good ones that differ: the first says that record 3 is committed, and then the second.
     for first in [0, 1] {
         let mut store = fresh();
@@ -191,7 +238,7 @@ fn page_0_is_judged_by_its_first_good_copy() {
         let (answers, after) = play(&store, "80003F00 1F800000 20180000 4018C000");
         assert_eq!(answers, ["0002 0000 0000 0009", "0000 0000 0000 0000"][first]);
         assert!(is_even(&after));
-        assert_eq!(Player::age(&store, 3, 9, 0), [Ok(Age::Live(0)), Ok(Age::Stale(9))][first]);
+        assert_eq!(age(&store, 3, 9, 0), [Ok(Age::Live(0)), Ok(Age::Stale(9))][first]);
     }
 }
 
@@ -232,15 +279,15 @@ fn an_age_reads_through_the_pairs() {
     let mut store = fresh();
     set(&mut store, 20, 0, 0, &[0, 0, 0, 3]);
     set(&mut store, 20, 1, 1, &[0, 0, 0, 7]);
-    assert_eq!(Player::age(&store, 3, 5, 0), Ok(Age::Ahead(-2)));
+    assert_eq!(age(&store, 3, 5, 0), Ok(Age::Ahead(-2)));
     set(&mut store, 20, 0, 1, &[]);
-    assert_eq!(Player::age(&store, 3, 5, 1), Ok(Age::Stale(2)));
-    assert_eq!(Player::age(&store, 15, 5, 5), Ok(Age::Live(5)));
+    assert_eq!(age(&store, 3, 5, 1), Ok(Age::Stale(2)));
+    assert_eq!(age(&store, 15, 5, 5), Ok(Age::Live(5)));
     set(&mut store, 20, 0, 2, &[]);
     set(&mut store, 20, 1, 3, &[]);
-    assert_eq!([3, 15, 16].map(|record| Player::age(&store, record, 5, 0)), [Err(4), Err(4), Err(23)]);
-    assert_eq!(Player::age(&store[..2_177], 16, 5, 0), Err(22));
-    assert_eq!(Player::age(&[0; 1_056], 3, 5, 0), Err(22));
+    assert_eq!([3, 15, 16].map(|record| age(&store, record, 5, 0)), [Err(4), Err(4), Err(23)]);
+    assert_eq!(age(&store[..2_177], 16, 5, 0), Err(22));
+    assert_eq!(age(&[0; 1_056], 3, 5, 0), Err(22));
 }
 
 /// READINGS 5.12.
@@ -250,7 +297,7 @@ fn nothing_is_prepared_in_this_form() {
     assert_eq!(play(&fresh(), &list).0, "0100 0100 0100 0000 0000 0000 0000 0100 0100 0100 0100 0100 0004");
     let store = even(&stores::prepared(&mut Rng::new(1), 0x9000, 7));
     assert_eq!(play(&store, "80003F00"), ("0400".to_string(), store.clone()));
-    assert_eq!(Player::age(&store, 1, 0, 0), Err(4));
+    assert_eq!(age(&store, 1, 0, 0), Err(4));
 }
 
 /// The page writes of an event are the plain form's: each is of both copies.
@@ -355,7 +402,7 @@ impl Due {
     /// Plays a list: the last answer, the store, and all or nothing of the records.
     fn check(&self, list: &[Fields], answer: (u8, u8), store: &[u8], stored: bool) -> Result<(), String> {
         let case = Case { store: self.start.clone(), events: words::<Pairs>(list) };
-        let played = check::<Pairs>(Program::Player, Program::Player, &case).map_err(|fault| format!("{fault:?}"))?;
+        let played = check::<Pairs>(Program::Engine, Program::Player, &case).map_err(|fault| format!("{fault:?}"))?;
         let settled = Pairs::HISTORY.settled(&played.store);
         let due = if stored { &self.new } else { &self.old };
         match (played.told().last() == Some(&answer), played.store == store, settled == *due) {
@@ -422,7 +469,7 @@ fn letters() -> Vec<Fields> {
 
 fn every_list(name: &str, store: &[u8], prefix: &[Fields], length: usize, accepted: bool) {
     let letters = letters();
-    let family = Family { program: Program::Player, store, prefix, letters: &letters, length, accepted };
+    let family = Family { program: Program::Engine, store, prefix, letters: &letters, length, accepted };
     match family.play::<Pairs>() {
         Ok(lists) => println!("{name}: {lists} lists of up to {length} events"),
         Err(text) => panic!("{name}: {text}"),
@@ -524,11 +571,46 @@ fn without_tears_it_is_the_plain_form_twice() {
         case.events = case.events.chunks_exact(4).filter(|word| keeps(word)).flatten().copied().collect();
         let due = nekahuiro_trials::Program::Engine.play(&case, 0x5A);
         let paired = Case { store: even(&case.store), events: case.events };
-        let played = Program::Player.play::<Pairs>(&paired, 0);
+        let played = Program::Engine.play::<Pairs>(&paired, 0);
         match (played.answers == due.answers, played.store == even(&due.store)) {
             (true, true) => Ok(()),
             same => Err(format!("answers, store {same:?}")),
         }
     });
     assert_eq!(failure, None);
+}
+
+/// The wrapper's own reading of words, pages and copies is the player's.
+#[test]
+fn the_wrapper_reads_words_and_pages_alike() {
+    let mut rng = Rng::new(17);
+    for round in 0..200_000u32 {
+        // All kinds and transactions in the high bits; few low bits, so that good words come up.
+        let word =
+            ((round << 23) | (rng.bits() as u32 & rng.bits() as u32 & rng.bits() as u32 & 0x007F_FFFF)).to_be_bytes();
+        let case = Case { store: fresh(), events: word.to_vec() };
+        let bad = Program::Player.play::<Pairs>(&case, 0).told() == [(1, 0)];
+        let event = Event::of(word);
+        assert_eq!((event.is_none(), Edition::PAIRS.why_bad(&word).is_some()), (bad, bad), "{word:02X?}");
+        if let Some(event) = event {
+            assert_eq!((event.word(), event.to_string().parse()), (word, Ok(event)));
+            assert_eq!(Edition::PAIRS.describe(&word), event.to_string());
+        }
+    }
+    for _ in 0..5_000 {
+        let bytes = stores::pairs::any(&mut rng);
+        let store = Store::of(&bytes).expect("2,178 bytes");
+        let lost = (0..33).any(|page| store.first_good(page).is_none());
+        let is_damaged = lost || matches!(store.commit_page(), CommitPage::Damaged(_));
+        assert_eq!(is_damaged, age(&bytes, 0, 0, 0) == Err(4));
+        assert_eq!(store.is_whole(), is_even(&bytes));
+        if !is_damaged {
+            let settled: Vec<_> = Record::all().map(|record| store.settled(record)).collect();
+            assert_eq!(settled, Pairs::HISTORY.settled(&bytes));
+            let mut mended = store.clone();
+            store.mends().iter().for_each(|write| mended.make(write));
+            assert_eq!(mended.bytes()[..], copies::mended(&bytes)[..]);
+            assert!(mended.is_whole() && mended.mends().is_empty());
+        }
+    }
 }

@@ -1,9 +1,9 @@
 //! The tuned player, a yardstick of the benchmark, plays by the same rules: what it is timed at is the same work.
 
 use nekahuiro::limits::{ANSWER_BYTES, EVENT_BYTES, WORK_BYTES};
-use nekahuiro::raw;
 use nekahuiro_lists::timing;
-use nekahuiro_trials::forms::{self, Edition2, Form};
+use nekahuiro_player::Form as _;
+use nekahuiro_trials::forms::{self, Edition2, Form, Pairs, Run};
 use nekahuiro_trials::portions::share;
 use nekahuiro_trials::{random, settings, Case, Program};
 use nekahuiro_tuned::Tuned;
@@ -30,25 +30,30 @@ fn the_tuned_player_agrees_on_the_lists_that_are_timed() {
     }
 }
 
-/// Edition 2 against its engine: random stores and lists, and those that are timed.
+/// Other forms against their engines: random stores and lists, and those that are timed.
 #[test]
-fn the_tuned_player_agrees_in_edition_2() {
+fn the_tuned_player_agrees_in_other_forms() {
+    agrees::<Edition2>(nekahuiro_tuned::run_edition2);
+    agrees::<Pairs>(nekahuiro_tuned::run_pairs);
+}
+
+fn agrees<F: Form>(tuned: Run) {
     let (seed, lists) = (settings::seed() ^ 0x7E57, settings::lists() / 100);
     let timed = |number: u64| {
         let (_, make) = timing::KINDS_OF[number as usize % timing::KINDS_OF.len()];
-        forms::Case { store: Edition2::fresh(), events: make(Edition2::LISTS, number) }
+        forms::Case { store: F::fresh(), events: make(F::LISTS, number) }
     };
     let disagrees = share(lists, |number| {
-        let case = if number < 30 { timed(number) } else { forms::random::case::<Edition2>(seed, number) };
-        let played = [raw::edition2::run, nekahuiro_tuned::run_edition2].map(|run| {
-            let (mut store, mut answers) = (case.store.clone(), vec![0; case.events.len() / 4]);
-            let number = run(&mut store, &case.events, &mut [0; 32_768], &mut answers);
+        let case = if number < 30 { timed(number) } else { forms::random::case::<F>(seed, number) };
+        let played = [F::PROVED, tuned].map(|run| {
+            let (mut store, mut answers) = (case.store.clone(), vec![0; case.length::<F>() * ANSWER_BYTES]);
+            let number = run(&mut store, &case.events, &mut vec![0; F::Player::WORK_BYTES], &mut answers);
             (number, store, answers)
         });
         if played[0] == played[1] {
             Ok(())
         } else {
-            Err(format!("seed {seed}, list {number}"))
+            Err(format!("{}, seed {seed}, list {number}", F::NAME))
         }
     });
     assert_eq!(disagrees, None);

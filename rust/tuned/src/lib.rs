@@ -9,7 +9,7 @@
 //! - sets of transactions and of records are words.
 //!
 //! It checks no lent state: [`Tuned`] can only be what its own events made of it. Both editions are one program, over
-//! the number of records.
+//! the number of records, and so are pages that can tear.
 
 mod locks;
 mod stack;
@@ -66,7 +66,7 @@ struct Node {
 
 /// What is kept between two events beside the store, which has so many records and bytes.
 #[derive(Clone)]
-pub struct TunedOf<const RECORDS: usize, const STORE: usize> {
+pub struct TunedOf<const RECORDS: usize, const STORE: usize, const TEARS: bool> {
     up: bool,
     live: u32,
     nodes: [Node; TRANSACTIONS],
@@ -75,11 +75,13 @@ pub struct TunedOf<const RECORDS: usize, const STORE: usize> {
 }
 
 /// Edition 1.
-pub type Tuned = TunedOf<16, 1_056>;
+pub type Tuned = TunedOf<16, 1_056, false>;
 /// Edition 2.
-pub type TunedEdition2 = TunedOf<64, 4_128>;
+pub type TunedEdition2 = TunedOf<64, 4_128, false>;
+/// Edition 1 on pages that can tear.
+pub type TunedPairs = TunedOf<16, 2_178, true>;
 
-impl<const RECORDS: usize, const STORE: usize> Default for TunedOf<RECORDS, STORE> {
+impl<const RECORDS: usize, const STORE: usize, const TEARS: bool> Default for TunedOf<RECORDS, STORE, TEARS> {
     fn default() -> Self {
         let (nodes, locks) = ([Node::default(); TRANSACTIONS], [Lock::default(); RECORDS]);
         TunedOf { up: false, live: 0, nodes, locks, versions: Versions::new() }
@@ -93,12 +95,17 @@ pub fn run_edition2(store: &mut [u8], events: &[u8], work: &mut [u8], answers: &
     TunedEdition2::default().portion(store, events, work, answers)
 }
 
+/// Plays a list of event words on a store whose pages can tear. The working buffer is only measured.
+pub fn run_pairs(store: &mut [u8], events: &[u8], work: &mut [u8], answers: &mut [u8]) -> u8 {
+    TunedPairs::default().portion(store, events, work, answers)
+}
+
 /// Plays a list of event words on a store. The working buffer is only measured.
 pub fn run(store: &mut [u8], events: &[u8], work: &mut [u8], answers: &mut [u8]) -> u8 {
     Tuned::default().portion(store, events, work, answers)
 }
 
-impl<const RECORDS: usize, const STORE: usize> TunedOf<RECORDS, STORE> {
+impl<const RECORDS: usize, const STORE: usize, const TEARS: bool> TunedOf<RECORDS, STORE, TEARS> {
     const WORK_BYTES: usize = RECORDS * DEPTH_LIMIT as usize * PAGE_BYTES;
 
     /// Plays a portion of a list, from what the last one left.
@@ -107,7 +114,7 @@ impl<const RECORDS: usize, const STORE: usize> TunedOf<RECORDS, STORE> {
         if work.len() != Self::WORK_BYTES {
             return 24;
         }
-        let bytes = Layout::<RECORDS>::WORD_BYTES;
+        let bytes = Layout::<RECORDS, TEARS>::WORD_BYTES;
         if events.len() % bytes != 0 || events.len() > EVENTS * bytes {
             return 20;
         }
@@ -116,21 +123,21 @@ impl<const RECORDS: usize, const STORE: usize> TunedOf<RECORDS, STORE> {
         }
         let mut store = Store::over(store);
         for (word, answer) in events.chunks_exact(bytes).zip(answers.chunks_exact_mut(2)) {
-            let (number, value) = self.step(&mut store, Layout::<RECORDS>::fields(word));
+            let (number, value) = self.step(&mut store, Layout::<RECORDS, TEARS>::fields(word));
             answer[0] = number;
             answer[1] = value;
         }
         0
     }
 
-    fn step(&mut self, store: &mut Store<RECORDS, STORE>, fields: Option<Fields>) -> Answer {
+    fn step(&mut self, store: &mut Store<RECORDS, STORE, TEARS>, fields: Option<Fields>) -> Answer {
         let Some(f) = fields else { return (1, 0) };
         match f.kind {
             Kind::Crash => {
                 self.fall();
                 return (0, 0);
             }
-            Kind::Recover => return self.recover(store, f.count),
+            Kind::Recover => return self.recover(store, f),
             _ if !self.up => return (2, 0),
             Kind::Begin => return self.begin(f.transaction),
             Kind::Decide => return self.decide(store, f),
@@ -142,7 +149,7 @@ impl<const RECORDS: usize, const STORE: usize> TunedOf<RECORDS, STORE> {
             return (5, 0);
         }
         match f.kind {
-            Kind::Commit => self.commit(store, t, f.count),
+            Kind::Commit => self.commit(store, t, f),
             Kind::Prepare => self.prepare(store, t, f),
             Kind::Abort => self.abort(t, f.value == 1),
             _ if self.nodes[t].children != 0 => (14, 0),
@@ -178,7 +185,7 @@ impl<const RECORDS: usize, const STORE: usize> TunedOf<RECORDS, STORE> {
         (0, t as u8)
     }
 
-    fn lock(&mut self, store: &Store<RECORDS, STORE>, t: usize, record: usize, read: bool) -> Answer {
+    fn lock(&mut self, store: &Store<RECORDS, STORE, TEARS>, t: usize, record: usize, read: bool) -> Answer {
         let (lock, place) = (&mut self.locks[record], MAP_TOP >> record);
         if store.first.reserved() & place != 0 || !lock.allows(t, self.nodes[t].line, read) {
             return (8, 0);
@@ -189,14 +196,14 @@ impl<const RECORDS: usize, const STORE: usize> TunedOf<RECORDS, STORE> {
         (0, 0)
     }
 
-    fn write(&mut self, store: &Store<RECORDS, STORE>, t: usize, f: Fields) -> Answer {
+    fn write(&mut self, store: &Store<RECORDS, STORE, TEARS>, t: usize, f: Fields) -> Answer {
         let page = self.versions.own(f.record, t as u8, || *store.home(f.record));
         page[f.offset] = f.value;
         self.nodes[t].changed |= MAP_TOP >> f.record;
         (0, 0)
     }
 
-    fn commit(&mut self, store: &mut Store<RECORDS, STORE>, t: usize, count: u8) -> Answer {
+    fn commit(&mut self, store: &mut Store<RECORDS, STORE, TEARS>, t: usize, f: Fields) -> Answer {
         let node = self.nodes[t];
         if node.children != 0 {
             return (10, 0);
@@ -213,11 +220,11 @@ impl<const RECORDS: usize, const STORE: usize> TunedOf<RECORDS, STORE> {
         if node.changed != 0 && store.first.reserved() != 0 {
             return (13, 0);
         }
-        let made = store.commit(node.changed, &self.versions, count);
+        let made = store.commit(node.changed, &self.versions, f);
         self.close_top(t, node.changed, made)
     }
 
-    fn prepare(&mut self, store: &mut Store<RECORDS, STORE>, t: usize, f: Fields) -> Answer {
+    fn prepare(&mut self, store: &mut Store<RECORDS, STORE, TEARS>, t: usize, f: Fields) -> Answer {
         let node = self.nodes[t];
         if node.children != 0 {
             return (10, 0);
@@ -245,7 +252,7 @@ impl<const RECORDS: usize, const STORE: usize> TunedOf<RECORDS, STORE> {
         (0, made.0)
     }
 
-    fn decide(&mut self, store: &mut Store<RECORDS, STORE>, f: Fields) -> Answer {
+    fn decide(&mut self, store: &mut Store<RECORDS, STORE, TEARS>, f: Fields) -> Answer {
         if !store.first.is_for(f.value) {
             return (0, 0);
         }
@@ -256,14 +263,14 @@ impl<const RECORDS: usize, const STORE: usize> TunedOf<RECORDS, STORE> {
         (if cut { 11 } else { 0 }, made)
     }
 
-    fn recover(&mut self, store: &mut Store<RECORDS, STORE>, count: u8) -> Answer {
+    fn recover(&mut self, store: &mut Store<RECORDS, STORE, TEARS>, f: Fields) -> Answer {
         if self.up {
             return (3, 0);
         }
-        if store.first == First::Damaged {
+        if store.first == First::Damaged || !store.mend() {
             return (4, 0);
         }
-        let (made, cut) = store.recover(count);
+        let (made, cut) = store.recover(f);
         self.up = !cut;
         (if cut { 11 } else { 0 }, made)
     }

@@ -25,10 +25,10 @@ pub struct Fields {
     pub value: u8,
 }
 
-/// How the words of an edition with so many records are laid out.
-pub struct Layout<const RECORDS: usize>;
+/// How the words of an edition with so many records are laid out, and whether its pages tear.
+pub struct Layout<const RECORDS: usize, const TEARS: bool>;
 
-impl<const RECORDS: usize> Layout<RECORDS> {
+impl<const RECORDS: usize, const TEARS: bool> Layout<RECORDS, TEARS> {
     /// Bytes of a word.
     pub const WORD_BYTES: usize = if RECORDS == 16 { 4 } else { 8 };
     const RECORD_BITS: u32 = RECORDS.trailing_zeros();
@@ -50,17 +50,19 @@ impl<const RECORDS: usize> Layout<RECORDS> {
         let count = ((1 << Self::COUNT_BITS) - 1) << Self::COUNT_AT;
         // A value or an offset of 0 or 1.
         let (value, one, choice) = (255, 1, 1 << Self::OFFSET_AT);
+        // How the next page write is torn, 0 to 3.
+        let tear = if TEARS { 3 } else { 0 };
         let mut kinds = [None; 16];
         kinds[1] = Some((Kind::Begin, transaction));
         kinds[2] = Some((Kind::Lock, transaction | record | one));
         kinds[3] = Some((Kind::Write, transaction | record | offset | value));
         kinds[4] = Some((Kind::Read, transaction | record | offset));
-        kinds[5] = Some((Kind::Commit, transaction | count));
+        kinds[5] = Some((Kind::Commit, transaction | count | tear));
         kinds[6] = Some((Kind::Abort, transaction | one));
         kinds[7] = Some((Kind::Crash, 0));
-        kinds[8] = Some((Kind::Recover, count));
-        // Edition 1 alone has these.
-        if RECORDS == 16 {
+        kinds[8] = Some((Kind::Recover, count | tear));
+        // Edition 1 alone has these, where pages don't tear.
+        if RECORDS == 16 && !TEARS {
             kinds[9] = Some((Kind::Prepare, transaction | count | value));
             kinds[10] = Some((Kind::Decide, choice | count | value));
             kinds[11] = Some((Kind::Query, value));

@@ -3,6 +3,7 @@
 use super::programs::{races, NAMES};
 use super::{ratios, worst, NO_PROGRAM};
 use crate::failure::Outcome;
+use crate::store::{edition_in_words, library};
 use nekahuiro::limits::EVENTS;
 use nekahuiro::Edition;
 use std::fmt::Write;
@@ -23,11 +24,10 @@ pub fn text() -> Outcome<String> {
         let _ = writeln!(text, "# {}{figures}{}", race.name, ratios(&counts));
     }
     for edition in Edition::ALL {
-        let of = if edition == Edition::SECOND { " of edition 2" } else { "" };
+        let of = if edition == Edition::FIRST { String::new() } else { format!(" of {}", edition_in_words(edition)) };
         let _ = write!(text, "# instructions of the costliest event of each kind, by the engine{of}:");
         for event in worst::all(edition) {
-            let number = edition.number.to_string();
-            let with = |with| under_valgrind(&["bench", "worst", &number, event.name, with]);
+            let with = |with| under_valgrind(&["bench", "worst", library(edition), event.name, with]);
             let (Some(with), Some(without)) = (with("with"), with("without")) else { continue };
             let _ = write!(text, " {} {},", event.name, with.saturating_sub(without));
         }

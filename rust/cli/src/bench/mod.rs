@@ -1,4 +1,4 @@
-//! `bench`: the engine of each edition against three yardsticks on lists of 4,096 events, whole and one event at a time.
+//! `bench`: the engine of each edition, also where pages can tear, against three yardsticks on lists of 4,096 events, whole and one event at a time.
 
 mod cold;
 mod counts;
@@ -11,6 +11,7 @@ mod worst;
 use crate::command::Command;
 use crate::failure::{Failure, Outcome};
 use crate::say;
+use crate::store::library;
 use nekahuiro::Edition;
 use programs::{Bench, NAMES};
 use std::hint::black_box;
@@ -41,7 +42,7 @@ fn run(arguments: &[String]) -> Outcome {
         }
         // For valgrind: one program plays lists of one kind a few times.
         ["one", race, program, rounds] => one(race, program, rounds.parse().unwrap_or(0)),
-        ["worst", edition, event, with] => worst_once(edition, event, with == "with"),
+        ["worst", library, event, with] => worst_once(library, event, with == "with"),
         // For other machines: the lists as files.
         ["lists", folder, random] => lists::write(folder, random.parse().unwrap_or(0)),
         _ => Err(Failure::usage("bench takes --quick or nothing", "write `./nekahuiro bench`")),
@@ -69,12 +70,13 @@ fn one(race: &str, program: &str, rounds: u64) -> Outcome {
     Ok(())
 }
 
-fn worst_once(edition: &str, event: &str, with: bool) -> Outcome {
-    let edition = Edition::ALL.into_iter().find(|known| known.number.to_string() == edition);
+fn worst_once(name: &str, event: &str, with: bool) -> Outcome {
+    let edition = Edition::ALL.into_iter().find(|known| library(*known) == name);
     let found = edition.and_then(|edition| worst::all(edition).into_iter().find(|found| found.name == event));
     let way = programs::WAYS.into_iter().find(|(_, of, _)| Some(*of) == edition);
     let (Some(found), Some((_, edition, [engine, ..]))) = (found, way) else {
-        return Err(Failure::usage("bench worst takes an edition and an event", "write `bench worst 1 commit with`"));
+        let mend = "write `bench worst nekahuiro commit with`";
+        return Err(Failure::usage("bench worst takes a library and an event", mend));
     };
     Bench::new(edition).time(engine, &found.words()[usize::from(with)]).map(|_| ())
 }

@@ -6,8 +6,8 @@ use nekahuiro::limits::{ANSWER_BYTES, EVENTS, EVENT_BYTES};
 use nekahuiro::{raw, Edition, State};
 use nekahuiro_lists::timing::{MakeOf, KINDS_OF};
 use nekahuiro_lists::Form;
-use nekahuiro_player::{Edition2, Form as _, Volatile};
-use nekahuiro_tuned::Tuned;
+use nekahuiro_player::{Edition2, Form as PlayersForm, Pairs, Plain, Volatile};
+use nekahuiro_tuned::{Tuned, TunedPairs};
 use std::hint::black_box;
 use std::time::Instant;
 
@@ -17,19 +17,18 @@ pub type Program = fn(&mut Bench, &[u8]) -> u8;
 /// The programs' names, the engine's first.
 pub const NAMES: [&str; 4] = ["engine", "player", "tuned", "floor"];
 
+/// The programs on a whole list, and on one event at a time.
+const WHOLE: [Program; 4] = [Bench::engine, Bench::player, Bench::tuned, Bench::floor];
+const ONE_BY_ONE: [Program; 4] =
+    [Bench::engine_one_by_one, Bench::player_one_by_one, Bench::tuned_one_by_one, Bench::floor_one_by_one];
+
 /// How lists are played: what the name of a list gets before it, the edition, then the programs. Edition 2 has no portions.
-pub const WAYS: [(&str, Edition, [Program; 4]); 3] = [
-    ("", Edition::FIRST, [Bench::engine, Bench::player, Bench::tuned, Bench::floor]),
-    (
-        "portions-of-1-",
-        Edition::FIRST,
-        [Bench::engine_one_by_one, Bench::player_one_by_one, Bench::tuned_one_by_one, Bench::floor_one_by_one],
-    ),
-    (
-        "edition-2-",
-        Edition::SECOND,
-        [Bench::engine_edition2, Bench::player_edition2, Bench::tuned_edition2, Bench::floor_edition2],
-    ),
+pub const WAYS: [(&str, Edition, [Program; 4]); 5] = [
+    ("", Edition::FIRST, WHOLE),
+    ("portions-of-1-", Edition::FIRST, ONE_BY_ONE),
+    ("edition-2-", Edition::SECOND, WHOLE),
+    ("pairs-", Edition::PAIRS, WHOLE),
+    ("pairs-portions-of-1-", Edition::PAIRS, ONE_BY_ONE),
 ];
 
 /// A kind of list and how it is played.
@@ -43,12 +42,16 @@ pub struct Race {
 impl Race {
     /// The list of this seed.
     pub fn list(&self, seed: u64) -> Vec<u8> {
-        let form = if self.edition == Edition::SECOND { Form::EDITION_2 } else { Form::PLAIN };
+        let form = match self.edition {
+            Edition::SECOND => Form::EDITION_2,
+            Edition::PAIRS => Form::PAIRS,
+            _ => Form::PLAIN,
+        };
         (self.make)(form, seed)
     }
 }
 
-/// All kinds, whole; then all of them one event at a time; then those of edition 2.
+/// All kinds, whole; then all of them one event at a time; then those of edition 2, and where pages can tear.
 pub fn races() -> Vec<Race> {
     let of = |(before, edition, programs)| {
         KINDS_OF.map(|(kind, make)| Race { name: format!("{before}{kind}"), edition, programs, make })
@@ -72,61 +75,75 @@ impl Bench {
     }
 
     fn engine(&mut self, events: &[u8]) -> u8 {
-        raw::run(&mut self.store, events, &mut self.work, &mut self.answers)
-    }
-
-    fn engine_edition2(&mut self, events: &[u8]) -> u8 {
-        raw::edition2::run(&mut self.store, events, &mut self.work, &mut self.answers)
+        let run = match self.edition {
+            Edition::SECOND => raw::edition2::run,
+            Edition::PAIRS => raw::pairs::run,
+            _ => raw::run,
+        };
+        run(&mut self.store, events, &mut self.work, &mut self.answers)
     }
 
     fn player(&mut self, events: &[u8]) -> u8 {
-        nekahuiro_player::run(&mut self.store, events, &mut self.work, &mut self.answers)
-    }
-
-    fn player_edition2(&mut self, events: &[u8]) -> u8 {
-        Edition2::run(&mut self.store, events, &mut self.work, &mut self.answers)
+        let run = match self.edition {
+            Edition::SECOND => Edition2::run,
+            Edition::PAIRS => Pairs::run,
+            _ => nekahuiro_player::run,
+        };
+        run(&mut self.store, events, &mut self.work, &mut self.answers)
     }
 
     fn tuned(&mut self, events: &[u8]) -> u8 {
-        nekahuiro_tuned::run(&mut self.store, events, &mut self.work, &mut self.answers)
-    }
-
-    fn tuned_edition2(&mut self, events: &[u8]) -> u8 {
-        nekahuiro_tuned::run_edition2(&mut self.store, events, &mut self.work, &mut self.answers)
+        let run = match self.edition {
+            Edition::SECOND => nekahuiro_tuned::run_edition2,
+            Edition::PAIRS => nekahuiro_tuned::run_pairs,
+            _ => nekahuiro_tuned::run,
+        };
+        run(&mut self.store, events, &mut self.work, &mut self.answers)
     }
 
     fn floor(&mut self, events: &[u8]) -> u8 {
-        let pairs = events.chunks_exact(EVENT_BYTES).zip(self.answers.chunks_exact_mut(ANSWER_BYTES));
-        for (word, answer) in pairs {
-            answer.copy_from_slice(&least(word));
+        match self.edition {
+            Edition::SECOND => self.answer_each::<8>(events, least_edition2),
+            _ => self.answer_each::<EVENT_BYTES>(events, least),
         }
-        0
     }
 
-    fn floor_edition2(&mut self, events: &[u8]) -> u8 {
-        let pairs = events.chunks_exact(8).zip(self.answers.chunks_exact_mut(ANSWER_BYTES));
-        for (word, answer) in pairs {
-            answer.copy_from_slice(&least_edition2(word));
+    #[inline(always)]
+    fn answer_each<const WORD: usize>(&mut self, events: &[u8], answer: impl Fn(&[u8]) -> [u8; ANSWER_BYTES]) -> u8 {
+        for (word, place) in events.chunks_exact(WORD).zip(self.answers.chunks_exact_mut(ANSWER_BYTES)) {
+            place.copy_from_slice(&answer(word));
         }
         0
     }
 
     fn engine_one_by_one(&mut self, events: &[u8]) -> u8 {
+        let portion = if self.edition.tears { raw::pairs::portion } else { raw::portion };
         let mut state = State::new();
         let Bench { store, work, answers, .. } = self;
-        one_by_one(events, answers, |word, answer| raw::portion(&mut state, store, word, work, answer))
+        one_by_one(events, answers, |word, answer| portion(&mut state, store, word, work, answer))
     }
 
     fn player_one_by_one(&mut self, events: &[u8]) -> u8 {
+        match self.edition.tears {
+            true => self.play_one_by_one::<Pairs>(events),
+            false => self.play_one_by_one::<Plain>(events),
+        }
+    }
+
+    fn play_one_by_one<F: PlayersForm>(&mut self, events: &[u8]) -> u8 {
         let mut volatile = Volatile::default();
         let Bench { store, work, answers, .. } = self;
-        one_by_one(events, answers, |word, answer| nekahuiro_player::portion(&mut volatile, store, word, work, answer))
+        one_by_one(events, answers, |word, answer| F::portion(&mut volatile, store, word, work, answer))
     }
 
     fn tuned_one_by_one(&mut self, events: &[u8]) -> u8 {
-        let mut tuned = Tuned::default();
+        let (mut tuned, mut pairs) = (Tuned::default(), TunedPairs::default());
+        let tears = self.edition.tears;
         let Bench { store, work, answers, .. } = self;
-        one_by_one(events, answers, |word, answer| tuned.portion(store, word, work, answer))
+        match tears {
+            true => one_by_one(events, answers, |word, answer| pairs.portion(store, word, work, answer)),
+            false => one_by_one(events, answers, |word, answer| tuned.portion(store, word, work, answer)),
+        }
     }
 
     fn floor_one_by_one(&mut self, events: &[u8]) -> u8 {

@@ -1,6 +1,6 @@
 //! What the library takes beside time: code, stack, and the state that a caller keeps.
 
-use crate::store::library;
+use crate::store::{edition_in_words, library};
 use nekahuiro::limits::STATE_BYTES;
 use nekahuiro::Edition;
 use std::path::{Path, PathBuf};
@@ -20,7 +20,10 @@ fn of(edition: Edition, root: Option<&Path>) -> String {
         .unwrap_or("not measured, `cc` or the archive isn't there".to_string());
     let (store, work) = (edition.store_bytes(), edition.work_bytes());
     match edition {
-        Edition::SECOND => format!("# edition 2: code {code}; stack {stack}; store {store} bytes, working buffer {work}\n"),
+        Edition::SECOND | Edition::PAIRS => {
+            let edition = edition_in_words(edition);
+            format!("# {edition}: code {code}; stack {stack}; store {store} bytes, working buffer {work}\n")
+        }
         _ => format!("# code (.text of the archive): {code}\n# stack: {stack}\n# lent by the caller: state {STATE_BYTES} bytes, store {store}, working buffer {work}\n"),
     }
 }
@@ -46,7 +49,11 @@ fn code(edition: Edition, root: &Path) -> Option<u64> {
 fn stack(edition: Edition, root: &Path) -> Option<String> {
     let program = std::env::temp_dir().join(format!("nekahuiro-stack-{}", std::process::id()));
     let mut compile = Command::new("cc");
-    let test = if edition == Edition::SECOND { "tests/c/stack_edition2.c" } else { "tests/c/stack.c" };
+    let test = match edition {
+        Edition::SECOND => "tests/c/stack_edition2.c",
+        Edition::PAIRS => "tests/c/stack_pairs.c",
+        _ => "tests/c/stack.c",
+    };
     compile.args(["-std=c11", "-O2", "-pthread", "-I"]).arg(root.join("include")).arg(root.join(test));
     let compiled = compile.arg(archive(edition, root)).arg("-o").arg(&program).output().ok()?.status.success();
     let output = Command::new(&program).output();
@@ -55,7 +62,8 @@ fn stack(edition: Edition, root: &Path) -> Option<String> {
     let text = String::from_utf8_lossy(&output.stdout).to_string();
     Some(
         text.lines()
-            .map(|line| line.trim_start_matches("stack: ").trim_start_matches("edition 2 uses "))
+            .map(|line| line.trim_start_matches("stack: "))
+            .map(|line| line.trim_start_matches("edition 2 uses ").trim_start_matches("pages that can tear use "))
             .collect::<Vec<_>>()
             .join("; "),
     )

@@ -17,11 +17,12 @@ pub fn text() -> Outcome<String> {
     let mut benches = Edition::ALL.map(Bench::new);
     let mut taken = vec![[const { Vec::new() }; NAMES.len()]; races.len()];
     for round in 0..ROUNDS {
-        // One event at a time is slower, and edition 2 comes beside: fewer rounds do.
+        // One event at a time is slower, and other editions come beside: fewer rounds do.
         let raced = if round % 4 == 0 { races.len() } else { races.len() / WAYS.len() };
         for (race, taken) in races.iter().zip(&mut taken).take(raced) {
             let events = race.list(round as u64);
-            let bench = &mut benches[usize::from(race.edition == Edition::SECOND)];
+            let place = Edition::ALL.iter().position(|edition| *edition == race.edition).unwrap_or(0);
+            let bench = &mut benches[place];
             for _ in 0..TURNS {
                 for (program, taken) in race.programs.iter().zip(taken.iter_mut()) {
                     taken.push(bench.time(*program, &events)? / EVENTS as f64);

@@ -127,7 +127,7 @@ mod tests {
 
     #[test]
     fn each_event_is_done() {
-        for (edition, kinds) in Edition::ALL.into_iter().zip([13, 9]) {
+        for (edition, kinds) in Edition::ALL.into_iter().zip([13, 9, 9]) {
             assert_eq!(all(edition).len(), kinds);
             for worst in all(edition) {
                 let [_, events] = worst.words();

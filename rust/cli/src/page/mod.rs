@@ -85,7 +85,7 @@ pub fn draw(run: &Run) -> Outcome<String> {
         ("transactions", timeline::transactions(&told, run.names)),
         ("timeline", timeline::rows(&told)),
         ("lost", lost_writes(&told)),
-        ("refusals", list(told.refusals().into_values().map(|reason| text(&reason.to_string())))),
+        ("refusals", list(told.refusals().into_values().map(|reason| text(&reason)))),
         ("carried", run.start.live.len().to_string()),
         ("texts", texts.json()),
     ]);
@@ -93,6 +93,7 @@ pub fn draw(run: &Run) -> Outcome<String> {
         .replace("{{title}}", &escaped(&run.title))
         .replace("{{style}}", &format!("{}{STYLE}", picture::STYLE))
         .replace("{{script}}", &SCRIPT.concat())
+        .replace("{{tears}}", &edition.tears.to_string())
         .replace("{{pages}}", &edition.pages().to_string())
         .replace("{{records}}", &edition.records.to_string())
         .replace("{{data}}", &data))

@@ -6,7 +6,9 @@ const events = data.events.map(([word, words, sentence, answer, what, owner, [ki
   word, words: texts[words], sentence: texts[sentence], answer, what: texts[what], owner, mark, changes,
   crash: (kinds & 1) > 0, recover: (kinds & 2) > 0, refused: (kinds & 4) > 0,
 }));
-const count = events.length, PAGE = 32, PAGES = {{pages}}, RECORDS = {{records}};
+const count = events.length, PAGE = 32, TEARS = {{tears}}, PAGES = {{pages}}, RECORDS = {{records}};
+// Where pages can tear each is kept as two copies, with a status before each: 1 is good.
+const COPIES = TEARS ? 2 : 1, STATUS = TEARS ? 1 : 0, COPY = STATUS + PAGE, SPACE = COPIES * COPY, GOOD = 1;
 const element = id => document.getElementById(id);
 const signs = { '&': '&amp;', '<': '&lt;', '>': '&gt;', '"': '&quot;' };
 const escaped = text => String(text).replace(/[&<>"]/g, sign => signs[sign]);
@@ -15,7 +17,7 @@ const bytesOf = digits => Uint8Array.from(digits.match(/../g) || [], pair => par
 const number = digits => parseInt(digits, 16);
 
 const blank = () =>
-  ({ store: new Uint8Array(PAGES * PAGE), locks: new Map(), versions: new Map(), live: [], up: 0, page0: '' });
+  ({ store: new Uint8Array(PAGES * SPACE), locks: new Map(), versions: new Map(), live: [], up: 0, page0: '' });
 const copy = moment =>
   ({ ...moment, store: moment.store.slice(), locks: new Map(moment.locks), versions: new Map(moment.versions) });
 

@@ -1,25 +1,40 @@
 // The tables: the store, locks, live transactions, versions, and the lost writes.
 
-// Pages that are zero all the time are left out, so that rows stay in their places.
+// Pages that are zero all the time are left out, so that rows stay in their places. That a copy is good is nothing new.
 const used = new Set([0]);
 for (const changes of [data.start, ...events.map(event => event.changes)]) {
-  for (const [place, digits] of changes.store || []) {
-    const last = Math.floor((place + digits.length / 2 - 1) / PAGE);
-    for (let page = Math.floor(place / PAGE); page <= last; page++) used.add(page);
+  for (const [from, digits] of changes.store || []) {
+    bytesOf(digits).forEach((byte, at) => {
+      const place = from + at, isStatus = TEARS && place % COPY === 0;
+      if (!isStatus || byte !== GOOD) used.add(Math.floor(place / SPACE));
+    });
   }
 }
 function pageName(page) {
   if (page === 0) return 'commit page';
   return page <= RECORDS ? `intention, record ${page - 1}` : `home, record ${page - 1 - RECORDS}`;
 }
+// A copy of a page, whether it is good, and which one counts: the first that is, or none.
+const copyStart = (page, copy) => page * SPACE + copy * COPY;
+const copyOf = (store, page, copy) => store.subarray(copyStart(page, copy) + STATUS, copyStart(page, copy) + COPY);
+const isGood = (store, page, copy) => !TEARS || store[copyStart(page, copy)] === GOOD;
+const counting = (store, page) => isGood(store, page, 0) ? 0 : isGood(store, page, COPIES - 1) ? COPIES - 1 : -1;
+
 // Where a record is settled, by what page 0 says of it.
-function standing(store, page) {
-  if (page === 0) return '';
-  const record = (page - 1) % RECORDS, state = store[0] & 15;
-  const named = (store[1 + (record >> 3)] & (0x80 >> (record & 7))) > 0;
+function standing(store, page, copy) {
+  if (page === 0 || counting(store, page) !== copy) return '';
+  const page0 = copyOf(store, 0, Math.max(0, counting(store, 0)));
+  const record = (page - 1) % RECORDS, state = page0[0] & 15;
+  const named = (page0[1 + (record >> 3)] & (0x80 >> (record & 7))) > 0;
   const settledIn = state === 5 && named ? 1 + record : 1 + RECORDS + record;
   if (page === settledIn) return '<b class="settled">&#9679;</b>';
   return state === 3 && named ? '<b class="waits">&#9679;</b>' : '';
+}
+// Whether a copy is good, where that can be otherwise.
+function statusOf(now, before, page, copy) {
+  if (!TEARS) return '';
+  const is = isGood(now, page, copy), text = is ? 'good' : '<b class="bad">bad</b>';
+  return is === isGood(before, page, copy) ? text : `<span class="changed">${text}</span>`;
 }
 function bytes(now, before) {
   let text = '';
@@ -31,16 +46,18 @@ function bytes(now, before) {
 }
 const ascii = page => escaped(String.fromCharCode(...page.map(byte => byte > 31 && byte < 127 ? byte : 46)));
 
-const rowOf = page => `<tr data-page="${page}"><th class="number">${page}<th>${pageName(page)}` +
-  '<td><td class="bytes"><td class="ascii"></tr>';
+const rowOf = (page, copy) => `<tr data-page="${page}"><th class="number">${copy ? '' : page}` +
+  `<th>${copy ? '' : pageName(page)}<td><td class="bytes"><td class="ascii"></tr>`;
+const placed = Array.from({ length: PAGES * COPIES }, (_, row) => [Math.floor(row / COPIES), row % COPIES]);
 element('store').innerHTML = '<tr><th>page<th><th><th>bytes<th>as text</tr>' +
-  Array.from({ length: PAGES }, (_, page) => rowOf(page)).join('');
+  placed.map(([page, copy]) => rowOf(page, copy)).join('');
 const storeRows = [...document.querySelectorAll('#store tr[data-page]')];
 function showStore(now, before) {
-  storeRows.forEach((row, page) => {
-    const part = store => store.subarray(page * PAGE, (page + 1) * PAGE);
+  storeRows.forEach((row, at) => {
+    const [page, copy] = placed[at], part = store => copyOf(store, page, copy);
     row.hidden = !used.has(page) && !element('all').checked;
-    const cells = [standing(now.store, page), bytes(part(now.store), part(before.store)), ascii(part(now.store))];
+    const stands = [standing(now.store, page, copy), statusOf(now.store, before.store, page, copy)].filter(Boolean).join(' ');
+    const cells = [stands, bytes(part(now.store), part(before.store)), ascii(part(now.store))];
     cells.forEach((text, place) => {
       const cell = row.cells[2 + place];
       if (cell.kept !== text) cell.innerHTML = cell.kept = text;

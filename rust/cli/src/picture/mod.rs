@@ -8,10 +8,11 @@ mod svg;
 
 use crate::failure::{Failure, Outcome};
 use crate::follow::Follower;
+use crate::store::refusal_in_words;
 use crate::{number_of, trace};
 use layout::Scale;
 use nekahuiro::any::Event;
-use nekahuiro::{Answer, Edition, Reason};
+use nekahuiro::{Answer, Edition};
 use nekahuiro_history::History;
 use std::collections::BTreeMap;
 use std::path::Path;
@@ -66,8 +67,9 @@ impl<'t> Told<'t> {
     }
 
     /// The refusals of this run, each number once.
-    pub fn refusals(&self) -> BTreeMap<u8, Reason> {
-        self.answers.iter().filter_map(|answer| Some((answer.number, answer.refusal()?))).collect()
+    pub fn refusals(&self) -> BTreeMap<u8, String> {
+        let refused = self.answers.iter().filter(|answer| !answer.is_accepted());
+        refused.map(|answer| (answer.number, refusal_in_words(self.edition, answer.number))).collect()
     }
 
     /// Whether a transaction survives, in a word.
@@ -207,6 +209,6 @@ fn legend(svg: &mut Svg, told: &Told, scale: &Scale, top: f64) {
     svg.text(16.0, top + 30.0, "legend", &signs.join(" \u{b7} "));
     svg.text(16.0, top + 46.0, "legend", &lines.join(" \u{b7} "));
     for (row, reason) in told.refusals().values().enumerate() {
-        svg.text(16.0, top + 62.0 + row as f64 * LEGEND_ROW, "refused-legend", &reason.to_string());
+        svg.text(16.0, top + 62.0 + row as f64 * LEGEND_ROW, "refused-legend", reason);
     }
 }

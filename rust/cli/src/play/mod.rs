@@ -65,6 +65,10 @@ taken and put in its place. To give up what is live, play a crash and a recover.
 A store of edition 2, which `fresh --edition 2` makes, is known by its length. Its records are 0 to 63, its
 counts go up to 255, its event words have 8 bytes or 16 hex digits; there are no prepare, decide and query, and no
 --portions, --state and --sheet.
+
+A store on pages that can tear, which `fresh --pairs` makes, is known by its length too. A list for it is one of edition
+1, in which a commit or recover may say how a page write is torn (see `./nekahuiro help`); there are no prepare, decide
+and query.
 ",
     run,
 };
@@ -195,6 +199,7 @@ pub fn history(edition: Edition, earlier: &[Earlier], words: &[u8], answers: &[A
     let bytes: Vec<u8> = answers.iter().flat_map(|answer| answer.bytes()).collect();
     let form = match edition {
         Edition::SECOND => Form::EDITION_2,
+        Edition::PAIRS => Form::PAIRS,
         _ => Form::PLAIN,
     };
     form.tell_from(earlier, words, &bytes).map_err(|absurd| {

@@ -3,8 +3,9 @@
 use super::COMMAND;
 use crate::command::number;
 use crate::failure::{Failure, Outcome};
-use crate::files::{need_different, need_first, need_plain};
+use crate::files::{need, need_different, need_plain};
 use crate::pair::need_no_state;
+use crate::store::is_lent;
 use crate::{page, picture};
 use nekahuiro::limits::EVENTS;
 use std::time::Duration;
@@ -66,16 +67,16 @@ impl<'w> Options<'w> {
         })
     }
 
-    /// What only edition 1 has can't be asked of a store of edition 2.
+    /// What an edition hasn't got can't be asked of its stores.
     pub fn check_edition(&self) -> Outcome {
         need_no_state(self.store, self.state)?;
         if self.portions.is_some() {
             let mend = "leave out --portions; a list that is too long for one run can be cut where nothing is live";
-            need_first(self.store, "which is played as a whole and not in portions", mend)?;
+            need(is_lent, self.store, "which is played as a whole and not in portions", mend)?;
         }
         if self.sheet {
             let mend = "write the events as a list; `./nekahuiro help` says how";
-            need_first(self.store, "and a job sheet has the records of edition 1 alone", mend)?;
+            need(is_lent, self.store, "and a job sheet has the records of edition 1 alone", mend)?;
         }
         Ok(())
     }

@@ -4,6 +4,7 @@ use super::{Options, Played};
 use crate::failure::visible;
 use crate::pair::without_state;
 use crate::show::digits;
+use crate::store::{is_lent, refusal_in_words};
 use crate::{number_of, show, trace};
 use nekahuiro::{Answer, Edition};
 use nekahuiro_history::History;
@@ -26,7 +27,7 @@ pub fn text(options: &Options, played: &Played) -> String {
     }
     text.push_str(&counts(answers, history));
     if !options.trace {
-        text.push_str(&refusals(answers));
+        text.push_str(&refusals(store.edition, answers));
     }
     let open = (0..history.transactions.len()).any(|place| history.is_undecided(place));
     match options.state {
@@ -39,11 +40,12 @@ pub fn text(options: &Options, played: &Played) -> String {
         None => {}
     }
     let _ = writeln!(text, "{}", show::commit_page(store));
+    text.push_str(&show::torn(store));
     if let Some(page) = options.page {
         let _ = writeln!(text, "{}: the run to look at, in a browser", visible(page));
     }
     if options.dry {
-        let state = if store.edition == Edition::FIRST { ", and so is the state file" } else { "" };
+        let state = if is_lent(store.edition) { ", and so is the state file" } else { "" };
         let _ = writeln!(text, "a dry run: the store is left as it was{state}");
     }
     text
@@ -59,7 +61,7 @@ pub fn counts(answers: &[Answer], history: &History) -> String {
 }
 
 /// Each refusal in words, once, and where it was given.
-pub fn refusals(answers: &[Answer]) -> String {
+pub fn refusals(edition: Edition, answers: &[Answer]) -> String {
     let mut places: BTreeMap<u8, Vec<usize>> = BTreeMap::new();
     for (at, answer) in (1..).zip(answers).filter(|(_, answer)| !answer.is_accepted()) {
         places.entry(answer.number).or_default().push(at);
@@ -69,7 +71,7 @@ pub fn refusals(answers: &[Answer]) -> String {
         let shown: Vec<String> = places.iter().take(SHOWN).map(usize::to_string).collect();
         let more = if places.len() > SHOWN { " and more" } else { "" };
         let events = if places.len() == 1 { "event" } else { "events" };
-        let _ = writeln!(text, "{}: {events} {}{more}", Answer { number, value: 0 }, shown.join(", "));
+        let _ = writeln!(text, "{}: {events} {}{more}", refusal_in_words(edition, number), shown.join(", "));
     }
     text
 }

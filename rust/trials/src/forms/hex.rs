@@ -17,7 +17,7 @@ pub fn of(bytes: &[u8]) -> String {
     bytes.iter().map(|byte| format!("{byte:02X}")).collect()
 }
 
-/// Plays a list in hex on what is tested of a form, with all that is checked of a case; the answers in hex, and the
+/// Plays a list in hex on the engine of a form, with all that is checked of a case; the answers in hex, and the
 /// store after.
 ///
 /// # Panics
@@ -25,7 +25,7 @@ pub fn of(bytes: &[u8]) -> String {
 pub fn play<F: Form>(store: &[u8], list: &str) -> (String, Vec<u8>) {
     let case = Case { store: store.to_vec(), events: bytes(list) };
     let played =
-        check::<F>(Program::tested::<F>(), Program::Player, &case).unwrap_or_else(|fault| panic!("{list}: {fault:?}"));
+        check::<F>(Program::Engine, Program::Player, &case).unwrap_or_else(|fault| panic!("{list}: {fault:?}"));
     let answers: Vec<String> = played.told().iter().map(|(number, value)| of(&[*number, *value])).collect();
     (answers.join(" "), played.store)
 }

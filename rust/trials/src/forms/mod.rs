@@ -2,6 +2,7 @@
 //! form.
 
 mod check;
+pub mod copies;
 pub mod events;
 pub mod every;
 pub mod hex;
@@ -25,8 +26,8 @@ pub type Run = fn(&mut [u8], &[u8], &mut [u8], &mut [u8]) -> u8;
 pub trait Form: Sync {
     /// Its name in reports.
     const NAME: &'static str;
-    /// The proved run, where there is one.
-    const PROVED: Option<Run>;
+    /// The proved run.
+    const PROVED: Run;
     /// The player's.
     type Player: PlayersForm;
     /// The history's.
@@ -46,7 +47,7 @@ pub struct Edition2;
 
 impl Form for Edition2 {
     const NAME: &'static str = "edition 2";
-    const PROVED: Option<Run> = Some(raw::edition2::run);
+    const PROVED: Run = raw::edition2::run;
     type Player = nekahuiro_player::Edition2;
     const HISTORY: nekahuiro_history::Form = nekahuiro_history::Form::EDITION_2;
     const LISTS: nekahuiro_lists::Form = nekahuiro_lists::Form::EDITION_2;
@@ -69,7 +70,7 @@ pub struct Pairs;
 
 impl Form for Pairs {
     const NAME: &'static str = "pairs";
-    const PROVED: Option<Run> = None;
+    const PROVED: Run = raw::pairs::run;
     type Player = nekahuiro_player::Pairs;
     const HISTORY: nekahuiro_history::Form = nekahuiro_history::Form::PAIRS;
     const LISTS: nekahuiro_lists::Form = nekahuiro_lists::Form::PAIRS;
@@ -119,21 +120,10 @@ pub struct Played {
 }
 
 impl Program {
-    /// What is tested of a form: the proved engine, or the player itself where there is none.
-    pub fn tested<F: Form>() -> Program {
-        match F::PROVED {
-            Some(_) => Program::Engine,
-            None => Program::Player,
-        }
-    }
-
     /// Runs it on lent buffers.
-    ///
-    /// # Panics
-    /// If the form has no proved engine, and it is asked for.
     pub fn run<F: Form>(self, store: &mut [u8], events: &[u8], work: &mut [u8], answers: &mut [u8]) -> u8 {
         match self {
-            Program::Engine => F::PROVED.expect("a form that is proved")(store, events, work, answers),
+            Program::Engine => F::PROVED(store, events, work, answers),
             Program::Player => F::Player::run(store, events, work, answers),
             Program::Planted(bug) => F::Player::run_with_bug(bug, store, events, work, answers),
         }
