@@ -20,19 +20,19 @@ use Rattle.history.proofs.Demand3.{demand-3}
 use Rattle.history.proofs.Claims.{reads-overlay, commit-survives}
 use Rattle.history.proofs.Survival.{survives-in-k}
 use Rattle.history.proofs.Editions.{survives-in-k-pairs}
-use Rattle.serial.proofs.Runs.{one-run-at-a-time}
-use Rattle.device.specs.Device.{Happening, Device-holds}
-use Rattle.device.proofs.Claims.{device-holds}
-use Rattle.device_pairs.proofs.Claims.{torn-device-pairs}
-use Rattle.agreement.proofs.Agreement.{agreement-edition1}
-use Rattle.audit.proofs.Audits.{audit1-is}
-use Rattle.state.specs.Whole.{Served}
-use Rattle.crashes.proofs.Editions.{served-of}
-use Rattle.event.proofs.Words.{bytes1}
-use Rattle.lists.proofs.Words.{bytes-pairs}
-use Rattle.lengths.proofs.Sizes.{work-size}
-use Rattle.lent.proofs.Portions.{first-in, paired-in}
-use Rattle.calls.proofs.Chained.{singled-out, written-one-way, refused-untouched, calls-hold, cut-anywhere}
+use Rattle.claim_serial.proofs.Runs.{one-run-at-a-time}
+use Rattle.claim_device.specs.Device.{Happening, Device-holds}
+use Rattle.claim_device.proofs.Claims.{device-holds}
+use Rattle.claim_device_pairs.proofs.Claims.{torn-device-pairs}
+use Rattle.depot_agreement.proofs.Agreement.{agreement-edition1}
+use Rattle.audit_rules.proofs.Audits.{audit1-is}
+use Rattle.state_whole.specs.Whole.{Served}
+use Rattle.event_crash.proofs.Editions.{served-of}
+use Rattle.leaf_event.proofs.Words.{bytes1}
+use Rattle.engine_list.proofs.Words.{bytes-pairs}
+use Rattle.store_length.proofs.Sizes.{work-size}
+use Rattle.open_lent.proofs.Portions.{first-in, paired-in}
+use Rattle.open_calls.proofs.Chained.{singled-out, written-one-way, refused-untouched, calls-hold, cut-anywhere}
 use Rattle.trials.proofs.Trials.{trials-hold}
 use Rattle.trials_edition2.proofs.Edition2Trials.{trials2-hold}
 use Rattle.trials_pairs.proofs.TornTrials.{torn-hold}

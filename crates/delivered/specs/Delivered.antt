@@ -18,13 +18,13 @@ use Rattle.rules.specs.Editions.{Edition, geometryOf, formOf, edition1, edition
 use Rattle.history.specs.Demand3.{Demand-3-holds}
 use Rattle.history.specs.Claims.{Reads-overlay, Commit-survives}
 use Rattle.history.specs.Survival.{Survives-in-k}
-use Rattle.serial.specs.OneAtATime.{One-run-at-a-time-holds}
-use Rattle.device.specs.Device.{Happening, Device-holds}
-use Rattle.device_pairs.specs.Device.{Happening as TornHappening, listOf, allFit, Torn-device-holds}
-use Rattle.agreement.specs.Agreement.{Agreement, Fresh}
-use Rattle.audit.specs.Audit.{audit1}
-use Rattle.audit.specs.Walk.{plainAudit}
-use Rattle.calls.specs.Chained.{Singled-out, Written-one-way, Refused-untouched, Calls-hold, Cut-anywhere}
+use Rattle.claim_serial.specs.OneAtATime.{One-run-at-a-time-holds}
+use Rattle.claim_device.specs.Device.{Happening, Device-holds}
+use Rattle.claim_device_pairs.specs.Device.{Happening as TornHappening, listOf, allFit, Torn-device-holds}
+use Rattle.depot_agreement.specs.Agreement.{Agreement, Fresh}
+use Rattle.audit_rules.specs.Audit.{audit1}
+use Rattle.audit_rules.specs.Walk.{plainAudit}
+use Rattle.open_calls.specs.Chained.{Singled-out, Written-one-way, Refused-untouched, Calls-hold, Cut-anywhere}
 use Rattle.trials_rows.specs.Rows.{numbers1, AllHold, AllGo}
 use Rattle.trials.specs.Trials.{trials}
 use Rattle.trials_edition2.specs.Edition2Trials.{numbers2, trials2, played2}

@@ -5,10 +5,10 @@ use Prim.Native.Nat.{ℕ}
 use Rattle.rules.specs.Editions.{edition1}
 use Rattle.history.specs.Demand3.{Demand-3}
 use Rattle.history.proofs.Demand3.{demand-3-edition1}
-use Rattle.serial.specs.OneAtATime.{One-run-at-a-time}
-use Rattle.serial.proofs.Runs.{one-run-at-a-time-edition1}
-use Rattle.running.specs.Running.{Ran}
-use Rattle.running.proofs.Running.{ran-demand, ran-serial}
+use Rattle.claim_serial.specs.OneAtATime.{One-run-at-a-time}
+use Rattle.claim_serial.proofs.Runs.{one-run-at-a-time-edition1}
+use Rattle.open_run.specs.Running.{Ran}
+use Rattle.open_run.proofs.Running.{ran-demand, ran-serial}
 
 pub signed : {store events work answers store′ work′ answers′ : List ℕ} {n : ℕ} → Ran edition1 store events work answers n store′ work′ answers′
     → Ran edition1 store events work answers n store′ work′ answers′ × ((n ≡ 0 → Demand-3 edition1 store events work answers) × (n ≡ 0 → One-run-at-a-time edition1 store events work answers))

@@ -6,21 +6,21 @@ ghost use Rattle.rules.specs.Run.{layFresh};
 ghost use Rattle.rules.specs.Age.{ageOf};
 ghost use Rattle.rules.specs.Editions.{geometry1, edition1};
 ghost use Rattle.history.specs.Demand3.{Demand-3};
-ghost use Rattle.serial.specs.OneAtATime.{One-run-at-a-time};
-ghost use Rattle.records.specs.Ages.{ageNumber, ageLeft};
-ghost use Rattle.running.specs.Running.{Ran};
-ghost use Rattle.lent.specs.Portions.{kept, Portioned-as};
-ghost use Rattle.lent.specs.PageWrites.{Told-as};
-ghost use Rattle.audit.specs.Audit.{audit1};
-ghost use Rattle.verdict.specs.Codes.{numberIn, placeIn};
-ghost use Rattle.messages.specs.Codes.{left};
-ghost use Rattle.messages.specs.Votes.{voteOn};
-ghost use Rattle.waitreport.specs.Reported.{Reported};
-ghost use Rattle.sheets.specs.Made.{Made};
-use lent::Portioned;
-use portions::Engine;
-use waitreport::Ring;
-use waitrows::Row;
+ghost use Rattle.claim_serial.specs.OneAtATime.{One-run-at-a-time};
+ghost use Rattle.store_record.specs.Ages.{ageNumber, ageLeft};
+ghost use Rattle.open_run.specs.Running.{Ran};
+ghost use Rattle.open_lent.specs.Portions.{kept, Portioned-as};
+ghost use Rattle.open_lent.specs.PageWrites.{Told-as};
+ghost use Rattle.audit_rules.specs.Audit.{audit1};
+ghost use Rattle.audit_verdict.specs.Codes.{numberIn, placeIn};
+ghost use Rattle.depot_message.specs.Codes.{left};
+ghost use Rattle.depot_message.specs.Votes.{voteOn};
+ghost use Rattle.wait_report.specs.Reported.{Reported};
+ghost use Rattle.sheet_text.specs.Made.{Made};
+use engine_portion::Engine;
+use open_lent::Portioned;
+use wait_report::Ring;
+use wait_row::Row;
 
 const RECORDS: usize = 16;
 
@@ -30,14 +30,14 @@ const JOINT: bool = true;
 // Pages don't tear.
 const TEARS: bool = false;
 
-pub const WORK: usize = page::WORK;
+pub const WORK: usize = leaf_page::WORK;
 
 // Lays down a fresh store: 0, or 22 where it hasn't the size of a store, and then writes nothing.
 #[no_mangle]
 pub extern "C" fn nekahuiro_fresh(store: &mut [u8]) -> u8
     ensures { λ r. ⌜ (r ≡ layFresh edition1 (now (store .entry)) .answer) × (now (store .exit) ≡ layFresh edition1 (now (store .entry)) .store) ⌝ }
 {
-    records::lay_fresh(store, TEARS, RECORDS)
+    store_record::lay_fresh(store, TEARS, RECORDS)
 }
 
 // Tells the age of a record: 0 live, 1 ahead, 2 stale, with the age in minutes left at `age`; or refused with 22, 23 or 4, and `age` stays.
@@ -51,7 +51,7 @@ pub extern "C" fn nekahuiro_age(
 ) -> u8
     ensures { λ r. ⌜ (r ≡ ageNumber (ageOf edition1 (now (store .entry)) number clock limit)) × (now (age .exit) ≡ ageLeft (ageOf edition1 (now (store .entry)) number clock limit) (now (age .entry))) ⌝ }
 {
-    records::tell(store, TEARS, RECORDS, JOINT, number, clock, limit, age)
+    store_record::tell(store, TEARS, RECORDS, JOINT, number, clock, limit, age)
 }
 
 // Runs a list of events on a store, with an answer of two bytes for each. 0, or a refusal's number: 22, 24, 20 or 21, in this order, and then
@@ -68,7 +68,7 @@ pub extern "C" fn nekahuiro_run(
     ensures { λ r. ⌜ (r ≡ 0 → Demand-3 edition1 (now (store .entry)) (now (events .entry)) (now (work .entry)) (now (answers .entry))) ⌝ }
     ensures { λ r. ⌜ (r ≡ 0 → One-run-at-a-time edition1 (now (store .entry)) (now (events .entry)) (now (work .entry)) (now (answers .entry))) ⌝ }
 {
-    lent::run_of(store, events, work, answers, JOINT, TEARS)
+    open_lent::run_of(store, events, work, answers, JOINT, TEARS)
 }
 
 // A portion by value, with this edition's numbers.
@@ -84,7 +84,7 @@ fn portion_of(
         let after = kept (r .engine) (now (work .exit)) (now (store .exit)) in
         ⌜ Portioned-as edition1 before (now (events .entry)) (now (answers .entry)) (r .number) after (now (answers .exit)) ⌝ }
 {
-    lent::portion_of(e, store, events, work, answers, JOINT, TEARS)
+    open_lent::portion_of(e, store, events, work, answers, JOINT, TEARS)
 }
 
 // Plays a portion of events on a state that is lent and changed in place, with the store and the working buffer that the last portion left. 0, or a
@@ -122,7 +122,7 @@ fn page_write_of(
         let held = kept e (now (work .entry)) (now (store .entry)) in
         ⌜ Told-as false geometry1 held (now (event .entry)) (now (write .entry)) index r (now (write .exit)) ⌝ }
 {
-    lent::page_write_of(e, store, event, work, index, write, JOINT, TEARS)
+    open_lent::page_write_of(e, store, event, work, index, write, JOINT, TEARS)
 }
 
 // Says the page write number `index`, from 0, that an event makes on this state, store and working buffer if nothing cuts it: 0, with the page's number
@@ -151,7 +151,7 @@ pub extern "C" fn nekahuiro_page_write(
 pub extern "C" fn nekahuiro_depot(state: &mut u8, message: u8, reply: &mut u8) -> u8
     ensures { λ r. let turn = left (now (state .entry)) message (now (reply .entry)) in ⌜ (r ≡ turn .answer) × (now (state .exit) ≡ turn .state) × (now (reply .exit) ≡ turn .reply) ⌝ }
 {
-    messages::depot(state, message, reply)
+    depot_message::depot(state, message, reply)
 }
 
 // The gateway's vote on an event of this kind by the two bytes of its answer, as a message to the depot: 1 yes, 2 no; 0 where it sends none.
@@ -159,7 +159,7 @@ pub extern "C" fn nekahuiro_depot(state: &mut u8, message: u8, reply: &mut u8) -
 pub extern "C" fn nekahuiro_vote(kind: u8, number: u8, value: u8) -> u8
     ensures { λ r. ⌜ r ≡ voteOn kind number value ⌝ }
 {
-    messages::vote(kind, number, value)
+    depot_message::vote(kind, number, value)
 }
 
 // Reports on transactions that wait for each other: 0, with a cycle of pointings left at `ring`, or none; or a refusal's number, 25, 26, then row by
@@ -169,9 +169,9 @@ pub extern "C" fn nekahuiro_waiting(state: &Engine, rows: &[Row], ring: &mut Rin
     ensures { λ r. ⌜ Reported (now (state .entry)) (now (rows .entry)) (now (ring .entry)) r (now (ring .exit)) ⌝ }
 {
     let e = *state;
-    let list = waitrows::copied(rows);
+    let list = wait_row::copied(rows);
     let before = *ring;
-    let told = lent::report_of(e, list, before);
+    let told = open_lent::report_of(e, list, before);
     let after = told.ring;
     *ring = after;
     told.number
@@ -184,7 +184,7 @@ pub extern "C" fn nekahuiro_waiting(state: &Engine, rows: &[Row], ring: &mut Rin
 pub extern "C" fn nekahuiro_sheet(sheet: &[u8], list: &mut [u8], told: &mut usize) -> u8
     ensures { λ r. ⌜ Made (now (sheet .entry)) (now (list .entry)) (now (told .entry)) r (now (list .exit)) (now (told .exit)) ⌝ }
 {
-    sheetlist::list_of(sheet, list, told)
+    sheet_list::list_of(sheet, list, told)
 }
 
 // Whether a start store, a list of events, its answers and an end store belong together: 0 if so; 1 if not, and the first wrong event at `place`;
@@ -201,5 +201,5 @@ pub extern "C" fn nekahuiro_audit(
         let verdict = audit1 (now (start .entry)) (now (events .entry)) (now (answers .entry)) (now (end .entry)) in
         ⌜ (r ≡ numberIn verdict) × (now (place .exit) ≡ placeIn verdict (now (place .entry))) ⌝ }
 {
-    verdict::audit(start, events, answers, end, place)
+    audit_verdict::audit(start, events, answers, end, place)
 }

@@ -15,15 +15,15 @@ use Rattle.rules.specs.Step.{StateOf, firstOf}
 use Rattle.rules.specs.Store.{pagesOf}
 use Rattle.rules.specs.Run.{words, play, eventsIn, runRefusals}
 use Rattle.rules.specs.Editions.{geometry2, edition2}
-use Rattle.commitpage.proofs.Places.{layout2}
-use Rattle.event.proofs.Words.{bytes2}
-use Rattle.device.specs.Asked.{Asked, saidOf, askLengths}
-use Rattle.device.specs.After.{orElse, after, refusedAfter, askedAfterBy, askedAfter, Told-after}
-use Rattle.state.specs.Whole.{Arrays, view}
-use Rattle.state.specs.Portion.{played, Portion}
-use Rattle.lengths.specs.Lengths.{lengthsRefused, questionRefused, refusalNumber}
-use Rattle.lengths.proofs.Lengths.{by-lengths, lengths-of, question-of}
-use Rattle.running.proofs.Running.{from-start}
+use Rattle.leaf_commit_page.proofs.Places.{layout2}
+use Rattle.leaf_event.proofs.Words.{bytes2}
+use Rattle.claim_device.specs.Asked.{Asked, saidOf, askLengths}
+use Rattle.claim_device.specs.After.{orElse, after, refusedAfter, askedAfterBy, askedAfter, Told-after}
+use Rattle.state_whole.specs.Whole.{Arrays, view}
+use Rattle.state_whole.specs.Portion.{played, Portion}
+use Rattle.store_length.specs.Lengths.{lengthsRefused, questionRefused, refusalNumber}
+use Rattle.store_length.proofs.Lengths.{by-lengths, lengths-of, question-of}
+use Rattle.open_run.proofs.Running.{from-start}
 
 module _ (store events work answers event : List ℕ) (index : ℕ) (write : List ℕ) where
   abbrev runs : Option ℕ

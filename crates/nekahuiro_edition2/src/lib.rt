@@ -5,11 +5,11 @@ ghost use Rattle.rules.specs.Run.{layFresh};
 ghost use Rattle.rules.specs.Age.{ageOf};
 ghost use Rattle.rules.specs.Editions.{geometry2, edition2};
 ghost use Rattle.history.specs.Demand3.{Demand-3};
-ghost use Rattle.serial.specs.OneAtATime.{One-run-at-a-time};
-ghost use Rattle.records.specs.Ages.{ageNumber, ageLeft};
-ghost use Rattle.running.specs.Running.{Ran};
-ghost use Rattle.device.specs.After.{Told-after};
-use event::edition2::Edition2;
+ghost use Rattle.claim_serial.specs.OneAtATime.{One-run-at-a-time};
+ghost use Rattle.store_record.specs.Ages.{ageNumber, ageLeft};
+ghost use Rattle.open_run.specs.Running.{Ran};
+ghost use Rattle.claim_device.specs.After.{Told-after};
+use leaf_event::edition2::Edition2;
 
 const RECORDS: usize = 64;
 
@@ -29,7 +29,7 @@ pub extern "C" fn nekahuiro_fresh_edition2(store: &mut [u8]) -> u8
         let before = now (store .entry) in
         ⌜ (r ≡ layFresh edition2 before .answer) × (now (store .exit) ≡ layFresh edition2 before .store) ⌝ }
 {
-    records::lay_fresh(store, TEARS, RECORDS)
+    store_record::lay_fresh(store, TEARS, RECORDS)
 }
 
 // Tells the age of a record: 0 live, 1 ahead, 2 stale, with the age in minutes left at `age`; or refused with 22, 23 or 4, and `age` stays.
@@ -45,7 +45,7 @@ pub extern "C" fn nekahuiro_age_edition2(
         let told = ageOf edition2 (now (store .entry)) number clock limit in
         ⌜ (r ≡ ageNumber told) × (now (age .exit) ≡ ageLeft told (now (age .entry))) ⌝ }
 {
-    records::tell(store, TEARS, RECORDS, JOINT, number, clock, limit, age)
+    store_record::tell(store, TEARS, RECORDS, JOINT, number, clock, limit, age)
 }
 
 // Runs a list of events on a store, with an answer of two bytes for each. 0, or a refusal's number: 22, 24, 20 or 21, in this order, and then
@@ -63,7 +63,7 @@ pub extern "C" fn nekahuiro_run_edition2(
     ensures { λ r. ⌜ (r ≡ 0 → Demand-3 edition2 (now (store .entry)) (now (events .entry)) (now (work .entry)) (now (answers .entry))) ⌝ }
     ensures { λ r. ⌜ (r ≡ 0 → One-run-at-a-time edition2 (now (store .entry)) (now (events .entry)) (now (work .entry)) (now (answers .entry))) ⌝ }
 {
-    let n = lengths::refusal(
+    let n = store_length::refusal(
         TEARS,
         RECORDS,
         WORD,
@@ -75,7 +75,7 @@ pub extern "C" fn nekahuiro_run_edition2(
     if n != 0 {
         return n;
     }
-    portions_edition2::from_start(store, events, work, answers);
+    engine_edition2::from_start(store, events, work, answers);
     0
 }
 
@@ -96,7 +96,7 @@ pub extern "C" fn nekahuiro_page_write_edition2(
         ⌜ Told-after geometry2 (now (store .entry)) (now (events .entry)) (now (work .entry)) (now (answers .entry)) (now (event .entry)) index (now (write .entry)) r
         (now (store .exit)) (now (work .exit)) (now (answers .exit)) (now (write .exit)) ⌝ }
 {
-    let unplayed = lengths::refusal(
+    let unplayed = store_length::refusal(
         TEARS,
         RECORDS,
         WORD,
@@ -108,7 +108,7 @@ pub extern "C" fn nekahuiro_page_write_edition2(
     if unplayed != 0 {
         return unplayed;
     }
-    let wrong = lengths::question(
+    let wrong = store_length::question(
         TEARS,
         RECORDS,
         WORD,
@@ -120,13 +120,13 @@ pub extern "C" fn nekahuiro_page_write_edition2(
     if wrong != 0 {
         return wrong;
     }
-    let ended = portions_edition2::from_start(store, events, work, answers);
+    let ended = engine_edition2::from_start(store, events, work, answers);
     let parent = ended.parent;
     let depth = ended.depth;
     let writers = ended.writers;
     let table = Edition2::table();
     let word = Edition2::word_at(event, 0);
-    pagewrites::page_write(
+    engine_page_write::page_write(
         ended.up,
         &parent,
         &depth,

@@ -7,10 +7,10 @@ use Rattle.rules.proofs.Editions.{proper-pairs}
 use Rattle.rules.proofs.PairedPages.{paired-laws}
 use Rattle.history.specs.Demand3.{Demand-3}
 use Rattle.history.proofs.Editions.{demand-3-pairs}
-use Rattle.serial.specs.OneAtATime.{One-run-at-a-time}
-use Rattle.serial.proofs.Runs.{one-run-at-a-time}
-use Rattle.running.specs.Running.{Ran}
-use Rattle.running.proofs.Running.{ran-demand, ran-serial}
+use Rattle.claim_serial.specs.OneAtATime.{One-run-at-a-time}
+use Rattle.claim_serial.proofs.Runs.{one-run-at-a-time}
+use Rattle.open_run.specs.Running.{Ran}
+use Rattle.open_run.proofs.Running.{ran-demand, ran-serial}
 
 pub signed : {store events work answers store′ work′ answers′ : List ℕ} {n : ℕ} → Ran editionPairs store events work answers n store′ work′ answers′
     → Ran editionPairs store events work answers n store′ work′ answers′ × ((n ≡ 0 → Demand-3 editionPairs store events work answers) × (n ≡ 0 → One-run-at-a-time editionPairs store events work answers))

@@ -7,13 +7,13 @@ ghost use Rattle.rules.specs.Age.{ageOf};
 ghost use mathlib.Core.Bool.{true};
 ghost use Rattle.rules.specs.Editions.{geometryPairs, editionPairs};
 ghost use Rattle.history.specs.Demand3.{Demand-3};
-ghost use Rattle.serial.specs.OneAtATime.{One-run-at-a-time};
-ghost use Rattle.records.specs.Ages.{ageNumber, ageLeft};
-ghost use Rattle.running.specs.Running.{Ran};
-ghost use Rattle.lent.specs.Portions.{kept, Portioned-as};
-ghost use Rattle.lent.specs.PageWrites.{Told-as};
-use lent::Portioned;
-use portions::Engine;
+ghost use Rattle.claim_serial.specs.OneAtATime.{One-run-at-a-time};
+ghost use Rattle.store_record.specs.Ages.{ageNumber, ageLeft};
+ghost use Rattle.open_run.specs.Running.{Ran};
+ghost use Rattle.open_lent.specs.Portions.{kept, Portioned-as};
+ghost use Rattle.open_lent.specs.PageWrites.{Told-as};
+use engine_portion::Engine;
+use open_lent::Portioned;
 
 const RECORDS: usize = 16;
 
@@ -30,7 +30,7 @@ pub extern "C" fn nekahuiro_fresh_pairs(store: &mut [u8]) -> u8
         let before = now (store .entry) in
         ⌜ (r ≡ layFresh editionPairs before .answer) × (now (store .exit) ≡ layFresh editionPairs before .store) ⌝ }
 {
-    records::lay_fresh(store, TEARS, RECORDS)
+    store_record::lay_fresh(store, TEARS, RECORDS)
 }
 
 // Tells the age of a record, through the first good copy of each page: 0 live, 1 ahead, 2 stale, with the age in minutes left at `age`; or refused with 22, 23
@@ -47,7 +47,7 @@ pub extern "C" fn nekahuiro_age_pairs(
         let told = ageOf editionPairs (now (store .entry)) number clock limit in
         ⌜ (r ≡ ageNumber told) × (now (age .exit) ≡ ageLeft told (now (age .entry))) ⌝ }
 {
-    records::tell(store, TEARS, RECORDS, JOINT, number, clock, limit, age)
+    store_record::tell(store, TEARS, RECORDS, JOINT, number, clock, limit, age)
 }
 
 // Runs a list of events on a store, with an answer of two bytes for each; the value of a commit or a recover says how the next page write is torn where it is
@@ -65,7 +65,7 @@ pub extern "C" fn nekahuiro_run_pairs(
     ensures { λ r. ⌜ (r ≡ 0 → Demand-3 editionPairs (now (store .entry)) (now (events .entry)) (now (work .entry)) (now (answers .entry))) ⌝ }
     ensures { λ r. ⌜ (r ≡ 0 → One-run-at-a-time editionPairs (now (store .entry)) (now (events .entry)) (now (work .entry)) (now (answers .entry))) ⌝ }
 {
-    lent::run_of(store, events, work, answers, JOINT, TEARS)
+    open_lent::run_of(store, events, work, answers, JOINT, TEARS)
 }
 
 // A portion by value, with this form's numbers.
@@ -81,7 +81,7 @@ fn portion_of(
         let after = kept (r .engine) (now (work .exit)) (now (store .exit)) in
         ⌜ Portioned-as editionPairs before (now (events .entry)) (now (answers .entry)) (r .number) after (now (answers .exit)) ⌝ }
 {
-    lent::portion_of(e, store, events, work, answers, JOINT, TEARS)
+    open_lent::portion_of(e, store, events, work, answers, JOINT, TEARS)
 }
 
 // Plays a portion of events on a state that is lent and changed in place, with the store and the working buffer that the last portion left. 0, or a
@@ -119,7 +119,7 @@ fn page_write_of(
         let held = kept e (now (work .entry)) (now (store .entry)) in
         ⌜ Told-as true geometryPairs held (now (event .entry)) (now (write .entry)) index r (now (write .exit)) ⌝ }
 {
-    lent::page_write_of(e, store, event, work, index, write, JOINT, TEARS)
+    open_lent::page_write_of(e, store, event, work, index, write, JOINT, TEARS)
 }
 
 // Says the copy write number `index`, from 0, that an event makes on this state, store and working buffer if nothing cuts it: 0, with the page's number, the

@@ -3,7 +3,7 @@ use borrow.Author.Needs.{needs}
 use mathlib.Core.Path.{refl}
 use mathlib.Core.Logic.{inl}
 use Rattle.rules.specs.Editions.{geometry1}
-use Rattle.commitpage.proofs.Places.{layout1}
+use Rattle.leaf_commit_page.proofs.Places.{layout1}
 use Rattle.nekahuiro.proofs.nekahuiro_fresh.Statement.{statement}
 use Rattle.nekahuiro.proofs.nekahuiro_fresh.Tie as tie
 

@@ -1,6 +1,6 @@
 -- The run of this form, with what holds of it where it is played.
 use borrow.Author.Needs.{needs}
-use Rattle.lent.proofs.Portions.{first-in}
+use Rattle.open_lent.proofs.Portions.{first-in}
 use Rattle.nekahuiro.proofs.Running.{signed}
 use Rattle.nekahuiro.proofs.nekahuiro_run.Statement.{statement}
 use Rattle.nekahuiro.proofs.nekahuiro_run.Tie as tie

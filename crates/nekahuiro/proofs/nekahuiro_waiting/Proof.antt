@@ -39,31 +39,31 @@ use denote.Triple.Table.{entered, cited}
 use denote.Triple.Walked.{says, Stays, stay-ref, stay-dropped, walkOf, goes-ref, goes-dropped, Walks, ends-at, walked, walk-meets}
 use denote.Triple.Clauses.{ensured, lasts}
 use denote.Exit.{yes}
-use Rattle.portions.specs.declared.Engine.{Engine}
-use Rattle.waitrows.specs.declared.Row.{Row}
-use Rattle.waitrows.specs.declared.Rows.{Rows}
-use Rattle.waitrows.specs.Copied.{least, copiedOf, Smalls}
-use Rattle.waitreport.specs.declared.Ring.{Ring}
-use Rattle.waitreport.specs.declared.Report.{Report}
-use Rattle.waitreport.specs.Reported.{Reported, Reported-copied}
-use Rattle.waitreport.proofs.Reporting.{reported}
-use Rattle.portions.proofs.Engine as D
-use Rattle.portions.proofs.Engine.Laws as D′
-use Rattle.waitrows.proofs.Row as R
-use Rattle.waitrows.proofs.Rows as S
-use Rattle.waitrows.proofs.Rows.Laws as S′
-use Rattle.waitreport.proofs.Ring as G
-use Rattle.waitreport.proofs.Ring.Laws as G′
-use Rattle.waitreport.proofs.Report as T
-use Rattle.waitreport.proofs.Report.Laws as T′
-use Rattle.waitrows.proofs.copied as copied
-use Rattle.waitrows.proofs.copied.Symbol as copied-def
-use Rattle.waitrows.proofs.copied.Symbol.{name as #waitrows·copied}
-use Rattle.waitrows.proofs.copied.Met as copied-thm
-use Rattle.lent.proofs.report_of as by-value
-use Rattle.lent.proofs.report_of.Symbol as by-value-def
-use Rattle.lent.proofs.report_of.Symbol.{name as #lent·report-of}
-use Rattle.lent.proofs.report_of.Met as by-value-thm
+use Rattle.engine_portion.specs.declared.Engine.{Engine}
+use Rattle.wait_row.specs.declared.Row.{Row}
+use Rattle.wait_row.specs.declared.Rows.{Rows}
+use Rattle.wait_row.specs.Copied.{least, copiedOf, Smalls}
+use Rattle.wait_report.specs.declared.Ring.{Ring}
+use Rattle.wait_report.specs.declared.Report.{Report}
+use Rattle.wait_report.specs.Reported.{Reported, Reported-copied}
+use Rattle.wait_report.proofs.Reporting.{reported}
+use Rattle.engine_portion.proofs.Engine as D
+use Rattle.engine_portion.proofs.Engine.Laws as D′
+use Rattle.wait_row.proofs.Row as R
+use Rattle.wait_row.proofs.Rows as S
+use Rattle.wait_row.proofs.Rows.Laws as S′
+use Rattle.wait_report.proofs.Ring as G
+use Rattle.wait_report.proofs.Ring.Laws as G′
+use Rattle.wait_report.proofs.Report as T
+use Rattle.wait_report.proofs.Report.Laws as T′
+use Rattle.wait_row.proofs.copied as copied
+use Rattle.wait_row.proofs.copied.Symbol as copied-def
+use Rattle.wait_row.proofs.copied.Symbol.{name as #wait-row·copied}
+use Rattle.wait_row.proofs.copied.Met as copied-thm
+use Rattle.open_lent.proofs.report_of as by-value
+use Rattle.open_lent.proofs.report_of.Symbol as by-value-def
+use Rattle.open_lent.proofs.report_of.Symbol.{name as #open-lent·report-of}
+use Rattle.open_lent.proofs.report_of.Met as by-value-thm
 use Rattle.nekahuiro.proofs.nekahuiro_waiting.Key.{name as #nekahuiro·nekahuiro-waiting}
 use Rattle.nekahuiro.proofs.nekahuiro_waiting as f
 use Rattle.nekahuiro.proofs.nekahuiro_waiting.Statement as stated
@@ -154,7 +154,7 @@ module _ {M : Type 1} (𝓤 : URA M) (H : Heap 𝓤) (A : Atoms 𝓤) (W : Given
       nothing ! $ move ! (1 ∷ 0 ∷ []) $ fjoin ! $ nothing ! $ fjoin ! $ nothing ! $ fjoin ! $
       owned ! u8 (Is u8) (uint-makes 𝓤 H A W w8) (t .number) _ (refl, fits) $ move ! (1 ∷ 0 ∷ []) $ done !
 
-  module _ (C : Calls 𝓤 H) (Λ : Loops 𝓤 H) (fm : FmC 𝓤 H (W .laws) C) (known-copied : Triple 𝓤 (C #waitrows·copied) (Copied 𝓤 H A at-mem run)) (known : Triple 𝓤 (C #lent·report-of) (ByValue 𝓤 H A at-mem run)) where
+  module _ (C : Calls 𝓤 H) (Λ : Loops 𝓤 H) (fm : FmC 𝓤 H (W .laws) C) (known-copied : Triple 𝓤 (C #wait-row·copied) (Copied 𝓤 H A at-mem run)) (known : Triple 𝓤 (C #open-lent·report-of) (ByValue 𝓤 H A at-mem run)) where
     walk : Room R.the-row (length (now rows)) → ent 𝓤 (onEntry 𝓤 H A f.signature κs qs x at) (WpFn 𝓤 H C Λ code.function (vptr b o ∷ sv ∷ vptr b₂ o₂ ∷ []) Post)
     walk room =
         qed W ((‵ (flft κ q) ⊛ ‵ (flft κ₁ q₁) ⊛ ‵ (flft κ₂ q₂) ⊛ ‵ ftrue) ∷ ‵ (owns (ShrRef (named 0) κ D.the-row ∷ ShrSlice (named 1) κ₁ R.the-row ∷ MutRef (named 2) κ₂ G.the-row ∷ []) x at) ∷ []) ∵
@@ -209,7 +209,7 @@ module _ {M : Type 1} (𝓤 : URA M) (H : Heap 𝓤) (A : Atoms 𝓤) (W : Given
         keep ! (0 ∷ 1 ∷ 2 ∷ 6 ∷ 7 ∷ []) $ by ! (exits t (whole-report h (now rows) l g (t .ring) (t .number) c e) fits))))))))))))))))))))))))
 
 module _ {M : Type 1} (𝓤 : URA M) (H : Heap 𝓤) (A : Atoms 𝓤) (W : Given 𝓤 H A) (at-mem : Memory → SProp 𝓤) (run : Routine → Fun 𝓤) where
-  waiting-walks : (C : Calls 𝓤 H) (Λ : Loops 𝓤 H) → FmC 𝓤 H (W .laws) C → Triple 𝓤 (C #waitrows·copied) (Copied 𝓤 H A at-mem run) → Triple 𝓤 (C #lent·report-of) (ByValue 𝓤 H A at-mem run)
+  waiting-walks : (C : Calls 𝓤 H) (Λ : Loops 𝓤 H) → FmC 𝓤 H (W .laws) C → Triple 𝓤 (C #wait-row·copied) (Copied 𝓤 H A at-mem run) → Triple 𝓤 (C #open-lent·report-of) (ByValue 𝓤 H A at-mem run)
       → Walks 𝓤 H A f.ended stayed (WpFn 𝓤 H C Λ code.function) (f.clauses 𝓤 H A at-mem run)
   waiting-walks C Λ fm known-copied known = walked 𝓤 H A f.ended stayed (f.clauses 𝓤 H A at-mem run) (WpFn 𝓤 H C Λ code.function)
       (λ κs. (ptr-vals, (slice-vals, (ptr-vals, tt))))
@@ -219,7 +219,7 @@ module _ {M : Type 1} (𝓤 : URA M) (H : Heap 𝓤) (A : Atoms 𝓤) (W : Given
       (a .0 .ptr .0) (a .0 .ptr .1) (a .0 .name) (a .0 .now) (a .1 .0) (a .1 .1 .0 .ptr .0) (a .1 .1 .0 .ptr .1) (a .1 .1 .0 .name) (a .1 .1 .0 .now) C Λ fm known-copied known (are .1 .0 .0 .1)))
 
 waiting-meets : {M : Type 1} (𝓤 : URA M) (H : Heap 𝓤) (A : Atoms 𝓤) (W : Given 𝓤 H A) (at-mem : Memory → SProp 𝓤) (run : Routine → Fun 𝓤) (𝓣 : Tables 𝓤 H)
-    → Triple 𝓤 (𝓣 .C #waitrows·copied) (Copied 𝓤 H A at-mem run) → Triple 𝓤 (𝓣 .C #lent·report-of) (ByValue 𝓤 H A at-mem run)
+    → Triple 𝓤 (𝓣 .C #wait-row·copied) (Copied 𝓤 H A at-mem run) → Triple 𝓤 (𝓣 .C #open-lent·report-of) (ByValue 𝓤 H A at-mem run)
     → Meets 𝓤 H A f.signature (WpFn 𝓤 H (𝓣 .C) (𝓣 .Λ) code.function) (f.spec 𝓤 H A at-mem run)
 waiting-meets 𝓤 H A W at-mem run 𝓣 known-copied known = walk-meets 𝓤 H A f.ended stayed W
     (goes-dropped 𝓤 H A W 3 state-slot yes (λ κs x f. refl), (goes-dropped 𝓤 H A W 3 rows-slot yes (λ κs x f. refl), (goes-ref 𝓤 H A W 3 2 tt (plain (λ _. G.the-row)), tt)))
@@ -232,5 +232,5 @@ nekahuiro-waiting-spec 𝓤 H 𝓜 𝓖 𝓡 =
     entered 𝓤 H (tripleOf 𝓤 H (𝓖 .A) f.signature (f.spec 𝓤 H (𝓖 .A) (𝓜 .mem) (𝓡 .run)))
     (tables 𝓤 H 𝓜 𝓡 code.env .C) (tables 𝓤 H 𝓜 𝓡 code.env .Λ) #nekahuiro·nekahuiro-waiting code.function (code.unfolded 𝓤 H 𝓜 𝓡)
     (waiting-meets 𝓤 H (𝓖 .A) (givenOf 𝓤 H 𝓜 𝓖) (𝓜 .mem) (𝓡 .run) (tablesOf 𝓤 H 𝓜 (tables 𝓤 H 𝓜 𝓡 code.env))
-    (cited 𝓤 H (Copied 𝓤 H (𝓖 .A) (𝓜 .mem) (𝓡 .run)) 𝓜 𝓡 code.env #waitrows·copied copied-def.routine code.calls-waitrows·copied (copied-thm.met 𝓤 H 𝓜 𝓖 𝓡))
-    (cited 𝓤 H (ByValue 𝓤 H (𝓖 .A) (𝓜 .mem) (𝓡 .run)) 𝓜 𝓡 code.env #lent·report-of by-value-def.routine code.calls-lent·report-of (by-value-thm.met 𝓤 H 𝓜 𝓖 𝓡)))
+    (cited 𝓤 H (Copied 𝓤 H (𝓖 .A) (𝓜 .mem) (𝓡 .run)) 𝓜 𝓡 code.env #wait-row·copied copied-def.routine code.calls-wait-row·copied (copied-thm.met 𝓤 H 𝓜 𝓖 𝓡))
+    (cited 𝓤 H (ByValue 𝓤 H (𝓖 .A) (𝓜 .mem) (𝓡 .run)) 𝓜 𝓡 code.env #open-lent·report-of by-value-def.routine code.calls-open-lent·report-of (by-value-thm.met 𝓤 H 𝓜 𝓖 𝓡)))

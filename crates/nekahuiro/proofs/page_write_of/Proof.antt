@@ -1,6 +1,6 @@
 -- The numbers are edition 1's.
 use borrow.Author.Needs.{needs}
-use Rattle.lent.proofs.Portions.{first-in}
+use Rattle.open_lent.proofs.Portions.{first-in}
 use Rattle.nekahuiro.proofs.page_write_of.Statement.{statement}
 use Rattle.nekahuiro.proofs.page_write_of.Tie as tie
 

@@ -3,7 +3,7 @@ use mathlib.Core.Path.{refl, sym}
 use mathlib.Core.Bool.{true≢false}
 use mathlib.Core.Logic.{inr}
 use Rattle.rules.specs.Editions.{geometry2}
-use Rattle.commitpage.proofs.Places.{layout2}
+use Rattle.leaf_commit_page.proofs.Places.{layout2}
 use Rattle.nekahuiro_edition2.proofs.nekahuiro_age_edition2.Statement.{statement}
 use Rattle.nekahuiro_edition2.proofs.nekahuiro_age_edition2.Tie as tie
 

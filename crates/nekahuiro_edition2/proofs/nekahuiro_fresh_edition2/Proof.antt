@@ -3,7 +3,7 @@ use borrow.Author.Needs.{needs}
 use mathlib.Core.Path.{refl}
 use mathlib.Core.Logic.{inr}
 use Rattle.rules.specs.Editions.{geometry2}
-use Rattle.commitpage.proofs.Places.{layout2}
+use Rattle.leaf_commit_page.proofs.Places.{layout2}
 use Rattle.nekahuiro_edition2.proofs.nekahuiro_fresh_edition2.Statement.{statement}
 use Rattle.nekahuiro_edition2.proofs.nekahuiro_fresh_edition2.Tie as tie
 

@@ -9,10 +9,10 @@ use lib.ListN.{length}
 use Rattle.rules.specs.Geometry.{records, pageCount}
 use Rattle.rules.specs.Event.{decode}
 use Rattle.rules.specs.Editions.{geometry2, edition2, second}
-use Rattle.commitpage.proofs.Places.{layout2}
-use Rattle.state.proofs.Parents.{parent-named}
-use Rattle.lengths.proofs.Lengths.{lengths-of, question-of}
-use Rattle.pagewrites.proofs.Numbered.{word-is}
+use Rattle.leaf_commit_page.proofs.Places.{layout2}
+use Rattle.state_whole.proofs.Parents.{parent-named}
+use Rattle.store_length.proofs.Lengths.{lengths-of, question-of}
+use Rattle.engine_page_write.proofs.Numbered.{word-is}
 use Rattle.nekahuiro_edition2.proofs.PageWrites.{list-refused, event-refused, list-asked}
 use Rattle.nekahuiro_edition2.proofs.nekahuiro_page_write_edition2.Statement.{statement}
 use Rattle.nekahuiro_edition2.proofs.nekahuiro_page_write_edition2.Tie as tie

@@ -8,13 +8,13 @@ use native.Mathlib.Omega.{arith}
 use Rattle.rules.specs.Editions.{geometry2, edition2}
 use Rattle.history.specs.Demand3.{Demand-3}
 use Rattle.history.proofs.Editions.{demand-3-edition2}
-use Rattle.serial.specs.OneAtATime.{One-run-at-a-time}
-use Rattle.serial.proofs.Runs.{one-run-at-a-time-edition2}
-use Rattle.commitpage.proofs.Places.{layout2}
-use Rattle.event.proofs.Words.{bytes2}
-use Rattle.lengths.proofs.Lengths.{lengths-of}
-use Rattle.running.specs.Running.{Ran}
-use Rattle.running.proofs.Running.{run-refused, run-played, from-start, ran-demand, ran-serial}
+use Rattle.claim_serial.specs.OneAtATime.{One-run-at-a-time}
+use Rattle.claim_serial.proofs.Runs.{one-run-at-a-time-edition2}
+use Rattle.leaf_commit_page.proofs.Places.{layout2}
+use Rattle.leaf_event.proofs.Words.{bytes2}
+use Rattle.store_length.proofs.Lengths.{lengths-of}
+use Rattle.open_run.specs.Running.{Ran}
+use Rattle.open_run.proofs.Running.{run-refused, run-played, from-start, ran-demand, ran-serial}
 use Rattle.nekahuiro_edition2.proofs.nekahuiro_run_edition2.Statement.{statement}
 use Rattle.nekahuiro_edition2.proofs.nekahuiro_run_edition2.Tie as tie
 

@@ -3,7 +3,7 @@ use mathlib.Core.Path.{refl, sym}
 use mathlib.Core.Bool.{true≢false}
 use mathlib.Core.Logic.{inl}
 use Rattle.rules.specs.Editions.{geometryPairs}
-use Rattle.commitpage.proofs.Places.{layout-pairs}
+use Rattle.leaf_commit_page.proofs.Places.{layout-pairs}
 use Rattle.nekahuiro_pairs.proofs.nekahuiro_age_pairs.Statement.{statement}
 use Rattle.nekahuiro_pairs.proofs.nekahuiro_age_pairs.Tie as tie
 

@@ -39,11 +39,11 @@ use denote.Triple.Clauses.{ensured, lasts}
 use denote.Exit.{yes}
 use mathlib.Core.Bool.{true}
 use Rattle.rules.specs.Editions.{geometryPairs}
-use Rattle.lent.specs.Portions.{kept}
-use Rattle.lent.specs.PageWrites.{Told-as}
-use Rattle.portions.specs.declared.Engine.{Engine}
-use Rattle.portions.proofs.Engine as D
-use Rattle.portions.proofs.Engine.Laws as D′
+use Rattle.open_lent.specs.Portions.{kept}
+use Rattle.open_lent.specs.PageWrites.{Told-as}
+use Rattle.engine_portion.specs.declared.Engine.{Engine}
+use Rattle.engine_portion.proofs.Engine as D
+use Rattle.engine_portion.proofs.Engine.Laws as D′
 use Rattle.nekahuiro_pairs.proofs.page_write_of as by-value
 use Rattle.nekahuiro_pairs.proofs.page_write_of.Symbol as by-value-def
 use Rattle.nekahuiro_pairs.proofs.page_write_of.Symbol.{name as #nekahuiro-pairs·page-write-of}

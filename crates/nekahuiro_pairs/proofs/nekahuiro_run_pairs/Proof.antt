@@ -1,6 +1,6 @@
 -- The run of this form, with what holds of it where it is played.
 use borrow.Author.Needs.{needs}
-use Rattle.lent.proofs.Portions.{paired-in}
+use Rattle.open_lent.proofs.Portions.{paired-in}
 use Rattle.nekahuiro_pairs.proofs.Running.{signed}
 use Rattle.nekahuiro_pairs.proofs.nekahuiro_run_pairs.Statement.{statement}
 use Rattle.nekahuiro_pairs.proofs.nekahuiro_run_pairs.Tie as tie

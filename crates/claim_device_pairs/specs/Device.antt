@@ -1,0 +1,157 @@
+-- A DEVICE whose writes tear: a medium of pairs, and a machine that plays events on a copy of its own in memory. What an event writes is programmed on the medium copy
+-- by copy, the first copy of a page before the second, and the power may go between two of these writes or within one, which leaves that copy bad. Before a
+-- recovery the machine mends the medium's pairs; document 02, L5, has it that mending isn't cut, and so does this device.
+use Prim.Native.Nat.{ℕ}
+use mathlib.Core.Path.{_≡_}
+use mathlib.Core.Bool.{Bool, true, _&&_}
+use mathlib.Core.List.{List, [], _∷_, _++_, map}
+use mathlib.Core.Option.{Option, none, some}
+use Rattle.rules.specs.Geometry.{Geometry, uncut}
+use Rattle.rules.specs.Store.{settled}
+use Rattle.rules.specs.Event.{Event, begin, lock, write, read, commit, abort, crash, recover, prepare, decide, query, encode, fits}
+use Rattle.rules.specs.State.{live, down}
+use Rattle.rules.specs.Pairs.{Pairs, shown, mended, OneBadAtMost, pairsOf, inPairs}
+use Rattle.rules.specs.Step.{StateOf, visible, refusal, step}
+use Rattle.history.specs.History.{History, survives, overlaid}
+use Rattle.history.specs.Claims.{seenBy, isRestart, stateAfter, historyAfter}
+use Rattle.claim_device.specs.Plan.{planOf}
+use Rattle.claim_device.specs.CopyWrites.{copiesOf}
+use Rattle.claim_device_pairs.specs.Copies.{carriedAll, carried, spoiledAt, behind, within}
+
+-- What happens to a device.
+pub data Happening : Type 0 where
+  -- an event is played, with its count as in a word that cuts nothing, and all that it writes reaches the medium
+  plays : Event → Happening
+  -- the power goes once so many of its copy writes have reached the medium (or all, where it has fewer)
+  fails : Event → ℕ → Happening
+  -- the power goes within the copy write behind so many, and leaves that copy bad
+  tears : Event → ℕ → Happening
+  -- the power goes between two events
+  loses : Happening
+
+-- the same event with another place of its crash; only a commit and a recover have one here
+unfoldable pub cutTo : ℕ → Event → Event
+cutTo k (begin p) = begin p
+cutTo k (lock t r a) = lock t r a
+cutTo k (write t r o v) = write t r o v
+cutTo k (read t r o) = read t r o
+cutTo k (commit t n) = commit t k
+cutTo k (abort t w) = abort t w
+cutTo k crash = crash
+cutTo k (recover n) = recover k
+cutTo k (prepare t n i) = prepare t n i
+cutTo k (decide d n i) = decide d n i
+cutTo k (query i) = query i
+
+module _ (g : Geometry) where
+  abbrev pub Memory : Type 0
+  Memory = StateOf (inPairs g)
+
+  -- the pairs as they are before the first copy write of an event: mended, for a recovery
+  unfoldable pub readied : Event → Pairs → Pairs
+  readied (begin p) m = m
+  readied (lock t r a) m = m
+  readied (write t r o v) m = m
+  readied (read t r o) m = m
+  readied (commit t k) m = m
+  readied (abort t w) m = m
+  readied crash m = m
+  readied (recover k) m = mended m
+  readied (prepare t k i) m = m
+  readied (decide d k i) m = m
+  readied (query i) m = m
+
+  unfoldable pub readyBy : Event → Pairs → Option ℕ → Pairs
+  readyBy e m none = readied e m
+  readyBy e m (some n) = m
+
+  -- where it is refused nothing is mended
+  unfoldable pub readyOf : Memory → Event → Pairs → Pairs
+  readyOf s e m = readyBy e m (refusal (inPairs g) s e)
+
+  -- an event as it is played here: the count of its word cuts nothing
+  unfoldable pub wholly : Event → Event
+  wholly e = cutTo (uncut g) e
+
+  pub record Device : Type 0 where
+    pub medium : Pairs
+    pub memory : Memory
+
+  -- the power comes back: the machine knows the medium's pairs and nothing else, and is down
+  unfoldable pub restarted : Pairs → Device
+  restarted m = record { medium = m; memory = down m }
+
+  unfoldable pub happens : Device → Happening → Device
+  happens d (plays e) = record {
+    medium = carriedAll (copiesOf (planOf true g (d .memory) e)) (readyOf (d .memory) e (d .medium));
+    memory = step (inPairs g) (d .memory) (some (wholly e)) .state;
+  }
+  happens d (fails e j) = restarted (carried j (copiesOf (planOf true g (d .memory) e)) (readyOf (d .memory) e (d .medium)))
+  happens d (tears e j) = restarted (spoiledAt j (copiesOf (planOf true g (d .memory) e)) (readyOf (d .memory) e (d .medium)))
+  happens d loses = restarted (d .medium)
+
+  unfoldable pub lives : Device → List Happening → Device
+  lives d [] = d
+  lives d (h ∷ hs) = lives (happens d h) hs
+
+  -- a device whose power comes on over a medium with these bytes, after what happens to it
+  unfoldable pub deviceAfter : List ℕ → List Happening → Device
+  deviceAfter store hs = lives (restarted (pairsOf store)) hs
+
+  -- WHAT THE RULES SAY OF IT: the events that stand for what happened. Where the power goes behind j copy writes, or within the next, the event has a count and a
+  -- value that say so; wherever the power goes there is a crash.
+  unfoldable pub standsFor : Happening → List Event
+  standsFor (plays e) = wholly e ∷ []
+  standsFor (fails e j) = cutTo (behind j) e ∷ crash ∷ []
+  standsFor (tears e j) = cutTo (within j) e ∷ crash ∷ []
+  standsFor loses = crash ∷ []
+
+  unfoldable pub listOf : List Happening → List Event
+  listOf [] = []
+  listOf (h ∷ hs) = standsFor h ++ listOf hs
+
+  -- they fit words: an event with a count that a word can hold
+  unfoldable pub allFit : List Event → Bool
+  allFit [] = true
+  allFit (e ∷ es) = fits g e && allFit es
+
+  -- as words, and what these and the rules' answers to them tell
+  unfoldable pub wordsOf : List Happening → List ℕ
+  wordsOf hs = map (encode g) (listOf hs)
+
+  unfoldable pub historyOf : List ℕ → List Happening → History
+  historyOf store hs = historyAfter (inPairs g) store (wordsOf hs)
+
+  -- power cuts, and crashes and recoveries, each cut or torn anywhere
+  unfoldable pub isRestarting : Happening → Bool
+  isRestarting (plays e) = isRestart (some e)
+  isRestarting (fails e j) = isRestart (some e)
+  isRestarting (tears e j) = isRestart (some e)
+  isRestarting loses = true
+
+  unfoldable pub restarting : List Happening → Bool
+  restarting [] = true
+  restarting (h ∷ hs) = isRestarting h && restarting hs
+
+  -- OF EVERY SUCH DEVICE, whatever has happened to it.
+  pub record Torn-device-holds (store : List ℕ) (hs : List Happening) : Type 0 where
+    -- The medium is what the memory has as the store: after every power cut it is safe to go on from the medium alone.
+    pub agrees : deviceAfter store hs .medium ≡ deviceAfter store hs .memory .store
+    -- The memory is the state that the rules' run over the list leaves.
+    pub follows : deviceAfter store hs .memory ≡ stateAfter (inPairs g) store (wordsOf hs)
+    -- Demand 3, first half: the records that the pairs show are the start's, overlaid with the writes of the transactions that survive.
+    pub settles : (r : ℕ) → let h = historyOf store hs in
+        settled g (shown (deviceAfter store hs .medium)) r ≡ overlaid (survives h) r (h .writes) (settled g (shown (pairsOf store)) r)
+    -- The central law: what a live transaction would read.
+    pub reads : (t r : ℕ) → live (deviceAfter store hs .memory) t ≡ true → let h = historyOf store hs in
+        visible (inPairs g) (deviceAfter store hs .memory) t r ≡ overlaid (seenBy h t) r (h .writes) (settled g (shown (pairsOf store)) r)
+    -- A commit survives: power cuts and recoveries, however many and wherever each is cut or torn, leave the settled records alone.
+    pub survives-tears : (more : List Happening) → allFit (listOf more) ≡ true → restarting more ≡ true → (r : ℕ)
+        → settled g (shown (deviceAfter store (hs ++ more) .medium)) r ≡ settled g (shown (deviceAfter store hs .medium)) r
+    -- No page is lost: from a medium with at most one bad copy in each pair, it always has that.
+    pub one-bad : OneBadAtMost g (pairsOf store) → OneBadAtMost g (deviceAfter store hs .medium)
+
+-- opens the definitions of this module: for what is proved by computing
+unfoldable pub open-device : Unit {0}
+unfolding cutTo readied readyBy readyOf wholly restarted happens lives deviceAfter standsFor listOf allFit wordsOf historyOf isRestarting restarting
+open-device = tt

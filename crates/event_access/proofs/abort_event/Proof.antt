@@ -1,0 +1,86 @@
+-- The report, if there is one to give, then the end of the transaction and its descendants, who leave the sets of kin too.
+use mathlib.Core.Path.{refl, sym, _∙_}
+use lib.ListN.{getD}
+use Rattle.laws.specs.Tests.{under}
+use Rattle.laws.proofs.Tests.{under-lt}
+use Rattle.laws.proofs.Booleans.{and-right}
+use Rattle.rules.specs.Event.{abort}
+use Rattle.state_array.specs.Changes.{less}
+use Rattle.state_array.proofs.Kin.{kin-cleared}
+use Rattle.state_version.proofs.Walk.{parent-below}
+use Rattle.state_whole.specs.Whole.{Ready}
+use Rattle.state_whole.proofs.Steps.{numbered}
+use Rattle.event_access.proofs.Aborts.{abort-steps-of}
+use Rattle.rules.specs.Editions.{geometryOf, formIn}
+use borrow.Author.Needs.{needs}
+use Rattle.event_access.proofs.abort_event.Statement.{statement}
+use Rattle.event_access.proofs.abort_event.Tie as tie
+
+number-requires : tie.Need-number-requires
+number-requires c κs = search needs
+
+cast-i : tie.Need-cast-i
+cast-i c = search needs
+
+element-copy-out-told : tie.Need-element-copy-out-told
+element-copy-out-told c = search needs
+
+mul-places : tie.Need-mul-places
+mul-places c = search needs
+
+element-copy-out-report : tie.Need-element-copy-out-report
+element-copy-out-report c = search needs
+
+report-requires : tie.Need-report-requires
+unfolding under
+report-requires c κs = let a = c .before .before .before .before .before .before .before .before .args in let n = c .before .before .before .before .number .result in
+    (c .before .before .before .before .number .ensures .1, λ e. parent-below _ _ (c .before .before .before .before .before .before .before .before .pre .7) n (under-lt 1 (getD (a .depth .now) n 0) (and-right (a .report) (under 1 (getD (a .depth .now) n 0)) e)), search needs, search needs)
+
+descendants-requires : tie.Need-descendants-requires
+descendants-requires c κs = search needs
+
+discard-requires : tie.Need-discard-requires
+discard-requires c κs = search needs
+
+end-requires : tie.Need-end-requires
+end-requires c κs = search needs
+
+minus-requires : tie.Need-minus-requires
+minus-requires c κs = search needs
+
+leave-requires : tie.Need-leave-requires
+leave-requires c κs = c .before .before .before .before .before .before .before .before .before .before .before .before .before .before .before .before .before .before .before .before .before .before .before .before .before .before .before .before .before .before .pre .8 .long
+
+same-length : tie.Need-same-length
+same-length c = search needs
+
+same-length-2 : tie.Need-same-length-2
+same-length-2 c = search needs
+
+same-length-3 : tie.Need-same-length-3
+same-length-3 c = search needs
+
+returns : tie.Need-returns
+unfolding under less
+returns c = let w = c .before .before .before .before .before .before .before .before .before .before .before .before .before .before .before .before .before .before .before .before .before .before .before .before .before .before .before .before .before .before .before .args .report in let e = c .before .before .before .before .end .ensures in let f = c .before .before .before .before .before .before .before .before .before .before .before .before .before .before .discard .ensures in
+    (λ k tears up work store I R. numbered (formIn tears (geometryOf k)) _ _ _ (λ t r. abort t w) (Ready (formIn tears (geometryOf k))) _ _ 0 0 (c .before .before .before .before .before .before .before .before .before .before .before .before .before .before .before .before .before .before .before .before .before .before .before .before .before .before .before .number .ensures .0) refl (λ R. abort-steps-of (formIn tears (geometryOf k)) _ (sym (c .before .before .before .before .before .before .before .before .before .before .before .before .before .before .before .before .before .before .before .before .before .before .before .before .before .before .before .before .before .before .before .pre .6) ∙ I .form .writerss) _ I _ _ w R (c .before .before .before .before .before .before .before .before .before .before .before .before .before .before .before .before .before .before .descendants .ensures) _ _ _ _ _ _ _ (c .before .before .before .before .before .before .before .before .before .before .before .before .before .before .before .before .before .before .before .before .before .before .report .ensures) (e .0) (e .1) (e .2) (f .0) (f .1) (f .2)) R, kin-cleared _ _ _ _ _ _ _ _ _ (c .before .before .before .before .before .before .before .before .before .before .before .before .before .before .before .before .before .before .before .before .before .before .before .before .before .before .before .before .before .before .before .pre .8) (e .0) (e .1) (c .before .before .minus .ensures) (c .leave .ensures))
+
+pub abort-event-spec : {M : Type 1} → statement M
+abort-event-spec =
+    tie.close
+    (tie.spec
+    number-requires
+    cast-i
+    element-copy-out-told
+    mul-places
+    element-copy-out-report
+    report-requires
+    descendants-requires
+    discard-requires
+    end-requires
+    minus-requires
+    leave-requires
+    same-length
+    same-length-2
+    same-length-3
+    returns)

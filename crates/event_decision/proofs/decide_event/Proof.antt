@@ -1,0 +1,78 @@
+-- For another nothing; else the page writes of the decision, what is prepared then, and the crash if one came.
+use mathlib.Core.Path.{sym}
+use mathlib.Core.Bool.{false}
+use Prim.Native.Nat.{_-_}
+use Rattle.laws.proofs.Booleans.{not-true, not-false}
+use Rattle.rules.specs.Editions.{geometryOf}
+use Rattle.event_crash.proofs.Editions.{layout-of, few}
+use Rattle.event_decision.proofs.Decisions.{for-prepared, decide-other, decide-steps, decide-cut}
+use borrow.Author.Needs.{needs}
+use Rattle.event_decision.proofs.decide_event.Statement.{statement}
+use Rattle.event_decision.proofs.decide_event.Tie as tie
+
+is-for-requires : tie.Need-is-for-requires
+is-for-requires c κs = search needs
+
+returns : tie.Need-returns
+returns c = (λ edition work N I u H. (decide-other false (geometryOf edition) _ I u _ _ _ H _ (c .before .is-for .ensures) _ _ (not-true _ (c .if1 .taken)), H), c .before .before .before .before .before .before .before .before .pre .7)
+
+decide-pages-requires : tie.Need-decide-pages-requires
+decide-pages-requires c κs = (c .before .before .before .before .before .before .before .before .before .pre .0, c .before .before .before .before .before .before .before .before .before .pre .2, c .before .before .before .before .before .before .before .before .before .pre .6)
+
+read-held-requires : tie.Need-read-held-requires
+read-held-requires c κs = (c .before .before .before .before .before .before .before .before .before .before .before .before .before .pre .0, c .before .before .before .before .before .before .before .before .before .before .before .before .before .pre .1, search needs)
+
+fall-requires : tie.Need-fall-requires
+fall-requires c κs = (few _ (c .before .before .before .before .before .before .before .before .before .before .before .before .before .before .before .before .before .before .before .before .before .before .before .before .pre .0), c .before .before .before .before .before .before .before .before .before .before .before .before .before .before .before .before .before .before .before .before .before .before .before .before .pre .3, c .before .before .before .before .before .before .before .before .before .before .before .before .before .before .before .before .before .before .before .before .before .before .before .before .pre .4, c .before .before .before .before .before .before .before .before .before .before .before .before .before .before .before .before .before .before .before .before .before .before .before .before .pre .5)
+
+same-length : tie.Need-same-length
+same-length c = search needs
+
+same-length-2 : tie.Need-same-length-2
+same-length-2 c = search needs
+
+same-length-3 : tie.Need-same-length-3
+same-length-3 c = search needs
+
+same-length-4 : tie.Need-same-length-4
+same-length-4 c = search needs
+
+returns-2 : tie.Need-returns-2
+returns-2 c = (
+  λ edition work N I u H.
+      let G = layout-of edition _ _ _ N in
+      let ours = not-false _ (c .before .before .before .before .before .before .before .before .before .before .before .before .before .before .before .before .before .before .before .before .before .before .before .if1 .left) in
+      let L = c .before .before .before .before .before .before .before .before .before .before .before .before .before .before .before .before .before .before .before .before .before .decide-pages .ensures _ G (for-prepared false (geometryOf edition) _ _ _ _ _ H (c .before .before .before .before .before .before .before .before .before .before .before .before .before .before .before .before .before .before .before .before .before .before .before .before .is-for .ensures) ours) in
+      (decide-cut false (geometryOf edition) _ I u _ _ _ H _ (c .before .before .before .before .before .before .before .before .before .before .before .before .before .before .before .before .before .before .before .before .before .before .before .before .is-for .ensures) _ _ ours _ _ _ L (search needs) (c .before .before .before .before .before .before .before .before .before .before .before .before .before .before .before .before .if2 .taken) _ (c .before .before .before .before .before .before .before .before .before .before .before .before .before .before .before .before .before .before .before .before .before .before .before .before .before .before .before .before .before .before .before .pre .5) _ _ _ _ _ _ _ (c .before .before .before .before .before .before .fall .ensures .0), sym (c .before .before .before .before .before .before .before .before .before .before .before .before .before .before .before .before .before .read-held .ensures .0 _ G (N .two-phase))),
+  c .before .before .before .before .before .before .fall .ensures .1,
+)
+
+same-length-5 : tie.Need-same-length-5
+same-length-5 c = search needs
+
+returns-3 : tie.Need-returns-3
+returns-3 c = (
+  λ edition work N I u H.
+      let G = layout-of edition _ _ _ N in
+      let ours = not-false _ (c .before .before .before .before .before .before .before .if1 .left) in
+      let L = c .before .before .before .before .before .decide-pages .ensures _ G (for-prepared false (geometryOf edition) _ _ _ _ _ H (c .before .before .before .before .before .before .before .before .is-for .ensures) ours) in
+      (decide-steps false (geometryOf edition) _ I u _ _ _ H _ (c .before .before .before .before .before .before .before .before .is-for .ensures) _ _ ours _ _ _ L (search needs) (c .if2 .left), sym (c .before .read-held .ensures .0 _ G (N .two-phase))),
+  c .before .before .before .before .before .before .before .before .before .before .before .before .before .before .before .pre .7,
+)
+
+pub decide-event-spec : {M : Type 1} → statement M
+decide-event-spec =
+    tie.close
+    (tie.spec
+    is-for-requires
+    returns
+    decide-pages-requires
+    read-held-requires
+    fall-requires
+    same-length
+    same-length-2
+    same-length-3
+    same-length-4
+    returns-2
+    same-length-5
+    returns-3)

@@ -1,0 +1,30 @@
+-- Two bytes are written, no other.
+use mathlib.Core.Path.{refl}
+use native.Mathlib.Omega.{arith}
+use lib.ListN.{length-set}
+use borrow.Author.Needs.{needs}
+use Rattle.leaf_event.proofs.Answer.put.Statement.{statement}
+use Rattle.leaf_event.proofs.Answer.put.Tie as tie
+
+mul-at : tie.Need-mul-at
+mul-at c = search needs
+
+slice-write-answers : tie.Need-slice-write-answers
+slice-write-answers c = search needs
+
+add-answers : tie.Need-add-answers
+add-answers c = search needs
+
+slice-write-answers-2 : tie.Need-slice-write-answers-2
+slice-write-answers-2 c = simp length-set (omega arith)
+
+same-length : tie.Need-same-length
+same-length c = search needs
+
+returns : tie.Need-returns
+returns c = refl
+
+pub put-spec : {M : Type 1} → statement M
+put-spec =
+    tie.close
+    (tie.spec mul-at slice-write-answers add-answers slice-write-answers-2 same-length returns)

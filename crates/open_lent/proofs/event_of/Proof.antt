@@ -1,0 +1,33 @@
+-- The word of edition 1, or the one where pages tear.
+use mathlib.Core.Path.{refl, sym, ap, _∙_}
+use Rattle.rules.specs.Event.{decode}
+use Rattle.rules.specs.Editions.{geometryOf}
+use Rattle.engine_list.proofs.Words.{tells-torn, tells-first}
+use Rattle.engine_page_write.proofs.Numbered.{word-is}
+use borrow.Author.Needs.{needs}
+use Rattle.open_lent.proofs.event_of.Statement.{statement}
+use Rattle.open_lent.proofs.event_of.Tie as tie
+
+word-at-requires : tie.Need-word-at-requires
+word-at-requires c κs = search needs
+
+table-requires : tie.Need-table-requires
+table-requires c κs = search needs
+
+of-word-requires : tie.Need-of-word-requires
+of-word-requires c κs = search needs
+
+returns : tie.Need-returns
+returns c = λ edition s j. let a = c .before .before .before .before .before .before .args in let t = tells-torn 4 0 _ (a .event .now) _ (c .before .before .before .if1 .taken) refl (c .before .before .before .before .word-at .ensures) (c .of-word .ensures) edition s j in (ap (decode (geometryOf edition)) (sym (word-is 4 (a .event .now) (c .before .before .before .before .before .before .pre))) ∙ t .0, t .1)
+
+table-requires-2 : tie.Need-table-requires-2
+table-requires-2 c κs = search needs
+
+of-word-requires-2 : tie.Need-of-word-requires-2
+of-word-requires-2 c κs = search needs
+
+returns-2 : tie.Need-returns-2
+returns-2 c = λ edition s j. let a = c .before .before .before .before .before .before .args in let t = tells-first 4 0 _ (a .event .now) _ (c .before .before .before .if1 .left) refl (c .before .before .before .before .word-at .ensures) (c .of-word2 .ensures) edition s j in (ap (decode (geometryOf edition)) (sym (word-is 4 (a .event .now) (c .before .before .before .before .before .before .pre))) ∙ t .0, t .1)
+
+pub event-of-spec : {M : Type 1} → statement M
+event-of-spec = tie.close (tie.spec word-at-requires table-requires of-word-requires returns table-requires-2 of-word-requires-2 returns-2)

@@ -1,8 +1,0 @@
--- The arrays of a state that is lent.
-use mathlib.Core.List.{List}
-use Prim.Native.Nat.{ℕ}
-use Rattle.state.specs.Whole.{Arrays, arrays}
-use Rattle.portions.specs.declared.Engine.{Engine}
-
-abbrev pub whole : Engine → List ℕ → List ℕ → Arrays
-whole e work store = arrays (e .up) (e .parent) (e .depth) (e .line) (e .held) (e .retained) (e .writers) work store

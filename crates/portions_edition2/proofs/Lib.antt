@@ -1,1 +1,0 @@
--- The arguments of this crate stand beside its functions; those about portions in crate `state`.

@@ -1,0 +1,46 @@
+-- The law that the clauses together are the encoding of a sound state.
+use mathlib.Core.Path.{subst}
+use mathlib.Core.Bool.{Bool}
+use Prim.Native.Nat.{ℕ}
+use borrow.Author.Needs.{needs}
+use Rattle.rules.specs.Editions.{geometryOf}
+use Rattle.event_crash.proofs.Editions.{served-of}
+use Rattle.sound_clause.specs.Decides.{Decides}
+use Rattle.sound_clause.specs.Clauses.{Locks}
+use Rattle.sound_state.proofs.Whole.{whole-decided}
+use Rattle.sound_state.proofs.is_sound.Statement.{statement}
+use Rattle.sound_state.proofs.is_sound.Tie as tie
+
+is-tree-requires : tie.Need-is-tree-requires
+is-tree-requires c κs = search needs
+
+live-set-requires : tie.Need-live-set-requires
+live-set-requires c κs = search needs
+
+are-locks-requires : tie.Need-are-locks-requires
+are-locks-requires c κs = search needs
+
+are-shares-requires : tie.Need-are-shares-requires
+are-shares-requires c κs = search needs
+
+is-phase-requires : tie.Need-is-phase-requires
+is-phase-requires c κs = search needs
+
+returns : tie.Need-returns
+returns c = λ edition work N long. let a = c .before .before .before .before .before .before .args in
+    let S = served-of edition in
+    whole-decided (a .tears) (geometryOf edition) (N .many) (record { few = S .few; deep = S .deep }) (a .up) (a .parent .now) (a .depth .now) (a .line .now) (a .held .now) (a .retained .now) (a .writers .now) work (a .store .now) (c .before .before .before .before .before .before .pre) long
+    (c .before .before .before .before .is-tree .ensures)
+    (subst (λ (f : ℕ → Bool). Decides (c .before .before .are-locks .result) (Locks f (a .held .now) (a .retained .now) (a .writers .now))) (c .before .before .before .live-set .ensures) (c .before .before .are-locks .ensures))
+    (c .before .are-shares .ensures) (c .is-phase .ensures edition (a .depth .now) N (c .before .before .before .live-set .ensures))
+
+pub is-sound-spec : {M : Type 1} → statement M
+is-sound-spec =
+    tie.close
+    (tie.spec
+    is-tree-requires
+    live-set-requires
+    are-locks-requires
+    are-shares-requires
+    is-phase-requires
+    returns)
