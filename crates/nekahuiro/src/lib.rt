@@ -54,6 +54,14 @@ pub extern "C" fn nekahuiro_age(
     store_record::tell(store, TEARS, RECORDS, JOINT, number, clock, limit, age)
 }
 
+// A run with this edition's numbers. A function of its own, so that the compiler comes to the check of a lent state before it comes to the loop over a list: docs/DECISIONS.md.
+fn run_of(store: &mut [u8], events: &[u8], work: &mut [u8], answers: &mut [u8]) -> u8
+    ensures { λ r.
+        ⌜ Ran edition1 (now (store .entry)) (now (events .entry)) (now (work .entry)) (now (answers .entry)) r (now (store .exit)) (now (work .exit)) (now (answers .exit)) ⌝ }
+{
+    open_lent::run_of(store, events, work, answers, JOINT, TEARS)
+}
+
 // Runs a list of events on a store, with an answer of two bytes for each. 0, or a refusal's number: 22, 24, 20 or 21, in this order, and then
 // touches no buffer. Of a run that is played demand 3 holds, and that it can be played one transaction at a time: both speak of `run edition1`,
 // which is what this function leaves.
@@ -68,7 +76,7 @@ pub extern "C" fn nekahuiro_run(
     ensures { λ r. ⌜ (r ≡ 0 → Demand-3 edition1 (now (store .entry)) (now (events .entry)) (now (work .entry)) (now (answers .entry))) ⌝ }
     ensures { λ r. ⌜ (r ≡ 0 → One-run-at-a-time edition1 (now (store .entry)) (now (events .entry)) (now (work .entry)) (now (answers .entry))) ⌝ }
 {
-    open_lent::run_of(store, events, work, answers, JOINT, TEARS)
+    run_of(store, events, work, answers)
 }
 
 // A portion by value, with this edition's numbers.

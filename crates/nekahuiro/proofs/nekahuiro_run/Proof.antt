@@ -1,12 +1,11 @@
--- The run of this form, with what holds of it where it is played.
+-- What holds of a run where it is played.
 use borrow.Author.Needs.{needs}
-use Rattle.open_lent.proofs.Portions.{first-in}
 use Rattle.nekahuiro.proofs.Running.{signed}
 use Rattle.nekahuiro.proofs.nekahuiro_run.Statement.{statement}
 use Rattle.nekahuiro.proofs.nekahuiro_run.Tie as tie
 
 run-of-requires : tie.Need-run-of-requires
-run-of-requires c κs = first-in
+run-of-requires c κs = search needs
 
 same-length : tie.Need-same-length
 same-length c = search needs

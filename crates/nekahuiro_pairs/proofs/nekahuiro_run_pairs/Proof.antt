@@ -1,12 +1,11 @@
--- The run of this form, with what holds of it where it is played.
+-- What holds of a run where it is played.
 use borrow.Author.Needs.{needs}
-use Rattle.open_lent.proofs.Portions.{paired-in}
 use Rattle.nekahuiro_pairs.proofs.Running.{signed}
 use Rattle.nekahuiro_pairs.proofs.nekahuiro_run_pairs.Statement.{statement}
 use Rattle.nekahuiro_pairs.proofs.nekahuiro_run_pairs.Tie as tie
 
 run-of-requires : tie.Need-run-of-requires
-run-of-requires c κs = paired-in
+run-of-requires c κs = search needs
 
 same-length : tie.Need-same-length
 same-length c = search needs
