@@ -1,1 +1,1 @@
-// The promise of a run, refused or played, in any form with atomic pages, and its laws. No code.
+// The promise of a run, refused or played, in any form, and its laws. No code.
