@@ -1,5 +1,5 @@
 # The script ./nekahuiro: it builds only what has to be built, and says so. Prover and cargo are played by two scripts.
-mkdir -p tools tree/crates/laws tree/rust/{cli,history,lists,nekahuiro,player}; cp "$run" tree/
+mkdir -p tools tree/crates/laws tree/rust/{cli,history,lists,nekahuiro,player,tuned}; cp "$run" tree/
 for tool in bash dirname readlink find awk tee grep head tail mkdir touch cat chmod sleep uname; do ln -s "$(command -v $tool)" tools/; done
 text 'laws:\nrules: laws\nnekahuiro: laws rules\nexample_worked: nekahuiro io\nnekahuiro_edition2: rules\nnekahuiro_pairs: rules\n' tree/crates.txt
 touch tree/rust/Cargo.{toml,lock}
