@@ -28,7 +28,7 @@ fn home_at(records: usize, tears: bool, r: RecordNumber) -> usize
     requires { ⌜ (recordOf r < records) × (records ≤ 64) ⌝ }
     ensures { λ at. ⌜ (at ≡ placeOf tears (1 + (records + recordOf r))) × (at + 32 ≤ strideOf tears * (1 + (records + records))) ⌝ }
 {
-    store_write::place(tears, 1 + records + r.index())
+    store_write::place(tears, 1 + records, r.index())
 }
 
 // An event at a record, of a live transaction without a live child: the tree of transactions stays as it is.

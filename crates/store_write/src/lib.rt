@@ -63,15 +63,15 @@ pub fn get_page(store: &[u8], tears: bool, n: usize) -> [u8; 32]
     leaf_page::get_page(store, n)
 }
 
-// The byte at which page n begins, while every pair is good and alike.
-pub fn place(tears: bool, n: usize) -> usize
-    requires { ⌜ n < 4096 ⌝ }
-    ensures { λ r. ⌜ r ≡ placeOf tears n ⌝ }
+// The byte at which page first + n begins, while every pair is good and alike. Each is multiplied by itself: where `first` is a constant, so is its product.
+pub fn place(tears: bool, first: usize, n: usize) -> usize
+    requires { ⌜ (first < 4096) × (n < 4096) ⌝ }
+    ensures { λ r. ⌜ r ≡ placeOf tears (first + n) ⌝ }
 {
     if tears {
-        return 66 * n + 1;
+        return 66 * first + 66 * n + 1;
     }
-    32 * n
+    32 * first + 32 * n
 }
 
 // Whether any of the first n pages has no good copy.

@@ -15,9 +15,6 @@ add-place c = search needs
 index-requires : tie.Need-index-requires
 index-requires c κs = search needs
 
-add-place-2 : tie.Need-add-place-2
-add-place-2 c = search needs
-
 place-requires : tie.Need-place-requires
 place-requires c κs = search needs
 
@@ -30,11 +27,4 @@ returns c =
     (p, subst⁻¹ (λ (m : ℕ). m + 32 ≤ strideOf (a .tears) * (1 + (a .records + a .records))) p (place-within (a .tears) (a .records) (recordOf (a .r)) (c .before .before .pre .0)))
 
 pub home-at-spec : {M : Type 1} → statement M
-home-at-spec =
-    tie.close
-    (tie.spec
-    add-place
-    index-requires
-    add-place-2
-    place-requires
-    returns)
+home-at-spec = tie.close (tie.spec add-place index-requires place-requires returns)
