@@ -18,10 +18,10 @@ use Rattle.rules.proofs.Editions.{proper1, proper2}
 use Rattle.rules.proofs.Medium.{MediumLaws}
 use Rattle.rules.proofs.AtomicPages.{atomic-laws}
 use Rattle.rules.proofs.Soundness.{Reached, reached-start, reached-play}
-use Rattle.history.specs.History.{survives, overlaid}
-use Rattle.history.specs.Demand3.{Along, SameEvent, SameAnswer, settledIn, startOf}
-use Rattle.history.specs.Claims.{seenBy, isRestart, restarts, stateAfter, historyAfter, Commit-survives}
-use Rattle.history.proofs.Demand3.{list-runs}
+use Rattle.history.specs.History.{overlaid}
+use Rattle.history.specs.Demand3.{Surviving-overlay, Independent-of-lost-writes, settledIn, startOf}
+use Rattle.history.specs.Claims.{seenBy, isRestart, restarts, stateAfter, Commit-survives}
+use Rattle.history.proofs.Demand3.{independent-as, words-independent}
 use Rattle.history.proofs.Claims.{rows-played, reads-overlay, commit-survives}
 use Rattle.claim_device.specs.Plan.{lesser, countOf, withCount}
 use Rattle.claim_device.specs.Device.{Happening, plays, fails, loses, restarted, deviceAfter, cutWord, standsFor, listOf, historyOf, rowsOf, isRestarting, restarting, Device-holds}
@@ -95,7 +95,7 @@ module _ (g : Geometry) (proper : Proper g) (store : List ℕ) (sized : length s
     pub sound-memory : Sound (atomic g) (deviceAfter g store hs .memory)
     sound-memory = rw (follow .memory) (reached .sound)
 
-    settled-is : (r : ℕ) → let h = historyOf g store hs in settled g (deviceAfter g store hs .medium) r ≡ overlaid (survives h) r (h .writes) (settled g (pagesOf store) r)
+    settled-is : Surviving-overlay (settled g (pagesOf store)) (historyOf g store hs) (settled g (deviceAfter g store hs .medium))
     unfolding historyOf settledIn
     settled-is r = ap (λ (m : Pages). settled g m r) medium-is ∙ reads-overlay (atomic g) laws store (listOf g hs) sized .settles r
 
@@ -112,15 +112,14 @@ module _ (g : Geometry) (proper : Proper g) (store : List ℕ) (sized : length s
       ∙ commit-survives (atomic g) laws store (listOf g hs) (listOf g more) sized (list-restarts g more e) r
       ∙ sym (settled-is hs r)
 
-  two-is : (hs hs′ : List Happening) → let final = survives (historyOf g store hs) in
-      Along g (SameEvent g final) (startOf (atomic g) store) (rowsOf g store hs) (rowsOf g store hs′)
-      → Along g (SameAnswer g final) (startOf (atomic g) store) (rowsOf g store hs) (rowsOf g store hs′)
-      × ((r : ℕ) → settled g (deviceAfter g store hs′ .medium) r ≡ settled g (deviceAfter g store hs .medium) r)
-  unfolding historyOf historyAfter rowsOf stateAfter
-  two-is hs hs′ E =
-      let T = list-runs (atomic g) laws store (listOf g hs) (listOf g hs′) (reached-start (atomic g) laws store sized)
-      (rows-played (atomic g) (down (pagesOf store)) (listOf g hs)) (rows-played (atomic g) (down (pagesOf store)) (listOf g hs′)) E in
-      (T .0, λ r. ap (λ (m : Pages). settled g m r) (medium-is hs′) ∙ T .1 r ∙ sym (ap (λ (m : Pages). settled g m r) (medium-is hs)))
+  two-is : (hs hs′ : List Happening) → Independent-of-lost-writes g (startOf (atomic g) store)
+      (rowsOf g store hs) (settled g (deviceAfter g store hs .medium))
+      (rowsOf g store hs′) (settled g (deviceAfter g store hs′ .medium))
+  unfolding rowsOf stateAfter
+  two-is hs hs′ = independent-as g (startOf (atomic g) store)
+      (rows-played (atomic g) (down (pagesOf store)) (listOf g hs)) (λ r. ap (λ (m : Pages). settled g m r) (medium-is hs))
+      (rows-played (atomic g) (down (pagesOf store)) (listOf g hs′)) (λ r. ap (λ (m : Pages). settled g m r) (medium-is hs′))
+      (words-independent (atomic g) laws store (listOf g hs) (listOf g hs′) (reached-start (atomic g) laws store sized))
 
   -- THE DEVICE: whatever happens to it
   pub device-holds : (hs : List Happening) → Device-holds g store hs

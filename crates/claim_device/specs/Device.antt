@@ -16,8 +16,8 @@ use Rattle.rules.specs.Versions.{else}
 use Rattle.rules.specs.Form.{atomic}
 use Rattle.rules.specs.Step.{done, StateOf, visible, step}
 use Rattle.rules.specs.Run.{answerBytes, play}
-use Rattle.history.specs.History.{History, survives, overlaid}
-use Rattle.history.specs.Demand3.{Row, rows, Along, SameEvent, SameAnswer, startOf}
+use Rattle.history.specs.History.{History, overlaid}
+use Rattle.history.specs.Demand3.{Row, rows, Surviving-overlay, Independent-of-lost-writes, startOf}
 use Rattle.history.specs.Claims.{seenBy, isRestart, stateAfter, historyAfter}
 use Rattle.claim_device.specs.Plan.{carried, lesser, countOf, withCount, dueOf}
 
@@ -97,8 +97,7 @@ module _ (g : Geometry) where
     -- The memory is the state that the rules' run over the list leaves.
     pub follows : deviceAfter store hs .memory ≡ stateAfter (atomic g) store (listOf hs)
     -- Demand 3, first half: the medium's settled records are the start's, overlaid with the writes of the transactions that survive.
-    pub settles : (r : ℕ) → let h = historyOf store hs in
-        settled g (deviceAfter store hs .medium) r ≡ overlaid (survives h) r (h .writes) (settled g (pagesOf store) r)
+    pub settles : Surviving-overlay (settled g (pagesOf store)) (historyOf store hs) (settled g (deviceAfter store hs .medium))
     -- The central law: what a live transaction would read.
     pub reads : (t r : ℕ) → live (deviceAfter store hs .memory) t ≡ true → let h = historyOf store hs in
         visible (atomic g) (deviceAfter store hs .memory) t r ≡ overlaid (seenBy h t) r (h .writes) (settled g (pagesOf store) r)
@@ -107,10 +106,9 @@ module _ (g : Geometry) where
         settled g (deviceAfter store (hs ++ more) .medium) r ≡ settled g (deviceAfter store hs .medium) r
     -- Demand 3, second half: another device over the same bytes, to which the same happens but for the values in accepted writes of transactions
     -- that are lost on this one, has the same answers and the same settled records on its medium.
-    pub two-devices : (hs′ : List Happening) → let final = survives (historyOf store hs) in
-        Along g (SameEvent g final) (startOf (atomic g) store) (rowsOf store hs) (rowsOf store hs′)
-        → Along g (SameAnswer g final) (startOf (atomic g) store) (rowsOf store hs) (rowsOf store hs′)
-        × ((r : ℕ) → settled g (deviceAfter store hs′ .medium) r ≡ settled g (deviceAfter store hs .medium) r)
+    pub two-devices : (hs′ : List Happening) → Independent-of-lost-writes g (startOf (atomic g) store)
+        (rowsOf store hs) (settled g (deviceAfter store hs .medium))
+        (rowsOf store hs′) (settled g (deviceAfter store hs′ .medium))
 
   -- OF EVERY COMMIT on a device, by the word of a commit event of t, through any power cuts and recoveries after it.
   pub record Commit-holds (store : List ℕ) (hs : List Happening) (w t : ℕ) : Type 0 where

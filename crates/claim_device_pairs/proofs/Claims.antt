@@ -18,8 +18,8 @@ use Rattle.rules.proofs.Medium.{MediumLaws}
 use Rattle.rules.proofs.Event.{decode-encode}
 use Rattle.rules.proofs.PairedPages.{paired-laws}
 use Rattle.rules.proofs.PairsKept.{one-bad-kept}
-use Rattle.history.specs.History.{survives, overlaid}
-use Rattle.history.specs.Demand3.{settledIn}
+use Rattle.history.specs.History.{overlaid}
+use Rattle.history.specs.Demand3.{Surviving-overlay, settledIn}
 use Rattle.history.specs.Claims.{seenBy, isRestart, restarts, stateAfter, Commit-survives}
 use Rattle.history.proofs.Claims.{reads-overlay, commit-survives}
 use Rattle.claim_device_pairs.specs.Copies.{behind, within}
@@ -103,8 +103,7 @@ module _ (g : Geometry) (proper : Proper g) (torn : g .tears ≡ true) (store : 
     medium-is : deviceAfter g store hs .medium ≡ stateAfter (inPairs g) store (wordsOf g hs) .store
     medium-is = follow .medium ∙ ap (λ s. s .store) (follow .memory)
 
-    settled-is : (r : ℕ) → let h = historyOf g store hs in
-        settled g (shown (deviceAfter g store hs .medium)) r ≡ overlaid (survives h) r (h .writes) (settled g (shown (pairsOf store)) r)
+    settled-is : Surviving-overlay (settled g (shown (pairsOf store))) (historyOf g store hs) (settled g (shown (deviceAfter g store hs .medium)))
     unfolding historyOf settledIn
     settled-is r = ap (λ (m : Pairs). settled g (shown m) r) medium-is ∙ reads-overlay (inPairs g) laws store (wordsOf g hs) sized .settles r
 
@@ -139,9 +138,10 @@ module _ (g : Geometry) (proper : Proper g) (torn : g .tears ≡ true) (store : 
           ∙ survives-words more back r
           ∙ sym (settled-is hs fit r)
         where
-          survives-words : (more : List Happening) → restarts g (wordsOf g more) ≡ true → (r : ℕ) → let h = historyOf g store hs in
-              settled g (shown (stateAfter (inPairs g) store (wordsOf g hs ++ wordsOf g more) .store)) r ≡ overlaid (survives h) r (h .writes) (settled g (shown (pairsOf store)) r)
-          survives-words more back r = unfold historyOf settledIn Commit-survives in commit-survives (inPairs g) laws store (wordsOf g hs) (wordsOf g more) sized back r
+          survives-words : (more : List Happening) → restarts g (wordsOf g more) ≡ true
+              → Surviving-overlay (settled g (shown (pairsOf store))) (historyOf g store hs)
+              (settled g (shown (stateAfter (inPairs g) store (wordsOf g hs ++ wordsOf g more) .store)))
+          survives-words more back = unfold historyOf settledIn Commit-survives in commit-survives (inPairs g) laws store (wordsOf g hs) (wordsOf g more) sized back
 
 -- of the form of document 02, L5
 pub torn-device-pairs : (store : List ℕ) → length store ≡ 2178 → (hs : List Happening) → allFit geometryPairs (listOf geometryPairs hs) ≡ true → Torn-device-holds geometryPairs store hs

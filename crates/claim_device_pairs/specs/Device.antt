@@ -12,7 +12,8 @@ use Rattle.rules.specs.Event.{Event, begin, lock, write, read, commit, abort, c
 use Rattle.rules.specs.State.{live, down}
 use Rattle.rules.specs.Pairs.{Pairs, shown, mended, OneBadAtMost, pairsOf, inPairs}
 use Rattle.rules.specs.Step.{StateOf, visible, refusal, step}
-use Rattle.history.specs.History.{History, survives, overlaid}
+use Rattle.history.specs.History.{History, overlaid}
+use Rattle.history.specs.Demand3.{Surviving-overlay}
 use Rattle.history.specs.Claims.{seenBy, isRestart, stateAfter, historyAfter}
 use Rattle.claim_device.specs.Plan.{planOf}
 use Rattle.claim_device.specs.CopyWrites.{copiesOf}
@@ -140,8 +141,7 @@ module _ (g : Geometry) where
     -- The memory is the state that the rules' run over the list leaves.
     pub follows : deviceAfter store hs .memory ≡ stateAfter (inPairs g) store (wordsOf hs)
     -- Demand 3, first half: the records that the pairs show are the start's, overlaid with the writes of the transactions that survive.
-    pub settles : (r : ℕ) → let h = historyOf store hs in
-        settled g (shown (deviceAfter store hs .medium)) r ≡ overlaid (survives h) r (h .writes) (settled g (shown (pairsOf store)) r)
+    pub settles : Surviving-overlay (settled g (shown (pairsOf store))) (historyOf store hs) (settled g (shown (deviceAfter store hs .medium)))
     -- The central law: what a live transaction would read.
     pub reads : (t r : ℕ) → live (deviceAfter store hs .memory) t ≡ true → let h = historyOf store hs in
         visible (inPairs g) (deviceAfter store hs .memory) t r ≡ overlaid (seenBy h t) r (h .writes) (settled g (shown (pairsOf store)) r)

@@ -3,7 +3,6 @@ use mathlib.Core.Path.{_≡_, sym, ap, ap₂, subst, subst⁻¹, _∙_}
 use mathlib.Core.Bool.{Bool, true}
 use mathlib.Core.List.{List, [], _∷_}
 use Prim.Native.Nat.{ℕ}
-use Rattle.rules.specs.Geometry.{Geometry}
 use Rattle.rules.specs.Form.{Form}
 use Rattle.rules.specs.Step.{StateOf}
 use Rattle.rules.specs.Portion.{Chain, chain, chainFrom}
@@ -11,17 +10,12 @@ use Rattle.rules.specs.Calls.{Call, lents, left, AllPromised}
 use Rattle.rules.proofs.Medium.{MediumLaws}
 use Rattle.rules.proofs.Portions.{Carried, carried-start}
 use Rattle.rules.proofs.Calls.{AsChain, calls-chain}
-use Rattle.history.specs.History.{History, survives, overlaid}
-use Rattle.history.specs.Demand3.{Row, rows, history, Along, SameEvent, SameAnswer, settledIn, startOf}
+use Rattle.history.specs.Demand3.{rows, history, settledIn, startOf}
 use Rattle.history.specs.Claims.{restarts, stateAfter, historyAfter, Reads-overlay}
 use Rattle.history.specs.Joined.{rowsJoined, historyJoined, Commit-survives-joined, Demand-3-joined-holds}
 use Rattle.history.specs.Called.{rowsCalled, historyCalled, Starts, Demand-3-called-holds, Reads-called, Commit-survives-called}
+use Rattle.history.proofs.Demand3.{overlay-as, independent-as}
 use Rattle.history.proofs.Joined.{carried-joined, reads-joined, commit-survives-joined, demand-3-joined}
-
--- of two lists of rows: like events have like answers, and then Z
-abbrev TwoRows : Geometry → History → List Row → List Row → Type 0 → Type 0
-TwoRows g h a b Z = let final = survives (history g h a) in
-    Along g (SameEvent g final) h a b → Along g (SameAnswer g final) h a b × Z
 
 module _ (f : Form) (M : MediumLaws (f .geometry) (f .medium)) {X : Type 0} (view : X → StateOf f) (bytes : X → List ℕ) (proper : X → Type 0) where
   abbrev found : StateOf f → Bool
@@ -73,37 +67,24 @@ module _ (f : Form) (M : MediumLaws (f .geometry) (f .medium)) {X : Type 0} (vie
     -- crashes and recoveries in more calls
     pub commit-survives-called : Commit-survives-called f view bytes proper x cs
     unfolding Commit-survives-called Commit-survives-joined
-    commit-survives-called ds Q e r =
+    commit-survives-called ds Q e =
         let D = more-chain ds Q in
-        let d = chain f found (k .state) (k .store) (lents ds) in
-        ap (λ (bs : List ℕ). settledIn f bs r) (D .same-store)
-        ∙ subst⁻¹ (λ (h : History). settledIn f (d .store) r ≡ overlaid (survives h) r (h .writes) (settledIn f (bytes x) r)) history-called
-        (commit-survives-joined f M found (bytes x) (S .sized) (lents cs) (lents ds) (subst (λ (ws : List ℕ). restarts (f .geometry) ws ≡ true) (D .same-joined) e) r)
+        let back = subst (λ (ws : List ℕ). restarts (f .geometry) ws ≡ true) (D .same-joined) e in
+        overlay-as (settledIn f (bytes x)) history-called (λ r. ap (λ (bs : List ℕ). settledIn f bs r) (D .same-store))
+        (commit-survives-joined f M found (bytes x) (S .sized) (lents cs) (lents ds) back)
 
     pub settled-called : (r : ℕ) → settledIn f (bytes (left x cs)) r ≡ settledIn f (chainFrom f found (bytes x) (lents cs) .store) r
     settled-called r = ap (λ (bs : List ℕ). settledIn f bs r) (as-chain .same-store)
 
   -- DEMAND 3, of the calls
   pub demand-3-called : Demand-3-called-holds f view bytes proper
-  unfolding Demand-3-called-holds Demand-3-joined-holds historyCalled historyJoined
-  demand-3-called x cs S P = record { surviving-writes = first; two-chains = second }
-    where
-      first : (r : ℕ) → let h = historyCalled f (bytes x) cs in settledIn f (bytes (left x cs)) r ≡ overlaid (survives h) r (h .writes) (settledIn f (bytes x) r)
-      first r =
-          settled-called x cs S P r
-          ∙ subst⁻¹ (λ (a : List Row). let h = history (f .geometry) (startOf f (bytes x)) a in
-          settledIn f (chainFrom f found (bytes x) (lents cs) .store) r ≡ overlaid (survives h) r (h .writes) (settledIn f (bytes x) r))
-          (rows-called x cs S P) (demand-3-joined f M found (bytes x) (lents cs) (S .sized) .surviving-writes r)
-
-      second : (y : X) (ds : List (Call X)) → Starts f view bytes proper y → bytes y ≡ bytes x → AllPromised f view bytes proper y ds
-          → let final = survives (historyCalled f (bytes x) cs) in
-          Along (f .geometry) (SameEvent (f .geometry) final) (startOf f (bytes x)) (rowsCalled f cs) (rowsCalled f ds)
-          → Along (f .geometry) (SameAnswer (f .geometry) final) (startOf f (bytes x)) (rowsCalled f cs) (rowsCalled f ds)
-          × ((r : ℕ) → settledIn f (bytes (left y ds)) r ≡ settledIn f (bytes (left x cs)) r)
-      second y ds T e Q E =
-          let a = rows-called x cs S P in
-          let b : rowsCalled f ds ≡ rowsJoined f found (bytes x) (lents ds) = rows-called y ds T Q ∙ ap (λ (bs : List ℕ). rowsJoined f found bs (lents ds)) e in
-          let Z : Type 0 = (r : ℕ) → settledIn f (chainFrom f found (bytes x) (lents ds) .store) r ≡ settledIn f (chainFrom f found (bytes x) (lents cs) .store) r in
-          let R = subst⁻¹ (λ (a′ : List Row). TwoRows (f .geometry) (startOf f (bytes x)) a′ (rowsCalled f ds) Z) a
-          (subst⁻¹ (λ (b′ : List Row). TwoRows (f .geometry) (startOf f (bytes x)) (rowsJoined f found (bytes x) (lents cs)) b′ Z) b (demand-3-joined f M found (bytes x) (lents cs) (S .sized) .two-chains (lents ds))) E in
-          (R .0, λ r. settled-called y ds T Q r ∙ ap (λ (bs : List ℕ). settledIn f (chainFrom f found bs (lents ds) .store) r) e ∙ R .1 r ∙ sym (settled-called x cs S P r))
+  unfolding Demand-3-called-holds Demand-3-joined-holds
+  demand-3-called x cs S P =
+      let D = demand-3-joined f M found (bytes x) (lents cs) (S .sized) in
+      record {
+        surviving-writes = overlay-as (settledIn f (bytes x)) (history-called x cs S P) (settled-called x cs S P) (D .surviving-writes);
+        two-chains = λ y ds T e Q. independent-as (f .geometry) (startOf f (bytes x)) (rows-called x cs S P) (settled-called x cs S P)
+            (rows-called y ds T Q ∙ ap (λ (bs : List ℕ). rowsJoined f found bs (lents ds)) e)
+            (λ r. settled-called y ds T Q r ∙ ap (λ (bs : List ℕ). settledIn f (chainFrom f found bs (lents ds) .store) r) e)
+            (D .two-chains (lents ds));
+      }

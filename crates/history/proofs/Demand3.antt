@@ -1,6 +1,6 @@
 -- Demand 3 of every run that is played: from its bytes to lists of words, and back.
-use mathlib.Core.Path.{_≡_, refl, sym, ap, subst, subst⁻¹, _∙_}
-use mathlib.Core.Bool.{Bool, not, false≢true}
+use mathlib.Core.Path.{_≡_, refl, sym, ap, _∙_}
+use mathlib.Core.Bool.{not, false≢true}
 use mathlib.Core.List.{List}
 use mathlib.Core.Logic.{_≢_}
 use mathlib.Core.Option.{Option, none, some}
@@ -11,6 +11,7 @@ use Rattle.laws.specs.Tests.{same}
 use Rattle.laws.proofs.Tests.{same-eq}
 use Rattle.laws.proofs.Booleans.{not-false}
 use Rattle.rules.specs.Geometry.{Geometry, records}
+use Rattle.rules.specs.Store.{Page}
 use Rattle.rules.specs.State.{down}
 use Rattle.rules.specs.Form.{Form}
 use Rattle.rules.specs.Step.{StateOf, firstOf}
@@ -22,12 +23,22 @@ use Rattle.rules.proofs.AtomicPages.{atomic-laws}
 use Rattle.rules.proofs.Acceptance.{pass}
 use Rattle.rules.proofs.Portions.{first-lacks}
 use Rattle.rules.proofs.Soundness.{Reached, reached-start, reached-play}
-use Rattle.history.specs.History.{History, nothingYet, survives, overlaid}
-use Rattle.history.specs.Demand3.{Row, history, Along, SameEvent, SameAnswer, settledIn, startOf, Plays, rowsOf, historyOf, Demand-3-holds}
-use Rattle.history.proofs.Invariant.{now, After}
-use Rattle.history.proofs.Runs.{rowsFrom, rows-are, future, run-after, settled-is}
-use Rattle.history.proofs.Starts.{startRoot, start-holds, plain-start}
+use Rattle.history.specs.History.{History, nothingYet, survives}
+use Rattle.history.specs.Demand3.{Row, history, Surviving-overlay, Independent-of-lost-writes, settledIn, startOf, Plays, rowsOf, historyOf, Demand-3-holds}
+use Rattle.history.proofs.Invariant.{now}
+use Rattle.history.proofs.Runs.{rowsFrom, rows-are, run-after, settled-is}
+use Rattle.history.proofs.Starts.{start-holds, plain-start}
 use Rattle.history.proofs.TwoRuns.{twice}
+
+-- both clauses carry over to equal histories, rows and records
+pub overlay-as : (start : ℕ → Page) {end end₁ : ℕ → Page} {h h₁ : History}
+    → h ≡ h₁ → ((r : ℕ) → end r ≡ end₁ r) → Surviving-overlay start h₁ end₁ → Surviving-overlay start h end
+overlay-as start p e O r = rw p (e r ∙ O r)
+
+pub independent-as : (g : Geometry) (h : History) {xs xs₁ ys ys₁ : List Row} {end end₁ end′ end₁′ : ℕ → Page}
+    → xs ≡ xs₁ → ((r : ℕ) → end r ≡ end₁ r) → ys ≡ ys₁ → ((r : ℕ) → end′ r ≡ end₁′ r)
+    → Independent-of-lost-writes g h xs₁ end₁ ys₁ end₁′ → Independent-of-lost-writes g h xs end ys end′
+independent-as g h p e q e′ I = rw (p, q) (λ E. (I E .0, λ r. e′ r ∙ I E .1 r ∙ sym (e r)))
 
 module _ (f : Form) where
   -- no run is refused with 0
@@ -88,57 +99,36 @@ module _ (f : Form) (M : MediumLaws (f .geometry) (f .medium)) where
     settled-at-end r = rw (plays-all f store events work answers P .0)
         (ap (λ (s : f .medium .Store). f .medium .settled s r) (M .from-to _ (reached-play f M (start store) reached (wordsOf events) .shaped)))
 
-    ran : After f (f .medium .settled (f .medium .fromBytes store)) (play f (start store) (wordsOf events) .state) (startOf f store) (history g (startOf f store) (rowsFrom f (start store) (wordsOf events))) (startRoot (records g) (f .medium .pending (f .medium .fromBytes store))) (future f (start store) (wordsOf events))
-    unfolding startOf
-    ran = run-after f M (wordsOf events) reached (start-holds f M (f .medium .fromBytes store))
+  -- THE FIRST CLAUSE, of a list of words
+  words-overlay : (store ws : List ℕ) → Reached f M (start store)
+      → Surviving-overlay (settledIn f store) (history g (startOf f store) (rowsFrom f (start store) ws)) (now f (play f (start store) ws .state))
+  unfolding startOf settledIn
+  words-overlay store ws R = settled-is f M (play f (start store) ws .state) (run-after f M ws R (start-holds f M (f .medium .fromBytes store)) .tells)
 
-  -- two lists of words from one start
-  words-twice : (final : ℕ → Bool) (store ws us : List ℕ) → Reached f M (start store) → ((i : ℕ) → final i ≡ survives (history g (startOf f store) (rowsFrom f (start store) ws)) i)
-      → Along g (SameEvent g final) (startOf f store) (rowsFrom f (start store) ws) (rowsFrom f (start store) us)
-      → Along g (SameAnswer g final) (startOf f store) (rowsFrom f (start store) ws) (rowsFrom f (start store) us) × M .Agree (play f (start store) ws .state .store) (play f (start store) us .state .store)
+  -- THE SECOND CLAUSE, of two lists of words from one start
+  pub words-independent : (store ws us : List ℕ) → Reached f M (start store)
+      → Independent-of-lost-writes g (startOf f store)
+      (rowsFrom f (start store) ws) (now f (play f (start store) ws .state))
+      (rowsFrom f (start store) us) (now f (play f (start store) us .state))
   unfolding down startOf
-  words-twice final store ws us R K E =
+  words-independent store ws us R E =
       let d = f .medium .fromBytes store in
-      twice f M final R (start-holds f M d) (λ j r. none) d ws us K (record { shape = λ j r. refl; alike = λ j r e. refl; stores = M .agree-refl d; calm = λ u. absurd (false≢true u); waits = λ z r. refl }) E
-
-  -- the same, of any rows that are theirs: of a whole run, and of portions
-  pub list-runs : (store ws us : List ℕ) → Reached f M (start store) → {a b : List Row} → a ≡ rowsFrom f (start store) ws → b ≡ rowsFrom f (start store) us
-      → let final = survives (history g (startOf f store) a) in Along g (SameEvent g final) (startOf f store) a b
-      → Along g (SameAnswer g final) (startOf f store) a b × ((r : ℕ) → now f (play f (start store) us .state) r ≡ now f (play f (start store) ws .state) r)
-  list-runs store ws us R {a} {b} p q E =
-      let final = survives (history g (startOf f store) a) in
-      let T = words-twice final store ws us R (λ i. ap (λ (x : List Row). survives (history g (startOf f store) x) i) p)
-      (subst (λ (y : List Row). Along g (SameEvent g final) (startOf f store) (rowsFrom f (start store) ws) y) q (subst (λ (x : List Row). Along g (SameEvent g final) (startOf f store) x b) p E)) in (
-        subst⁻¹ (λ (x : List Row). Along g (SameAnswer g final) (startOf f store) x b) p
-            (subst⁻¹ (λ (y : List Row). Along g (SameAnswer g final) (startOf f store) (rowsFrom f (start store) ws) y) q (T .0)),
-        λ r. M .agree-settled _ _ (T .1) r,
-      )
+      let T = twice f M (survives (history g (startOf f store) (rowsFrom f (start store) ws))) R (start-holds f M d) (λ j r. none) d ws us (λ i. refl)
+      (record { shape = λ j r. refl; alike = λ j r e. refl; stores = M .agree-refl d; calm = λ u. absurd (false≢true u); waits = λ z r. refl }) E in
+      (T .0, λ r. M .agree-settled _ _ (T .1) r)
 
   -- DEMAND 3
   pub demand-3 : Demand-3-holds f
-  unfolding Demand-3-holds settledIn historyOf
-  demand-3 store events work answers P = record {
-    surviving-writes = first;
-    two-runs = second;
-  }
-    where
-      first : (r : ℕ) → let h = historyOf f store events work answers in
-          settledIn f (run f store events work answers .store) r ≡ overlaid (survives h) r (h .writes) (settledIn f store r)
-      first r =
-          settled-at-end store events work answers P r
-          ∙ subst⁻¹ (λ (h : History). now f (play f (start store) (wordsOf events) .state) r ≡ overlaid (survives h) r (h .writes) (settledIn f store r)) (history-of store events work answers P)
-          (settled-is f M (play f (start store) (wordsOf events) .state) (ran store events work answers P .tells) r)
-
-      second : (events′ work′ answers′ : List ℕ) → Plays f store events′ work′ answers′
-          → let final = survives (historyOf f store events work answers) in
-          let a = rowsOf f store events work answers in
-          let b = rowsOf f store events′ work′ answers′ in
-          Along g (SameEvent g final) (startOf f store) a b
-          → Along g (SameAnswer g final) (startOf f store) a b
-          × ((r : ℕ) → settledIn f (run f store events′ work′ answers′ .store) r ≡ settledIn f (run f store events work answers .store) r)
-      second events′ work′ answers′ P′ E =
-          let T = list-runs store (wordsOf events) (wordsOf events′) (reached store events work answers P) (rows-of store events work answers P) (rows-of store events′ work′ answers′ P′) E in
-          (T .0, λ r. settled-at-end store events′ work′ answers′ P′ r ∙ T .1 r ∙ sym (settled-at-end store events work answers P r))
+  unfolding Demand-3-holds
+  demand-3 store events work answers P =
+      let R = reached store events work answers P in
+      let end = settled-at-end store events work answers P in
+      record {
+        surviving-writes = overlay-as (settledIn f store) (history-of store events work answers P) end (words-overlay store (wordsOf events) R);
+        two-runs = λ events′ work′ answers′ P′. independent-as g (startOf f store) (rows-of store events work answers P) end
+            (rows-of store events′ work′ answers′ P′) (settled-at-end store events′ work′ answers′ P′)
+            (words-independent store (wordsOf events) (wordsOf events′) R);
+      }
 
 -- of edition 1
 pub demand-3-edition1 : Demand-3-holds edition1

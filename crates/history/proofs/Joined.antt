@@ -1,7 +1,7 @@
 -- Demand 3 and the central law of a chain of portions: a chain leaves what its joined list leaves, and of lists of words both are proved.
-use mathlib.Core.Path.{_≡_, sym, ap, subst, subst⁻¹, _∙_}
+use mathlib.Core.Path.{_≡_, sym, ap, _∙_}
 use mathlib.Core.Bool.{Bool}
-use mathlib.Core.List.{List, _++_}
+use mathlib.Core.List.{List}
 use Prim.Native.Nat.{ℕ}
 use lib.ListN.{length}
 use Rattle.rules.specs.Geometry.{Geometry}
@@ -16,12 +16,11 @@ use Rattle.rules.proofs.Editions.{proper1}
 use Rattle.rules.proofs.AtomicPages.{atomic-laws}
 use Rattle.rules.proofs.Soundness.{reached-start}
 use Rattle.rules.proofs.Portions.{play-append, Carried, carried-start, Whole, chain-whole}
-use Rattle.history.specs.History.{History, survives, overlaid}
-use Rattle.history.specs.Demand3.{rows, history, Along, SameEvent, SameAnswer, settledIn, startOf}
+use Rattle.history.specs.Demand3.{rows, history, settledIn, startOf}
 use Rattle.history.specs.Claims.{stateAfter, historyAfter, Commit-survives}
 use Rattle.history.specs.Joined.{rowsJoined, historyJoined, Reads-joined, Commit-survives-joined, Demand-3-joined-holds}
 use Rattle.history.proofs.Runs.{rowsFrom}
-use Rattle.history.proofs.Demand3.{list-runs}
+use Rattle.history.proofs.Demand3.{overlay-as, independent-as, words-independent}
 use Rattle.history.proofs.Claims.{rows-played, reads-overlay, commit-survives}
 
 module _ (f : Form) (M : MediumLaws (f .geometry) (f .medium)) (sound : StateOf f → Bool) where
@@ -67,38 +66,29 @@ module _ (f : Form) (M : MediumLaws (f .geometry) (f .medium)) (sound : StateOf 
     pub reads-joined : (ls : List Lent) → Reads-joined f sound store ls
     reads-joined ls = record { state-is = state-joined ls; history-is = history-joined ls; overlay = reads-overlay f M store (c ls .joined) sized }
 
-    first : (ls : List Lent) (r : ℕ) → let h = historyJoined f sound store ls in
-        settledIn f (c ls .store) r ≡ overlaid (survives h) r (h .writes) (settledIn f store r)
-    first ls r =
-        settled-joined ls r
-        ∙ subst⁻¹ (λ (h : History). f .medium .settled (stateAfter f store (c ls .joined) .store) r ≡ overlaid (survives h) r (h .writes) (settledIn f store r))
-        (history-joined ls) (reads-overlay f M store (c ls .joined) sized .settles r)
-
-    second : (ls ls′ : List Lent) → let final = survives (historyJoined f sound store ls) in
-        Along g (SameEvent g final) (startOf f store) (rowsJoined f sound store ls) (rowsJoined f sound store ls′)
-        → Along g (SameAnswer g final) (startOf f store) (rowsJoined f sound store ls) (rowsJoined f sound store ls′)
-        × ((r : ℕ) → settledIn f (c ls′ .store) r ≡ settledIn f (c ls .store) r)
-    unfolding historyJoined stateAfter
-    second ls ls′ E =
-        let T = list-runs f M store (c ls .joined) (c ls′ .joined) (reached-start f M store sized) (rows-joined ls) (rows-joined ls′) E in
-        (T .0, λ r. settled-joined ls′ r ∙ T .1 r ∙ sym (settled-joined ls r))
-
     -- crashes and recoveries in more portions
     pub commit-survives-joined : (ls more : List Lent) → Commit-survives-joined f sound store ls more
     unfolding Commit-survives-joined Commit-survives stateAfter
-    commit-survives-joined ls more k r =
+    commit-survives-joined ls more k =
         let d = chain f sound (c ls .state) (c ls .store) more in
         let W = chain-whole f M sound (c ls .state) (c ls .store) more (carried-joined ls) in
-        chain-settled (d .state) (d .store) (W .carried) r
+        overlay-as (settledIn f store) (history-joined ls)
+        (λ r. chain-settled (d .state) (d .store) (W .carried) r
         ∙ ap (λ (s : StateOf f). f .medium .settled (s .store) r)
-        (W .state ∙ ap (λ (s : StateOf f). play f s (d .joined) .state) (state-joined ls) ∙ sym (play-append f s₀ (c ls .joined) (d .joined) .state))
-        ∙ subst⁻¹ (λ (h : History). f .medium .settled (stateAfter f store (c ls .joined ++ d .joined) .store) r ≡ overlaid (survives h) r (h .writes) (settledIn f store r))
-        (history-joined ls) (commit-survives f M store (c ls .joined) (d .joined) sized k r)
+        (W .state ∙ ap (λ (s : StateOf f). play f s (d .joined) .state) (state-joined ls) ∙ sym (play-append f s₀ (c ls .joined) (d .joined) .state)))
+        (commit-survives f M store (c ls .joined) (d .joined) sized k)
 
   -- DEMAND 3, over the joined list
   pub demand-3-joined : Demand-3-joined-holds f sound
-  unfolding Demand-3-joined-holds
-  demand-3-joined store ls sized = record { surviving-writes = first store sized ls; two-chains = second store sized ls }
+  unfolding Demand-3-joined-holds stateAfter
+  demand-3-joined store ls sized =
+      let words = chainFrom f sound store ls .joined in
+      let end = settled-joined store sized ls in
+      record {
+        surviving-writes = overlay-as (settledIn f store) (history-joined store sized ls) end (reads-overlay f M store words sized .settles);
+        two-chains = λ ls′. independent-as g (startOf f store) (rows-joined store sized ls) end (rows-joined store sized ls′) (settled-joined store sized ls′)
+            (words-independent f M store words (chainFrom f sound store ls′ .joined) (reached-start f M store sized));
+      }
 
 -- of edition 1
 pub demand-3-joined-edition1 : (sound : StateOf edition1 → Bool) → Demand-3-joined-holds edition1 sound

@@ -17,8 +17,8 @@ use Rattle.rules.specs.Run.{answerBytes, play}
 use Rattle.rules.proofs.Medium.{MediumLaws}
 use Rattle.rules.proofs.Acceptance.{refused-number}
 use Rattle.rules.proofs.Soundness.{Reached, reached-word}
-use Rattle.history.specs.History.{History, survives, overlaid, told}
-use Rattle.history.specs.Demand3.{Row, answerOf, rows, heard, history}
+use Rattle.history.specs.History.{History, survives, told}
+use Rattle.history.specs.Demand3.{Row, answerOf, rows, heard, history, Surviving-overlay}
 use Rattle.history.proofs.Overlay.{overlaid-pick}
 use Rattle.history.proofs.Roots.{Root, at, isSettled}
 use Rattle.history.proofs.Table.{bearer-known, root-bearer, survives-is}
@@ -86,7 +86,7 @@ module _ (f : Form) (M : MediumLaws (f .geometry) (f .medium)) where
       })
 
   -- what the settled records are after a list, by what the history tells then
-  pub settled-is : {start : ℕ → Page} (s : StateOf f) {h : History} {root : ℕ → Root} → Holds f start s h root → (r : ℕ) → now f s r ≡ overlaid (survives h) r (h .writes) (start r)
+  pub settled-is : {start : ℕ → Page} (s : StateOf f) {h : History} {root : ℕ → Root} → Holds f start s h root → Surviving-overlay start h (now f s)
   settled-is {start} s {h} H r = H .data′ .on-store r ∙ overlaid-pick r (h .writes) (start r) (λ i. sym (survives-is (H .table) i))
 
   -- a live transaction survives a list exactly if its label becomes settled in it

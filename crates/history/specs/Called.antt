@@ -9,9 +9,9 @@ use Rattle.rules.specs.State.{down}
 use Rattle.rules.specs.Form.{Form}
 use Rattle.rules.specs.Step.{StateOf}
 use Rattle.rules.specs.Calls.{Call, left, joinedOf, answersOf, AllPromised}
-use Rattle.history.specs.History.{History, survives, overlaid}
+use Rattle.history.specs.History.{History}
 use Rattle.history.specs.Claims.{restarts, stateAfter, historyAfter, Reads-overlay}
-use Rattle.history.specs.Demand3.{Row, rows, history, Along, SameEvent, SameAnswer, settledIn, startOf}
+use Rattle.history.specs.Demand3.{Row, rows, history, Surviving-overlay, Independent-of-lost-writes, settledIn, startOf}
 
 module _ (f : Form) {X : Type 0} where
   -- the events of the calls that answered 0, each with its two answer bytes
@@ -32,14 +32,12 @@ module _ (f : Form) {X : Type 0} where
 
     -- DEMAND 3, of these calls from x.
     pub record Demand-3-called (x : X) (cs : List (Call X)) : Type 0 where
-      pub surviving-writes : (r : ℕ) → let h = historyCalled (bytes x) cs in
-          settledIn f (bytes (left x cs)) r ≡ overlaid (survives h) r (h .writes) (settledIn f (bytes x) r)
+      pub surviving-writes : Surviving-overlay (settledIn f (bytes x)) (historyCalled (bytes x) cs) (settledIn f (bytes (left x cs)))
       -- other calls from a start over the same store bytes, cut in any other way
       pub two-chains : (y : X) (ds : List (Call X)) → Starts y → bytes y ≡ bytes x → AllPromised f view bytes proper y ds
-          → let final = survives (historyCalled (bytes x) cs) in
-          Along (f .geometry) (SameEvent (f .geometry) final) (startOf f (bytes x)) (rowsCalled cs) (rowsCalled ds)
-          → Along (f .geometry) (SameAnswer (f .geometry) final) (startOf f (bytes x)) (rowsCalled cs) (rowsCalled ds)
-          × ((r : ℕ) → settledIn f (bytes (left y ds)) r ≡ settledIn f (bytes (left x cs)) r)
+          → Independent-of-lost-writes (f .geometry) (startOf f (bytes x))
+          (rowsCalled cs) (settledIn f (bytes (left x cs)))
+          (rowsCalled ds) (settledIn f (bytes (left y ds)))
 
     -- the claim: of all calls from a start that keep the promise
     unfoldable pub Demand-3-called-holds : Type 0
@@ -55,5 +53,4 @@ module _ (f : Form) {X : Type 0} where
     -- survived before.
     unfoldable pub Commit-survives-called : X → List (Call X) → Type 0
     Commit-survives-called x cs = (ds : List (Call X)) → AllPromised f view bytes proper (left x cs) ds → restarts (f .geometry) (joinedOf f ds) ≡ true
-        → (r : ℕ) → let h = historyCalled (bytes x) cs in
-        settledIn f (bytes (left (left x cs) ds)) r ≡ overlaid (survives h) r (h .writes) (settledIn f (bytes x) r)
+        → Surviving-overlay (settledIn f (bytes x)) (historyCalled (bytes x) cs) (settledIn f (bytes (left (left x cs) ds)))

@@ -13,7 +13,7 @@ use Rattle.rules.specs.Form.{Form}
 use Rattle.rules.specs.Step.{StateOf, visible}
 use Rattle.rules.specs.Run.{answerBytes, play}
 use Rattle.history.specs.History.{History, isWithin, standsWith, survives, writesTo, overlaid}
-use Rattle.history.specs.Demand3.{rows, history, settledIn, startOf}
+use Rattle.history.specs.Demand3.{rows, history, Surviving-overlay, settledIn, startOf}
 
 -- the writes of i stand by now with the transaction of number t or an ancestor of it, or are settled
 unfoldable pub seenBy : History → ℕ → ℕ → Bool
@@ -56,14 +56,13 @@ module _ (f : Form) where
     pub versions : (t r : ℕ) → live (stateAfter store ws) t ≡ true → let h = historyAfter store ws in
         isSome (stateAfter store ws .version t r) ≡ writesTo (λ i. same (standsWith h i) (h .bearer t)) r (h .writes)
     -- The settled records are the start's, overlaid with the writes that survive so far.
-    pub settles : (r : ℕ) → let h = historyAfter store ws in
-        f .medium .settled (stateAfter store ws .store) r ≡ overlaid (survives h) r (h .writes) (settledIn f store r)
+    pub settles : Surviving-overlay (settledIn f store) (historyAfter store ws) (f .medium .settled (stateAfter store ws .store))
 
   -- After any crashes and recoveries, also cut ones, a top transaction whose commit record was written is wholly there, any other not at all:
   -- the settled records are the start's, overlaid with the writes of those that had survived before.
   unfoldable pub Commit-survives : List ℕ → List ℕ → List ℕ → Type 0
-  Commit-survives store ws more = restarts (f .geometry) more ≡ true → (r : ℕ) → let h = historyAfter store ws in
-      f .medium .settled (stateAfter store (ws ++ more) .store) r ≡ overlaid (survives h) r (h .writes) (settledIn f store r)
+  Commit-survives store ws more = restarts (f .geometry) more ≡ true
+      → Surviving-overlay (settledIn f store) (historyAfter store ws) (f .medium .settled (stateAfter store (ws ++ more) .store))
 
 -- opens the definitions of this module: for what is proved by computing
 unfoldable pub open-claims : Unit {0}

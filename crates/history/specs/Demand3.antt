@@ -1,5 +1,5 @@
--- Demand 3 of document 01: a claim about whole runs, in bytes. The history is told from the event bytes and the answer bytes; of the start store it
--- takes only what is prepared there.
+-- Demand 3 of document 01: its two clauses, and the claim of whole runs, in bytes. The history is told from the event bytes and the answer bytes; of the start
+-- store it takes only what is prepared there.
 use Prim.Native.Nat.{ℕ}
 use mathlib.Core.Path.{_≡_}
 use mathlib.Core.Bool.{Bool, true, false, cond}
@@ -58,6 +58,18 @@ module _ (g : Geometry) where
     other-byte : (t r o : ℕ) → decode g (x .word) ≡ some (read t r o)
         → accepted (answerOf x) ≡ true → final (belongs h (read t r o)) ≡ false → y .number ≡ x .number → SameAnswer final h x y
 
+-- THE FIRST CLAUSE of demand 3: the settled records at the end are those at the start with the surviving writes of a history laid over them in list order.
+abbrev pub Surviving-overlay : (ℕ → Page) → History → (ℕ → Page) → Type 0
+Surviving-overlay start h end = (r : ℕ) → end r ≡ overlaid (survives h) r (h .writes) (start r)
+
+-- THE SECOND CLAUSE: of two lists of rows after one start, and the settled records at the end of each. The second list has as many events, each the same but
+-- for the value in accepted writes of transactions that are lost in the first list: each event has the same two answer bytes, but the value byte may differ
+-- where a lost transaction's read is accepted, and the settled records are the same.
+abbrev pub Independent-of-lost-writes : Geometry → History → List Row → (ℕ → Page) → List Row → (ℕ → Page) → Type 0
+Independent-of-lost-writes g h xs end ys end′ =
+    let final = survives (history g h xs) in
+    Along g (SameEvent g final) h xs ys → Along g (SameAnswer g final) h xs ys × ((r : ℕ) → end′ r ≡ end r)
+
 module _ (f : Form) where
   -- the settled value of a record in a store's bytes
   unfoldable pub settledIn : List ℕ → ℕ → Page
@@ -81,19 +93,12 @@ module _ (f : Form) where
 
   -- DEMAND 3, of a run with these buffers.
   pub record Demand-3 (store events work answers : List ℕ) : Type 0 where
-    -- The settled records at the end are those at the start with the surviving writes laid over them in list order.
-    pub surviving-writes : (r : ℕ) → let h = historyOf store events work answers in
-        settledIn (run f store events work answers .store) r ≡ overlaid (survives h) r (h .writes) (settledIn store r)
-    -- A second run over the same store bytes with any other buffers, whose list has as many events, each the same but for the value in
-    -- accepted writes of transactions that are lost in this run: each event has the same two answer bytes, but the value byte may differ
-    -- where a lost transaction's read is accepted, and the settled records are the same.
+    pub surviving-writes : Surviving-overlay (settledIn store) (historyOf store events work answers) (settledIn (run f store events work answers .store))
+    -- a second run over the same store bytes, with any other buffers
     pub two-runs : (events′ work′ answers′ : List ℕ) → Plays store events′ work′ answers′
-        → let final = survives (historyOf store events work answers) in
-        let first = rowsOf store events work answers in
-        let second = rowsOf store events′ work′ answers′ in
-        Along (f .geometry) (SameEvent (f .geometry) final) (startOf store) first second
-        → Along (f .geometry) (SameAnswer (f .geometry) final) (startOf store) first second
-        × ((r : ℕ) → settledIn (run f store events′ work′ answers′ .store) r ≡ settledIn (run f store events work answers .store) r)
+        → Independent-of-lost-writes (f .geometry) (startOf store)
+        (rowsOf store events work answers) (settledIn (run f store events work answers .store))
+        (rowsOf store events′ work′ answers′) (settledIn (run f store events′ work′ answers′ .store))
 
   -- the claim: of every run that is played
   unfoldable pub Demand-3-holds : Type 0

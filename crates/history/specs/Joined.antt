@@ -8,8 +8,8 @@ use lib.ListN.{length}
 use Rattle.rules.specs.Form.{Form}
 use Rattle.rules.specs.Step.{StateOf}
 use Rattle.rules.specs.Portion.{Lent, chain, chainFrom}
-use Rattle.history.specs.History.{History, survives, overlaid}
-use Rattle.history.specs.Demand3.{Row, rows, history, Along, SameEvent, SameAnswer, settledIn, startOf}
+use Rattle.history.specs.History.{History}
+use Rattle.history.specs.Demand3.{Row, rows, history, Surviving-overlay, Independent-of-lost-writes, settledIn, startOf}
 use Rattle.history.specs.Claims.{restarts, stateAfter, historyAfter, Reads-overlay}
 
 -- whatever is found of the states between the portions
@@ -23,15 +23,12 @@ module _ (f : Form) (sound : StateOf f → Bool) where
 
   -- DEMAND 3, of a chain of portions from a start with these store bytes.
   pub record Demand-3-joined (store : List ℕ) (ls : List Lent) : Type 0 where
-    -- The settled records that the last portion leaves are those at the start with the surviving writes of the joined list laid over them.
-    pub surviving-writes : (r : ℕ) → let h = historyJoined store ls in
-        settledIn f (chainFrom f sound store ls .store) r ≡ overlaid (survives h) r (h .writes) (settledIn f store r)
-    -- A second chain over the same store bytes, cut in any other way, whose joined list has the same events but for the value in accepted
-    -- writes of transactions that are lost in this one: the same answers but for the bytes that lost transactions read, and the same settled records.
-    pub two-chains : (ls′ : List Lent) → let final = survives (historyJoined store ls) in
-        Along (f .geometry) (SameEvent (f .geometry) final) (startOf f store) (rowsJoined store ls) (rowsJoined store ls′)
-        → Along (f .geometry) (SameAnswer (f .geometry) final) (startOf f store) (rowsJoined store ls) (rowsJoined store ls′)
-        × ((r : ℕ) → settledIn f (chainFrom f sound store ls′ .store) r ≡ settledIn f (chainFrom f sound store ls .store) r)
+    -- the settled records that the last portion leaves
+    pub surviving-writes : Surviving-overlay (settledIn f store) (historyJoined store ls) (settledIn f (chainFrom f sound store ls .store))
+    -- a second chain over the same store bytes, cut in any other way
+    pub two-chains : (ls′ : List Lent) → Independent-of-lost-writes (f .geometry) (startOf f store)
+        (rowsJoined store ls) (settledIn f (chainFrom f sound store ls .store))
+        (rowsJoined store ls′) (settledIn f (chainFrom f sound store ls′ .store))
 
   -- THE CENTRAL LAW, of what the chain left: its state and its history are those of the joined list, of which the law holds.
   pub record Reads-joined (store : List ℕ) (ls : List Lent) : Type 0 where
@@ -45,8 +42,7 @@ module _ (f : Form) (sound : StateOf f → Bool) where
   Commit-survives-joined store ls more =
       let c = chainFrom f sound store ls in
       let d = chain f sound (c .state) (c .store) more in
-      restarts (f .geometry) (d .joined) ≡ true → (r : ℕ) → let h = historyJoined store ls in
-      settledIn f (d .store) r ≡ overlaid (survives h) r (h .writes) (settledIn f store r)
+      restarts (f .geometry) (d .joined) ≡ true → Surviving-overlay (settledIn f store) (historyJoined store ls) (settledIn f (d .store))
 
   -- the claim: of every chain over a store of the right length (with any other, each portion is refused)
   unfoldable pub Demand-3-joined-holds : Type 0
