@@ -20,11 +20,11 @@ use Rattle.rules.proofs.AtomicPages.{atomic-laws}
 use Rattle.rules.proofs.Soundness.{Reached, reached-start, reached-play}
 use Rattle.history.specs.History.{overlaid}
 use Rattle.history.specs.Demand3.{Surviving-overlay, Independent-of-lost-writes, settledIn, startOf}
-use Rattle.history.specs.Claims.{seenBy, isRestart, restarts, stateAfter, Commit-survives}
+use Rattle.history.specs.Claims.{seenBy, isRestart, restarts, stateAfter, rowsAfter, Commit-survives}
 use Rattle.history.proofs.Demand3.{independent-as, words-independent}
 use Rattle.history.proofs.Claims.{rows-played, reads-overlay, commit-survives}
 use Rattle.claim_device.specs.Plan.{lesser, countOf, withCount}
-use Rattle.claim_device.specs.Device.{Happening, plays, fails, loses, restarted, deviceAfter, cutWord, standsFor, listOf, historyOf, rowsOf, isRestarting, restarting, Device-holds}
+use Rattle.claim_device.specs.Device.{Happening, plays, fails, loses, restarted, deviceAfter, cutWord, standsFor, listOf, historyOf, isRestarting, restarting, Device-holds}
 use Rattle.claim_device.proofs.Device.{cut-decodes, crash-decodes, Follows, lives-follows}
 
 restart-counts : (n : ℕ) (e : Event) → isRestart (some (withCount n e)) ≡ isRestart (some e)
@@ -113,9 +113,9 @@ module _ (g : Geometry) (proper : Proper g) (store : List ℕ) (sized : length s
       ∙ sym (settled-is hs r)
 
   two-is : (hs hs′ : List Happening) → Independent-of-lost-writes g (startOf (atomic g) store)
-      (rowsOf g store hs) (settled g (deviceAfter g store hs .medium))
-      (rowsOf g store hs′) (settled g (deviceAfter g store hs′ .medium))
-  unfolding rowsOf stateAfter
+      (rowsAfter (atomic g) store (listOf g hs)) (settled g (deviceAfter g store hs .medium))
+      (rowsAfter (atomic g) store (listOf g hs′)) (settled g (deviceAfter g store hs′ .medium))
+  unfolding stateAfter rowsAfter
   two-is hs hs′ = independent-as g (startOf (atomic g) store)
       (rows-played (atomic g) (down (pagesOf store)) (listOf g hs)) (λ r. ap (λ (m : Pages). settled g m r) (medium-is hs))
       (rows-played (atomic g) (down (pagesOf store)) (listOf g hs′)) (λ r. ap (λ (m : Pages). settled g m r) (medium-is hs′))

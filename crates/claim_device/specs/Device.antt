@@ -15,10 +15,9 @@ use Rattle.rules.specs.State.{lineOf, live, down}
 use Rattle.rules.specs.Versions.{else}
 use Rattle.rules.specs.Form.{atomic}
 use Rattle.rules.specs.Step.{done, StateOf, visible, step}
-use Rattle.rules.specs.Run.{answerBytes, play}
 use Rattle.history.specs.History.{History, overlaid}
-use Rattle.history.specs.Demand3.{Row, rows, Surviving-overlay, Independent-of-lost-writes, startOf}
-use Rattle.history.specs.Claims.{seenBy, isRestart, stateAfter, historyAfter}
+use Rattle.history.specs.Demand3.{Surviving-overlay, Independent-of-lost-writes, startOf}
+use Rattle.history.specs.Claims.{seenBy, isRestart, stateAfter, rowsAfter, historyAfter}
 use Rattle.claim_device.specs.Plan.{carried, lesser, countOf, withCount, dueOf}
 
 -- What happens to a device.
@@ -75,9 +74,6 @@ module _ (g : Geometry) where
   unfoldable pub historyOf : List ℕ → List Happening → History
   historyOf store hs = historyAfter (atomic g) store (listOf hs)
 
-  unfoldable pub rowsOf : List ℕ → List Happening → List Row
-  rowsOf store hs = rows (listOf hs) (answerBytes (play (atomic g) (down (pagesOf store)) (listOf hs) .answers))
-
   -- power cuts, and crashes and recoveries, each cut anywhere
   unfoldable pub isRestarting : Happening → Bool
   isRestarting (plays w) = isRestart (decode g w)
@@ -107,8 +103,8 @@ module _ (g : Geometry) where
     -- Demand 3, second half: another device over the same bytes, to which the same happens but for the values in accepted writes of transactions
     -- that are lost on this one, has the same answers and the same settled records on its medium.
     pub two-devices : (hs′ : List Happening) → Independent-of-lost-writes g (startOf (atomic g) store)
-        (rowsOf store hs) (settled g (deviceAfter store hs .medium))
-        (rowsOf store hs′) (settled g (deviceAfter store hs′ .medium))
+        (rowsAfter (atomic g) store (listOf hs)) (settled g (deviceAfter store hs .medium))
+        (rowsAfter (atomic g) store (listOf hs′)) (settled g (deviceAfter store hs′ .medium))
 
   -- OF EVERY COMMIT on a device, by the word of a commit event of t, through any power cuts and recoveries after it.
   pub record Commit-holds (store : List ℕ) (hs : List Happening) (w t : ℕ) : Type 0 where
@@ -123,5 +119,5 @@ module _ (g : Geometry) where
 
 -- opens the definitions of this module: for what is proved by computing
 unfoldable pub open-device : Unit {0}
-unfolding restarted happens lives deviceAfter cutWord standsFor listOf historyOf rowsOf isRestarting restarting
+unfolding restarted happens lives deviceAfter cutWord standsFor listOf historyOf isRestarting restarting
 open-device = tt

@@ -13,11 +13,11 @@ use Rattle.rules.proofs.Medium.{MediumLaws}
 use Rattle.rules.proofs.Editions.{proper1, proper2}
 use Rattle.rules.proofs.AtomicPages.{atomic-laws}
 use Rattle.history.specs.Demand3.{Row, settledIn}
-use Rattle.history.specs.Claims.{stateAfter}
+use Rattle.history.specs.Claims.{stateAfter, rowsAfter}
 use Rattle.history.specs.Joined.{rowsJoined}
 use Rattle.history.proofs.Claims.{rows-played}
 use Rattle.history.proofs.Joined.{rows-joined, settled-joined}
-use Rattle.claim_serial.specs.OneAtATime.{Replays, inOrder, replay, rowsAfter, settledAfter, One-at-a-time, One-at-a-time-holds}
+use Rattle.claim_serial.specs.OneAtATime.{Replays, inOrder, replay, settledAfter, One-at-a-time, One-at-a-time-holds}
 use Rattle.claim_serial.specs.Joined.{One-chain-at-a-time-holds}
 use Rattle.claim_serial.proofs.OneAtATime.{one-at-a-time}
 

@@ -28,6 +28,7 @@ use Rattle.rules.proofs.Event.{decode-encode}
 use Rattle.rules.proofs.Soundness.{Reached, reached-start}
 use Rattle.history.specs.History.{waiting as waitingFate, ended, History, starting}
 use Rattle.history.specs.Demand3.{Row, history, startOf}
+use Rattle.history.specs.Claims.{rowsAfter}
 use Rattle.history.specs.Entries.{Entry, awaits, open-entries}
 use Rattle.history.proofs.Invariant.{now}
 use Rattle.history.proofs.Runs.{rowBy, rowsFrom, toldOf}
@@ -35,7 +36,7 @@ use Rattle.history.proofs.Starts.{start-holds}
 use Rattle.history.proofs.Claims.{rows-played}
 use Rattle.history.proofs.Holder.{Holder, vacant, taken}
 use Rattle.claim_serial.specs.Serial.{plays, serial, open-serial}
-use Rattle.claim_serial.specs.OneAtATime.{naming, Right, AllRight, Replays, script, inOrder, replay, rowsAfter, settledAfter, One-at-a-time, One-at-a-time-holds}
+use Rattle.claim_serial.specs.OneAtATime.{naming, Right, AllRight, Replays, script, inOrder, replay, settledAfter, One-at-a-time, One-at-a-time-holds}
 use Rattle.claim_serial.proofs.Mirror.{again, Replayed, Open, reached-event}
 use Rattle.claim_serial.proofs.Words.{AllFit}
 use Rattle.claim_serial.proofs.Goes.{no-line}

@@ -22,12 +22,13 @@ use Rattle.rules.proofs.AtomicPages.{atomic-laws}
 use Rattle.rules.proofs.Acceptance.{pass}
 use Rattle.rules.proofs.Portions.{words-length}
 use Rattle.history.specs.Demand3.{Row, settledIn, Plays, rowsOf, open-demand}
+use Rattle.history.specs.Claims.{rowsAfter}
 use Rattle.history.specs.Entries.{open-entries}
 use Rattle.history.proofs.Claims.{rows-played}
 use Rattle.history.proofs.Demand3.{plays-none, plays-all, rows-of, settled-at-end}
 use Rattle.history.proofs.Runs.{rowsFrom}
 use Rattle.claim_serial.specs.Serial.{open-serial}
-use Rattle.claim_serial.specs.OneAtATime.{Replays, inOrder, replay, rowsAfter, settledAfter, wordBytes, One-at-a-time, One-at-a-time-holds, One-run-at-a-time, One-run-at-a-time-holds}
+use Rattle.claim_serial.specs.OneAtATime.{Replays, inOrder, replay, settledAfter, wordBytes, One-at-a-time, One-at-a-time-holds, One-run-at-a-time, One-run-at-a-time-holds}
 use Rattle.claim_serial.proofs.Words.{bytes-of-words, events-in-words, whole-words, words-of-bytes}
 use Rattle.claim_serial.proofs.OneAtATime.{replay-length, replayed-events, one-at-a-time}
 

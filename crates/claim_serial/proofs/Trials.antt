@@ -15,11 +15,12 @@ use Rattle.rules.specs.Step.{open-step}
 use Rattle.rules.specs.Run.{open-run}
 use Rattle.history.specs.History.{open-history}
 use Rattle.history.specs.Demand3.{open-demand}
+use Rattle.history.specs.Claims.{open-claims}
 use Rattle.history.specs.Entries.{open-entries}
 use Rattle.claim_serial.specs.Serial.{open-serial}
 use Rattle.claim_serial.specs.OneAtATime.{open-one}
 use Rattle.claim_serial.specs.Trials.{freshStore, committedStore, damagedStore, preparedStore, answersOf, passes, allPass, trials}
 
 pub trials-hold : T (allPass trials)
-unfolding open-tests open-counting open-functions open-bytes open-geometry open-event open-store open-state open-locks open-versions open-commit open-step open-run open-history open-demand open-entries open-serial open-one freshStore committedStore damagedStore preparedStore answersOf passes allPass
+unfolding open-tests open-counting open-functions open-bytes open-geometry open-event open-store open-state open-locks open-versions open-commit open-step open-run open-history open-demand open-claims open-entries open-serial open-one freshStore committedStore damagedStore preparedStore answersOf passes allPass
 trials-hold = tt

@@ -13,8 +13,9 @@ use Rattle.rules.specs.Event.{Event, begin, lock, write, read, commit, abort, c
 use Rattle.rules.specs.State.{down}
 use Rattle.rules.specs.Form.{Form}
 use Rattle.rules.specs.Step.{valueOf, StateOf, step}
-use Rattle.rules.specs.Run.{answerBytes, play, run}
-use Rattle.history.specs.Demand3.{Row, rows, history, settledIn, startOf, Plays, rowsOf}
+use Rattle.rules.specs.Run.{play, run}
+use Rattle.history.specs.Demand3.{Row, history, settledIn, startOf, Plays, rowsOf}
+use Rattle.history.specs.Claims.{rowsAfter}
 use Rattle.history.specs.Entries.{Entry, entries}
 use Rattle.claim_serial.specs.Serial.{plays, serial}
 
@@ -95,10 +96,7 @@ module _ (f : Form) where
       let u = step f (down (f .medium .fromBytes store)) (some first) .state in
       map (encode (f .geometry)) (first ∷ script u (λ j. j) (inOrder store xs))
 
-  -- the rows of a list of words over a store, and the settled records that it leaves
-  unfoldable pub rowsAfter : List ℕ → List ℕ → List Row
-  rowsAfter store ws = rows ws (answerBytes (play f (down (f .medium .fromBytes store)) ws .answers))
-
+  -- the settled records that a list of words leaves of a store
   unfoldable pub settledAfter : List ℕ → List ℕ → ℕ → Page
   settledAfter store ws r = f .medium .settled (play f (down (f .medium .fromBytes store)) ws .state .store) r
 
@@ -106,13 +104,13 @@ module _ (f : Form) where
   pub record One-at-a-time (store ws : List ℕ) : Type 0 where
     -- Played after one whole recover, each commit whole, every event of the serial list is done, and each surviving read gives the same byte.
     pub right : f .medium .damaged (f .medium .fromBytes store) ≡ false
-        → Replays (inOrder store (rowsAfter store ws)) (rowsAfter store (replay store (rowsAfter store ws)))
+        → Replays (inOrder store (rowsAfter f store ws)) (rowsAfter f store (replay store (rowsAfter f store ws)))
     -- Over a damaged commit page there is nothing to play but the recover, which is refused.
-    pub or-nothing : f .medium .damaged (f .medium .fromBytes store) ≡ true → inOrder store (rowsAfter store ws) ≡ []
+    pub or-nothing : f .medium .damaged (f .medium .fromBytes store) ≡ true → inOrder store (rowsAfter f store ws) ≡ []
     -- The settled records are the same.
-    pub records-same : (r : ℕ) → settledAfter store (replay store (rowsAfter store ws)) r ≡ settledAfter store ws r
+    pub records-same : (r : ℕ) → settledAfter store (replay store (rowsAfter f store ws)) r ≡ settledAfter store ws r
     -- The replay is no longer than the list, if that has an event.
-    pub no-longer : 0 < length ws → length (replay store (rowsAfter store ws)) ≤ length ws
+    pub no-longer : 0 < length ws → length (replay store (rowsAfter f store ws)) ≤ length ws
 
   -- the claim: of every list of words, of any length, over every store
   unfoldable pub One-at-a-time-holds : Type 0
@@ -141,5 +139,5 @@ module _ (f : Form) where
 
 -- opens the definitions of this module: for what is proved by computing
 unfoldable pub open-one : Unit {0}
-unfolding renamed naming isRead script inOrder replay rowsAfter settledAfter wordBytes
+unfolding renamed naming isRead script inOrder replay settledAfter wordBytes
 open-one = tt

@@ -12,7 +12,8 @@ use Rattle.rules.specs.State.{down}
 use Rattle.rules.specs.Step.{Answer, done, refused, cut}
 use Rattle.rules.specs.Run.{answerBytes, play}
 use Rattle.rules.specs.Editions.{geometry1, edition1}
-use Rattle.claim_serial.specs.OneAtATime.{replay, rowsAfter}
+use Rattle.history.specs.Claims.{rowsAfter}
+use Rattle.claim_serial.specs.OneAtATime.{replay}
 
 -- the start store's bytes, the list and its answers, the replay and its answers
 pub record Trial : Type 0 where

@@ -24,7 +24,7 @@ use Rattle.rules.proofs.Soundness.{Reached, reached-start, reached-play}
 use Rattle.rules.proofs.Portions.{play-append}
 use Rattle.history.specs.History.{History, standsWith, writesTo, overlaid}
 use Rattle.history.specs.Demand3.{rows, settledIn, startOf}
-use Rattle.history.specs.Claims.{seenBy, isRestart, restarts, stateAfter, historyAfter, Reads-overlay, Commit-survives}
+use Rattle.history.specs.Claims.{seenBy, isRestart, restarts, stateAfter, rowsAfter, historyAfter, Reads-overlay, Commit-survives}
 use Rattle.history.proofs.Overlay.{overlaid-pick, writesTo-pick}
 use Rattle.history.proofs.Roots.{Root}
 use Rattle.history.proofs.Data.{reads-is}
@@ -67,7 +67,7 @@ module _ (f : Form) (M : MediumLaws (f .geometry) (f .medium)) where
     s₀ = down (f .medium .fromBytes store)
 
     ran : After f (settledIn f store) (stateAfter f store ws) (startOf f store) (historyAfter f store ws) (startRoot (records (f .geometry)) (f .medium .pending (f .medium .fromBytes store))) (future f s₀ ws)
-    unfolding settledIn stateAfter historyAfter startOf
+    unfolding settledIn stateAfter rowsAfter historyAfter startOf
     ran = rw (rows-played f s₀ ws) (run-after f M ws (reached-start f M store sized) (start-holds f M (f .medium .fromBytes store)))
 
     reached : Reached f M (stateAfter f store ws)

@@ -17,7 +17,7 @@ use Rattle.rules.proofs.AtomicPages.{atomic-laws}
 use Rattle.rules.proofs.Soundness.{reached-start}
 use Rattle.rules.proofs.Portions.{play-append, Carried, carried-start, Whole, chain-whole}
 use Rattle.history.specs.Demand3.{rows, history, settledIn, startOf}
-use Rattle.history.specs.Claims.{stateAfter, historyAfter, Commit-survives}
+use Rattle.history.specs.Claims.{stateAfter, rowsAfter, historyAfter, Commit-survives}
 use Rattle.history.specs.Joined.{rowsJoined, historyJoined, Reads-joined, Commit-survives-joined, Demand-3-joined-holds}
 use Rattle.history.proofs.Runs.{rowsFrom}
 use Rattle.history.proofs.Demand3.{overlay-as, independent-as, words-independent}
@@ -48,7 +48,7 @@ module _ (f : Form) (M : MediumLaws (f .geometry) (f .medium)) (sound : StateOf 
       rows-joined = ap (rows (c .joined)) (whole ls .answers) ∙ rows-played f s₀ (c .joined)
 
       history-joined : historyJoined f sound store ls ≡ historyAfter f store (c .joined)
-      unfolding historyJoined rowsJoined chainFrom historyAfter
+      unfolding historyJoined rowsJoined chainFrom rowsAfter historyAfter
       history-joined = ap (λ (bs : List ℕ). history g (startOf f store) (rows (c .joined) bs)) (whole ls .answers)
 
       state-joined : c .state ≡ stateAfter f store (c .joined)

@@ -13,7 +13,7 @@ use Rattle.rules.specs.Form.{Form}
 use Rattle.rules.specs.Step.{StateOf, visible}
 use Rattle.rules.specs.Run.{answerBytes, play}
 use Rattle.history.specs.History.{History, isWithin, standsWith, survives, writesTo, overlaid}
-use Rattle.history.specs.Demand3.{rows, history, Surviving-overlay, settledIn, startOf}
+use Rattle.history.specs.Demand3.{Row, rows, history, Surviving-overlay, settledIn, startOf}
 
 -- the writes of i stand by now with the transaction of number t or an ancestor of it, or are settled
 unfoldable pub seenBy : History → ℕ → ℕ → Bool
@@ -39,12 +39,15 @@ restarts g [] = true
 restarts g (w ∷ ws) = isRestart (decode g w) && restarts g ws
 
 module _ (f : Form) where
-  -- the state and the history after a list of words, from a start with these store bytes
+  -- the state, the rows and the history after a list of words, from a start with these store bytes
   unfoldable pub stateAfter : List ℕ → List ℕ → StateOf f
   stateAfter store ws = play f (down (f .medium .fromBytes store)) ws .state
 
+  unfoldable pub rowsAfter : List ℕ → List ℕ → List Row
+  rowsAfter store ws = rows ws (answerBytes (play f (down (f .medium .fromBytes store)) ws .answers))
+
   unfoldable pub historyAfter : List ℕ → List ℕ → History
-  historyAfter store ws = history (f .geometry) (startOf f store) (rows ws (answerBytes (play f (down (f .medium .fromBytes store)) ws .answers)))
+  historyAfter store ws = history (f .geometry) (startOf f store) (rowsAfter store ws)
 
   -- THE CENTRAL LAW, after any list of words.
   pub record Reads-overlay (store ws : List ℕ) : Type 0 where
@@ -66,5 +69,5 @@ module _ (f : Form) where
 
 -- opens the definitions of this module: for what is proved by computing
 unfoldable pub open-claims : Unit {0}
-unfolding seenBy isRestart restarts stateAfter historyAfter
+unfolding seenBy isRestart restarts stateAfter rowsAfter historyAfter
 open-claims = tt
