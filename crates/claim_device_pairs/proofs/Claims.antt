@@ -10,7 +10,7 @@ use Rattle.rules.specs.Geometry.{Geometry, Proper, records, pageCount, uncut}
 use Rattle.rules.specs.Store.{settled}
 use Rattle.rules.specs.Event.{Event, begin, lock, write, read, commit, abort, crash, recover, prepare, decide, query, encode, fits}
 use Rattle.rules.specs.State.{live, down}
-use Rattle.rules.specs.Pairs.{Pairs, shown, OneBadAtMost, pairsOf, pairedPages, inPairs}
+use Rattle.rules.specs.Pairs.{Pairs, shown, OneBadAtMost, pairsOf, flatPairs, pairedPages, inPairs}
 use Rattle.rules.specs.Step.{visible}
 use Rattle.rules.specs.Editions.{geometryPairs}
 use Rattle.rules.proofs.Editions.{proper-pairs}
@@ -18,10 +18,12 @@ use Rattle.rules.proofs.Medium.{MediumLaws}
 use Rattle.rules.proofs.Event.{decode-encode}
 use Rattle.rules.proofs.PairedPages.{paired-laws}
 use Rattle.rules.proofs.PairsKept.{one-bad-kept}
+use Rattle.rules.proofs.Soundness.{Reached, reached-start, reached-play}
 use Rattle.history.specs.History.{overlaid}
-use Rattle.history.specs.Demand3.{Surviving-overlay, settledIn}
-use Rattle.history.specs.Claims.{seenBy, isRestart, restarts, stateAfter, Commit-survives}
-use Rattle.history.proofs.Claims.{reads-overlay, commit-survives}
+use Rattle.history.specs.Demand3.{Surviving-overlay, Independent-of-lost-writes, settledIn, startOf}
+use Rattle.history.specs.Claims.{seenBy, isRestart, restarts, stateAfter, rowsAfter, Commit-survives}
+use Rattle.history.proofs.Demand3.{independent-as, words-independent}
+use Rattle.history.proofs.Claims.{rows-played, reads-overlay, commit-survives}
 use Rattle.claim_device_pairs.specs.Copies.{behind, within}
 use Rattle.claim_device_pairs.specs.Device.{Happening, plays, fails, tears, loses, cutTo, wholly, restarted, deviceAfter, standsFor, listOf, allFit, wordsOf, historyOf, isRestarting, restarting, Torn-device-holds}
 use Rattle.claim_device_pairs.proofs.Device.{words-after, Follows, lives-follows}
@@ -103,6 +105,13 @@ module _ (g : Geometry) (proper : Proper g) (torn : g .tears ≡ true) (store : 
     medium-is : deviceAfter g store hs .medium ≡ stateAfter (inPairs g) store (wordsOf g hs) .store
     medium-is = follow .medium ∙ ap (λ s. s .store) (follow .memory)
 
+    reached : Reached (inPairs g) laws (stateAfter (inPairs g) store (wordsOf g hs))
+    unfolding stateAfter
+    reached = reached-play (inPairs g) laws (down (pairsOf store)) (reached-start (inPairs g) laws store sized) (wordsOf g hs)
+
+    bytes-back : pairsOf (flatPairs (pageCount g) (deviceAfter g store hs .medium)) ≡ deviceAfter g store hs .medium
+    bytes-back = rw medium-is (laws .from-to (stateAfter (inPairs g) store (wordsOf g hs) .store) (reached .shaped))
+
     settled-is : Surviving-overlay (settled g (shown (pairsOf store))) (historyOf g store hs) (settled g (shown (deviceAfter g store hs .medium)))
     unfolding historyOf settledIn
     settled-is r = ap (λ (m : Pairs). settled g (shown m) r) medium-is ∙ reads-overlay (inPairs g) laws store (wordsOf g hs) sized .settles r
@@ -116,14 +125,25 @@ module _ (g : Geometry) (proper : Proper g) (torn : g .tears ≡ true) (store : 
     unfolding stateAfter
     bad-is h = rw medium-is (one-bad-kept g proper torn store sized h (wordsOf g hs))
 
+  two-is : (hs : List Happening) → allFit g (listOf g hs) ≡ true → (hs′ : List Happening) → allFit g (listOf g hs′) ≡ true → Independent-of-lost-writes g (startOf (inPairs g) store)
+      (rowsAfter (inPairs g) store (wordsOf g hs)) (settled g (shown (deviceAfter g store hs .medium)))
+      (rowsAfter (inPairs g) store (wordsOf g hs′)) (settled g (shown (deviceAfter g store hs′ .medium)))
+  unfolding stateAfter rowsAfter
+  two-is hs fit hs′ fit′ = independent-as g (startOf (inPairs g) store)
+      (rows-played (inPairs g) (down (pairsOf store)) (wordsOf g hs)) (λ r. ap (λ (m : Pairs). settled g (shown m) r) (medium-is hs fit))
+      (rows-played (inPairs g) (down (pairsOf store)) (wordsOf g hs′)) (λ r. ap (λ (m : Pairs). settled g (shown m) r) (medium-is hs′ fit′))
+      (words-independent (inPairs g) laws store (wordsOf g hs) (wordsOf g hs′) (reached-start (inPairs g) laws store sized))
+
   -- THE DEVICE whose writes tear: whatever happens to it
   pub torn-device-holds : (hs : List Happening) → allFit g (listOf g hs) ≡ true → Torn-device-holds g store hs
   torn-device-holds hs fit = record {
     agrees = follow hs fit .medium;
+    reads-back = bytes-back hs fit;
     follows = follow hs fit .memory;
     settles = settled-is hs fit;
     reads = reads-is hs fit;
     survives-tears = survives-is;
+    two-devices = two-is hs fit;
     one-bad = bad-is hs fit;
   }
     where

@@ -1,4 +1,5 @@
--- A refresh of record 3 on the device whose writes tear: its copy writes; the power goes between two of them and within one; and again while it recovers.
+-- A refresh of record 3 on the device whose writes tear: its copy writes; the power goes between two of them and within one; and again while it recovers. And two
+-- devices that differ in what is lost.
 use mathlib.Core.Path.{_≡_, refl}
 use mathlib.Core.Bool.{true}
 use mathlib.Core.List.{List, [], _∷_, _++_}
@@ -17,14 +18,21 @@ use Rattle.rules.specs.Versions.{open-versions}
 use Rattle.rules.specs.Commit.{open-commit}
 use Rattle.rules.specs.Pairs.{Pair, Pairs, shown, open-pairs}
 use Rattle.rules.specs.Step.{open-step}
+use Rattle.rules.specs.Run.{open-run}
 use Rattle.rules.specs.Editions.{geometryPairs, editionPairs}
+use Rattle.history.specs.History.{survives, open-history}
+use Rattle.history.specs.Demand3.{Along, SameEvent, same-word, other-value, startOf, open-demand}
+use Rattle.history.specs.Claims.{rowsAfter, open-claims}
 use Rattle.claim_device.specs.Plan.{planOf, open-plan}
 use Rattle.claim_device.specs.CopyWrites.{first, second, copiesOf, open-copy-writes}
 use Rattle.claim_device_pairs.specs.Copies.{open-copies}
-use Rattle.claim_device_pairs.specs.Device.{Happening, plays, fails, tears, loses, deviceAfter, standsFor, open-device}
+use Rattle.claim_device_pairs.specs.Device.{Happening, plays, fails, tears, loses, deviceAfter, standsFor, wordsOf, historyOf, open-device}
+
+abbrev wrote : ℕ → List Happening
+wrote v = plays (recover 0) ∷ plays (begin nobody) ∷ plays (lock 0 3 toWrite) ∷ plays (write 0 3 0 v) ∷ []
 
 abbrev pub setup : List Happening
-setup = plays (recover 0) ∷ plays (begin nobody) ∷ plays (lock 0 3 toWrite) ∷ plays (write 0 3 0 9) ∷ []
+setup = wrote 9
 
 abbrev pub store : List ℕ
 store = editionPairs .medium .toBytes (editionPairs .medium .fresh)
@@ -89,3 +97,17 @@ lost = refl
 pub kept : medium (setup ++ (tears (commit 0 0) 3 ∷ tears (recover 0) 0 ∷ tears (recover 0) 3 ∷ loses ∷ plays (recover 0) ∷ [])) 20 ≡ pair 1 nine 1 nine
 unfolding open-tests open-counting open-functions open-bytes open-geometry open-store open-event open-state open-locks open-versions open-commit open-pairs open-step open-plan open-copy-writes open-copies open-device
 kept = refl
+
+-- Two devices that the same happens to but for the byte that they write, lost behind the intention page: the premise of `two-devices` is met, and the intention pages
+-- differ.
+abbrev early : ℕ → List Happening
+early v = wrote v ++ (fails (commit 0 0) 2 ∷ [])
+
+pub two-alike : Along geometryPairs (SameEvent geometryPairs (survives (historyOf geometryPairs store (early 9)))) (startOf editionPairs store)
+    (rowsAfter editionPairs store (wordsOf geometryPairs (early 9))) (rowsAfter editionPairs store (wordsOf geometryPairs (early 8)))
+unfolding open-tests open-counting open-functions open-bytes open-geometry open-store open-event open-state open-locks open-versions open-commit open-pairs open-step open-run open-history open-demand open-claims open-copies open-device
+two-alike = (same-word refl, (same-word refl, (same-word refl, (other-value 0 3 0 9 8 refl refl refl refl, (same-word refl, (same-word refl, tt))))))
+
+pub other-intention : (shown (medium (early 9)) 4 ≡ nine) × (shown (medium (early 8)) 4 ≡ 8 ∷ replicate 31 0)
+unfolding open-tests open-counting open-functions open-bytes open-geometry open-store open-event open-state open-locks open-versions open-commit open-pairs open-step open-plan open-copy-writes open-copies open-device
+other-intention = (refl, refl)

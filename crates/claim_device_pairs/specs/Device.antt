@@ -6,15 +6,15 @@ use mathlib.Core.Path.{_≡_}
 use mathlib.Core.Bool.{Bool, true, _&&_}
 use mathlib.Core.List.{List, [], _∷_, _++_, map}
 use mathlib.Core.Option.{Option, none, some}
-use Rattle.rules.specs.Geometry.{Geometry, uncut}
+use Rattle.rules.specs.Geometry.{Geometry, pageCount, uncut}
 use Rattle.rules.specs.Store.{settled}
 use Rattle.rules.specs.Event.{Event, begin, lock, write, read, commit, abort, crash, recover, prepare, decide, query, encode, fits}
 use Rattle.rules.specs.State.{live, down}
-use Rattle.rules.specs.Pairs.{Pairs, shown, mended, OneBadAtMost, pairsOf, inPairs}
+use Rattle.rules.specs.Pairs.{Pairs, shown, mended, OneBadAtMost, pairsOf, flatPairs, inPairs}
 use Rattle.rules.specs.Step.{StateOf, visible, refusal, step}
 use Rattle.history.specs.History.{History, overlaid}
-use Rattle.history.specs.Demand3.{Surviving-overlay}
-use Rattle.history.specs.Claims.{seenBy, isRestart, stateAfter, historyAfter}
+use Rattle.history.specs.Demand3.{Surviving-overlay, Independent-of-lost-writes, startOf}
+use Rattle.history.specs.Claims.{seenBy, isRestart, stateAfter, rowsAfter, historyAfter}
 use Rattle.claim_device.specs.Plan.{planOf}
 use Rattle.claim_device.specs.CopyWrites.{copiesOf}
 use Rattle.claim_device_pairs.specs.Copies.{carriedAll, carried, spoiledAt, behind, within}
@@ -138,6 +138,8 @@ module _ (g : Geometry) where
   pub record Torn-device-holds (store : List ℕ) (hs : List Happening) : Type 0 where
     -- The medium is what the memory has as the store: after every power cut it is safe to go on from the medium alone.
     pub agrees : deviceAfter store hs .medium ≡ deviceAfter store hs .memory .store
+    -- The medium's bytes spell it: a machine that starts from them starts from this medium.
+    pub reads-back : pairsOf (flatPairs (pageCount g) (deviceAfter store hs .medium)) ≡ deviceAfter store hs .medium
     -- The memory is the state that the rules' run over the list leaves.
     pub follows : deviceAfter store hs .memory ≡ stateAfter (inPairs g) store (wordsOf hs)
     -- Demand 3, first half: the records that the pairs show are the start's, overlaid with the writes of the transactions that survive.
@@ -148,6 +150,11 @@ module _ (g : Geometry) where
     -- A commit survives: power cuts and recoveries, however many and wherever each is cut or torn, leave the settled records alone.
     pub survives-tears : (more : List Happening) → allFit (listOf more) ≡ true → restarting more ≡ true → (r : ℕ)
         → settled g (shown (deviceAfter store (hs ++ more) .medium)) r ≡ settled g (shown (deviceAfter store hs .medium)) r
+    -- Demand 3, second half: another device over the same bytes, to which the same happens but for the values in accepted writes of transactions
+    -- that are lost on this one, has the same answers and the same settled records on its medium.
+    pub two-devices : (hs′ : List Happening) → allFit (listOf hs′) ≡ true → Independent-of-lost-writes g (startOf (inPairs g) store)
+        (rowsAfter (inPairs g) store (wordsOf hs)) (settled g (shown (deviceAfter store hs .medium)))
+        (rowsAfter (inPairs g) store (wordsOf hs′)) (settled g (shown (deviceAfter store hs′ .medium)))
     -- No page is lost: from a medium with at most one bad copy in each pair, it always has that.
     pub one-bad : OneBadAtMost g (pairsOf store) → OneBadAtMost g (deviceAfter store hs .medium)
 
