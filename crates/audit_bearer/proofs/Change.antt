@@ -1,16 +1,16 @@
 -- One entry of an array changes: what the arrays stand for then.
-use mathlib.Core.Path.{_≡_, refl, sym, ap, _∙_, fun-ext}
+use mathlib.Core.Path.{_≡_, refl, ap, _∙_, fun-ext}
 use mathlib.Core.Bool.{Bool, true, false, cond}
 use mathlib.Core.List.{List}
-use Prim.Native.Nat.{ℕ, _+_, _-_, _<_, _≤_}
+use Prim.Native.Nat.{ℕ, _+_, _-_, _<_}
 use native.Mathlib.Omega.{arith}
 use lib.ListN.{length, getD, set, length-set}
 use lib.Seq.{getD-set-same, getD-set-other}
 use Rattle.laws.specs.Tests.{same, under, open-tests}
 use Rattle.laws.specs.Functions.{updated}
-use Rattle.laws.proofs.Tests.{same?, Same, is, isnt, under-lt, lt-under, not-under}
+use Rattle.laws.proofs.Tests.{same?, Same, is, isnt, under-lt, lt-under}
 use Rattle.laws.proofs.Booleans.{refute}
-use Rattle.history.specs.History.{bearing, committed, stored, ended, isBearing}
+use Rattle.history.specs.History.{bearing, ended}
 use Rattle.audit_link.specs.Links.{fateOf, passedOf, entryAt, fateIn, passedIn}
 
 pub entry-set : (l : List ℕ) (i v k : ℕ) → i < length l → getD (set l i v) k 0 ≡ cond (same k i) v (getD l k 0)
@@ -61,17 +61,6 @@ fate-ended = refl
 pub pass-ended : passedOf 0 ≡ false
 unfolding passedOf open-tests
 pass-ended = refl
-
--- a fate that bears a number is that number's
-pub bears-number : (n : ℕ) → isBearing (fateOf n) ≡ true → 32 ≤ n
-unfolding fateOf isBearing
-bears-number n e = not-under n 32 (go (under n 32) (same n 2) (same n 3) e)
-  where
-    go : (a b c : Bool) → isBearing (cond a (cond b committed (cond c stored ended)) (bearing (n - 32))) ≡ true → a ≡ false
-    go true true c e = sym e
-    go true false true e = sym e
-    go true false false e = sym e
-    go false b c e = refl
 
 -- an entry that may change: as many entries, and as small ones
 pub cond-length : (b : Bool) (l : List ℕ) (i v : ℕ) → length (cond b (set l i v) l) ≡ length l

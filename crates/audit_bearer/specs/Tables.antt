@@ -49,8 +49,3 @@ takes parent a i = same a 0 || (not (same a 0) && climbs (entryAt parent) i a i)
 pub record Ending (hit : ℕ → Bool) (t : ℕ) (fate bearer fate′ bearer′ : List ℕ) : Type 0 where
   pub fates : (i : ℕ) → getD fate′ i 0 ≡ cond (under 31 (getD fate i 0) && (under (getD fate i 0) (32 + t) && hit i)) 0 (getD fate i 0)
   pub bearers : (u : ℕ) → getD bearer′ u 0 ≡ cond (under u t && hit (getD bearer u 0)) 0 (getD bearer u 0)
-
--- opens the definitions of this module: for what is proved by computing
-unfoldable pub open-tables : Unit {0}
-unfolding tables ledgerOf takes
-open-tables = tt

@@ -89,10 +89,6 @@ module _ (s : State Pages) (F : Free edition1 s) where
   unfolding busy isBusy identityIn
   never-busy b = rw (none-prepared geometryWithout refl (s .store 0)) (and-false b)
 
-  changes-same : (t : ℕ) → changes edition1Without s t ≡ changes edition1 s t
-  unfolding changes open-geometry
-  changes-same t = refl
-
   refusal-same : (e : Event) → isPlain (some e) ≡ true → refusal edition1Without s e ≡ refusal edition1 s e
   unfolding refusal refusals
   refusal-same (begin p) z = refl

@@ -78,9 +78,6 @@ module _ {b : Bearers} {h : History} {root : ℕ → Root} (T : Table b h root) 
     abbrev hands : Root → Root
     hands c = lose dead (move x (at y) c)
 
-    two : x ≢ y
-    two q = clash gone (ap dead q ∙ left)
-
     hands-at : (t : ℕ) (c : Root) → dead t ≡ false → isAt t (hands c) ≡ isAt t (move x (at y) c)
     hands-at t c d = at-lose dead t (move x (at y) c) ∙ rw d
 

@@ -53,12 +53,6 @@ or-comm true false = refl
 or-comm false true = refl
 or-comm false false = refl
 
-or-three : (a b : Bool) → (a || b) ≡ (b || (false || a))
-or-three true true = refl
-or-three true false = refl
-or-three false true = refl
-or-three false false = refl
-
 over-bears : (t : ℕ) (c : Fate) → isBearing c ≡ false → bears t c ≡ false
 unfolding isBearing
 over-bears t (bearing u) e = absurd (true≢false e)

@@ -212,8 +212,3 @@ module _ (f : Form) (start : ℕ → Page) where
   unfoldable pub due : Ledger → Stored → Option Event → Due Stored
   due l store none = record { answer = refused 1; store = store }
   due l store (some e) = dueBy l store e (firstOf (dueRefusals l store e))
-
--- opens the definitions of this module: for what is proved by computing
-unfoldable pub open-plain : Unit {0}
-unfolding blankLedger rises locksWith borne height depthOf isParent locksOf blocks hasChanged passedBy grantsBy upBy learned readBy changesBy dueRefusals dueCut dueDone dueCommit dueTo dueBy due
-open-plain = tt

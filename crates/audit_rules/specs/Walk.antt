@@ -49,8 +49,3 @@ module _ (f : Form) where
   -- the auditor, by its own engine
   unfoldable pub plainAudit : List ℕ → List ℕ → List ℕ → List ℕ → Verdict
   plainAudit start events answers end = plainBy start events answers end (firstOf (auditRefusals f start events answers end))
-
--- opens the definitions of this module: for what is proved by computing
-unfoldable pub open-walk : Unit {0}
-unfolding answered walk verdictBy plainBy plainAudit
-open-walk = tt

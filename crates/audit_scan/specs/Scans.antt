@@ -105,8 +105,3 @@ grantsTo owner events (suc n) = withGrant (getD owner n 0) (eventAt events n) (g
 unfoldable pub writesUpTo : List ℕ → List ℕ → ℕ → List Write
 writesUpTo owner events zero = []
 writesUpTo owner events (suc n) = withWrite (getD owner n 0) (eventAt events n) (writesUpTo owner events n)
-
--- opens the definitions of this module: for what is proved by computing
-unfoldable pub open-scans : Unit {0}
-unfolding eventAt modeTest locksAt writesAt byteAt withGrant withWrite grantsTo writesUpTo
-open-scans = tt

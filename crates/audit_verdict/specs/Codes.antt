@@ -30,8 +30,3 @@ pub record Fit (start events answers end : ℕ) : Type 0 where
   pub short : events / 4 ≤ 4096
   pub whole : 4 * (events / 4) ≤ events
   pub room : 2 * (events / 4) ≤ answers
-
--- opens the definitions of this module: for what is proved by computing
-unfoldable pub open-codes : Unit {0}
-unfolding numberIn placeIn refusalOf
-open-codes = tt

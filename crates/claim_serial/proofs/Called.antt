@@ -7,10 +7,7 @@ use Rattle.rules.specs.Form.{Form}
 use Rattle.rules.specs.Step.{StateOf}
 use Rattle.rules.specs.Portion.{chainFrom}
 use Rattle.rules.specs.Calls.{Call, lents, left, joinedOf, AllPromised}
-use Rattle.rules.specs.Editions.{geometry1, edition1, geometry2, edition2}
 use Rattle.rules.proofs.Medium.{MediumLaws}
-use Rattle.rules.proofs.Editions.{proper1, proper2}
-use Rattle.rules.proofs.AtomicPages.{atomic-laws}
 use Rattle.history.specs.Demand3.{Row, settledIn}
 use Rattle.history.specs.Joined.{rowsJoined}
 use Rattle.history.specs.Called.{rowsCalled, Starts}
@@ -60,10 +57,3 @@ one-call-at-a-time f L view bytes proper x cs S P y ds S′ P′ e again = recor
   or-nothing = λ bad. ap (inOrder f (bytes x)) (rows-x f L view bytes proper x cs S P y ds S′ P′ e again) ∙ chained f L view bytes proper x cs S P y ds S′ P′ e again .or-nothing bad;
   records-same = records-same f L view bytes proper x cs S P y ds S′ P′ e again;
 }
-
--- of edition 1
-pub one-call-at-a-time-edition1 : {X : Type 0} (view : X → StateOf edition1) (bytes : X → List ℕ) (proper : X → Type 0) → One-call-at-a-time-holds edition1 view bytes proper
-one-call-at-a-time-edition1 = one-call-at-a-time edition1 (atomic-laws geometry1 proper1)
-
-pub one-call-at-a-time-edition2 : {X : Type 0} (view : X → StateOf edition2) (bytes : X → List ℕ) (proper : X → Type 0) → One-call-at-a-time-holds edition2 view bytes proper
-one-call-at-a-time-edition2 = one-call-at-a-time edition2 (atomic-laws geometry2 proper2)

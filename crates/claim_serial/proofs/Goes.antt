@@ -234,9 +234,6 @@ module _ (f : Form) (L : MediumLaws (f .geometry) (f .medium)) {s : StateOf f} (
   waiter w only t l q = clash (only w ∙ same-refl w) (ap (λ (j : ℕ). awaits (h .fate j)) q ∙ bears-not t l)
 
   -- a decision turns no label of a live transaction
-  abbrev τd : Bool → Bool → Root → Root
-  τd d b = decideTurn d b
-
   live-label : (d b : Bool) (j : ℕ) → decideTurn d b (at j) ≡ at j
   live-label d true j = refl
   live-label d false j = refl

@@ -8,10 +8,7 @@ use Rattle.rules.specs.State.{down}
 use Rattle.rules.specs.Form.{Form}
 use Rattle.rules.specs.Step.{StateOf}
 use Rattle.rules.specs.Portion.{Lent, chainFrom}
-use Rattle.rules.specs.Editions.{geometry1, edition1, geometry2, edition2}
 use Rattle.rules.proofs.Medium.{MediumLaws}
-use Rattle.rules.proofs.Editions.{proper1, proper2}
-use Rattle.rules.proofs.AtomicPages.{atomic-laws}
 use Rattle.history.specs.Demand3.{Row, settledIn}
 use Rattle.history.specs.Claims.{stateAfter, rowsAfter}
 use Rattle.history.specs.Joined.{rowsJoined}
@@ -57,10 +54,3 @@ one-chain-at-a-time f L sound store ls ls′ sized again = record {
   or-nothing = λ bad. ap (inOrder f store) (rows-are f L sound store sized ls) ∙ claim f L sound store sized ls ls′ again .or-nothing bad;
   records-same = records-same f L sound store sized ls ls′ again;
 }
-
--- of edition 1
-pub one-chain-at-a-time-edition1 : (sound : StateOf edition1 → Bool) → One-chain-at-a-time-holds edition1 sound
-one-chain-at-a-time-edition1 = one-chain-at-a-time edition1 (atomic-laws geometry1 proper1)
-
-pub one-chain-at-a-time-edition2 : (sound : StateOf edition2 → Bool) → One-chain-at-a-time-holds edition2 sound
-one-chain-at-a-time-edition2 = one-chain-at-a-time edition2 (atomic-laws geometry2 proper2)

@@ -62,8 +62,3 @@ writesOf tears g n p work store =
 -- a plan's page writes are those that the rules plan for an event, or for a bad one
 pub record Plans (tears : Bool) (g : Geometry) (n : ℕ) (x : Arrays) (e : Option Event) (p : Plan) : Type 0 where
   pub writes : writesOf tears g n p (x .work) (x .store) ≡ planFor tears g (view (formIn tears g) x) e
-
--- opens the definitions of this module: for what is proved by computing
-unfoldable pub open-phases : Unit {0}
-unfolding ofTop ofRecovery sourceOf when writesOf
-open-phases = tt

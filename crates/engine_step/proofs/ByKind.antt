@@ -1,26 +1,22 @@
 -- Events by their kind: what is refused before a transaction is looked at, and that every event keeps the arrays sound.
 use mathlib.Core.Path.{_≡_, refl, sym, ap, subst, subst⁻¹, _∙_}
 use mathlib.Core.Bool.{Bool, true, false, not, true≢false}
-use mathlib.Core.List.{List}
 use mathlib.Core.Logic.{_≢_}
 use mathlib.Core.Option.{Option, none, some}
 use Prim.Native.Nat.{ℕ, zero, suc, _^_, _<_}
 use native.Mathlib.Omega.{arith}
 use lib.Dec.{eqb·suc-zero}
-use lib.ListN.{length}
 use Rattle.laws.specs.Tests.{same}
 use Rattle.laws.proofs.Tests.{lt-under, same?, Same, is, isnt}
-use Rattle.rules.specs.Geometry.{Geometry, Proper, records, pageCount, cutCount}
-use Rattle.rules.specs.Store.{pagesOf}
+use Rattle.rules.specs.Geometry.{Geometry, Proper, records, cutCount}
 use Rattle.rules.specs.Event.{Event, begin, lock, write, read, commit, abort, crash, recover, prepare, decide, query, accessOf, reportOf, decisionOf, eventAt, fits}
 use Rattle.rules.specs.State.{live}
-use Rattle.rules.specs.Form.{Form, atomicPages}
+use Rattle.rules.specs.Form.{Form}
 use Rattle.rules.specs.Step.{refused, hasChild, StateOf, step}
 use Rattle.rules.specs.Sound.{Sound}
-use Rattle.rules.specs.Editions.{geometry1, Edition, geometryOf, mediumOf, formIn, InNumbers}
+use Rattle.rules.specs.Editions.{Edition, geometryOf, mediumOf, formIn, InNumbers}
 use Rattle.rules.proofs.Medium.{MediumLaws}
-use Rattle.rules.proofs.AtomicPages.{atomic-laws}
-use Rattle.rules.proofs.Editions.{proper1, medium-laws}
+use Rattle.rules.proofs.Editions.{medium-laws}
 use Rattle.rules.proofs.Soundness.{sound-step, sound-bad}
 use Rattle.rules.proofs.Waiting.{lock-waits, write-waits, read-waits}
 use Rattle.leaf_commit_page.proofs.Places.{laid}
@@ -34,13 +30,6 @@ use Rattle.state_whole.proofs.Rules.{begin-down, lock-down, write-down, read-do
 use Rattle.state_whole.proofs.Steps.{answer, unmoved, up-is, down-is, live-is}
 use Rattle.state_whole.proofs.Reserves.{reserves-kept}
 use Rattle.rules.proofs.Held.{isPlain}
-
-abbrev pub laws1 : MediumLaws geometry1 (atomicPages geometry1)
-laws1 = atomic-laws geometry1 proper1
-
-pub shaped-of : (store : List ℕ) → length store ≡ 1056 → laws1 .Shaped (pagesOf store)
-unfolding pageCount records
-shaped-of store h = laws1 .shaped-from store h
 
 -- a value that isn't 0 reports an abort
 pub report-is : (v : ℕ) → reportOf v ≡ not (same v 0)

@@ -51,12 +51,6 @@ demand-3-pairs = demand-3 editionPairs lawsPairs
 pub demand-3-joined-pairs : (sound : StateOf editionPairs → Bool) → Demand-3-joined-holds editionPairs sound
 demand-3-joined-pairs = demand-3-joined editionPairs lawsPairs
 
-pub reads-overlay-pairs : (store ws : List ℕ) → length store ≡ editionPairs .medium .size → Reads-overlay editionPairs store ws
-reads-overlay-pairs = reads-overlay editionPairs lawsPairs
-
-pub commit-survives-pairs : (store ws more : List ℕ) → length store ≡ editionPairs .medium .size → Commit-survives editionPairs store ws more
-commit-survives-pairs = commit-survives editionPairs lawsPairs
-
 -- a top transaction survives exactly if n = 0 or its count is at least n + 1, a torn write counting whose first copy is new
 pub survives-in-k-pairs : (store ws more : List ℕ) (w t k : ℕ) → length store ≡ editionPairs .medium .size → Survives-in-k editionPairs store ws more w t k
 survives-in-k-pairs = survives-torn geometryPairs proper-pairs refl

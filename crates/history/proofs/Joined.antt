@@ -10,10 +10,7 @@ use Rattle.rules.specs.Form.{Form}
 use Rattle.rules.specs.Step.{StateOf}
 use Rattle.rules.specs.Run.{play}
 use Rattle.rules.specs.Portion.{Lent, Chain, chain, chainFrom}
-use Rattle.rules.specs.Editions.{geometry1, edition1}
 use Rattle.rules.proofs.Medium.{MediumLaws}
-use Rattle.rules.proofs.Editions.{proper1}
-use Rattle.rules.proofs.AtomicPages.{atomic-laws}
 use Rattle.rules.proofs.Soundness.{reached-start}
 use Rattle.rules.proofs.Portions.{play-append, Carried, carried-start, Whole, chain-whole}
 use Rattle.history.specs.Demand3.{rows, history, settledIn, startOf}
@@ -89,7 +86,3 @@ module _ (f : Form) (M : MediumLaws (f .geometry) (f .medium)) (sound : StateOf 
         two-chains = λ ls′. independent-as g (startOf f store) (rows-joined store sized ls) end (rows-joined store sized ls′) (settled-joined store sized ls′)
             (words-independent f M store words (chainFrom f sound store ls′ .joined) (reached-start f M store sized));
       }
-
--- of edition 1
-pub demand-3-joined-edition1 : (sound : StateOf edition1 → Bool) → Demand-3-joined-holds edition1 sound
-demand-3-joined-edition1 = demand-3-joined edition1 (atomic-laws geometry1 proper1)

@@ -19,7 +19,6 @@ use Rattle.rules.specs.Form.{Form, atomic}
 use Rattle.rules.specs.Pairs.{shown, inPairs}
 use Rattle.rules.specs.Step.{StateOf, OutcomeOf, isTop, visible, ended, concluded, refusal, commitsTop, commits, act, judged, step}
 use Rattle.rules.specs.Run.{play}
-use Rattle.rules.specs.Editions.{geometry1, edition1}
 use Rattle.rules.proofs.Medium.{changedIn, stored, isClear, MediumLaws}
 use Rattle.rules.proofs.Acceptance.{commit-ok, commit-clear}
 use Rattle.rules.proofs.Reserved.{clear-of}
@@ -29,7 +28,6 @@ use Rattle.rules.proofs.Pairs.{reach}
 use Rattle.rules.proofs.PairedPages.{commit-made, paired-laws}
 use Rattle.rules.proofs.Soundness.{reached-start, reached-play}
 use Rattle.rules.proofs.Portions.{play-append}
-use Rattle.rules.proofs.Editions.{proper1}
 use Rattle.history.specs.History.{changedBy}
 use Rattle.history.specs.Claims.{stateAfter, historyAfter}
 use Rattle.history.specs.Survival.{reached, Survives-in-k}
@@ -123,7 +121,3 @@ survives-torn g proper tears = survives-of (inPairs g) (paired-laws g proper tea
     told s v k =
         ap (stored (changedIn g v)) (commit-made g s v k) ∙ commit-stored g (shown s) v (reach k)
         ∙ (unfold reach in ap (λ (b : Bool). same (changedIn g v) 0 || under (changedIn g v) (reached b k)) (sym tears))
-
--- of edition 1
-pub survives-in-k-edition1 : (store ws more : List ℕ) (w t k : ℕ) → length store ≡ edition1 .medium .size → Survives-in-k edition1 store ws more w t k
-survives-in-k-edition1 = survives-in-k geometry1 proper1 refl

@@ -6,8 +6,3 @@ use Rattle.laws.specs.Tests.{same}
 -- bit k of s, place 0 the least significant
 unfoldable pub bits : ℕ → ℕ → Bool
 bits s k = same (s / 2 ^ k % 2) 1
-
--- opens the definitions of this module: for what is proved by computing
-unfoldable pub open-bits : Unit {0}
-unfolding bits
-open-bits = tt

@@ -104,10 +104,6 @@ unfolding placeOf headOf same
 known-small n (inl e) = rw e (omega arith, omega arith, omega arith)
 known-small n (inr e) = rw e (omega arith, omega arith, omega arith)
 
-pub known-least : (n : ℕ) → Known n → 16 ≤ n
-known-least n (inl e) = omega arith
-known-least n (inr e) = omega arith
-
 state-small : (h : ℕ) (b : Bool) → h + 5 < 256 → h + cond b 0 5 < 256
 state-small h true k = omega arith
 state-small h false k = k

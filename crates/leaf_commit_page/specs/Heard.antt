@@ -23,8 +23,3 @@ overheard (some p) = record { map = p .map; identity = p .identity }
 -- of a commit page of any kind: whether it is damaged, and the map in force
 unfoldable pub understood : Geometry → Page → CommitMap
 understood g page = record { good = not (isDamaged (readCommit g page) && not (isPrepared (readPrepared g page))); map = mapIn (readCommit g page) }
-
--- opens the definitions of this module: for what is proved by computing
-unfoldable pub open-heard : Unit {0}
-unfolding heard overheard understood
-open-heard = tt

@@ -62,8 +62,3 @@ pub record Fits (e : Event) : Type 0 where
   pub offset : e .offset < 32
   pub count : e .count < 64
   pub value : e .value < 256
-
--- opens the definitions of this module: for what is proved by computing
-unfoldable pub open-meaning : Unit {0}
-unfolding fieldsOf meaning apart
-open-meaning = tt

@@ -23,8 +23,3 @@ transactionOf t = min (t .0) 23
 
 unfoldable pub recordOf : RecordNumber → ℕ
 recordOf r = min (r .0) 63
-
--- opens the definitions of this module: for what is proved by computing
-unfoldable pub open-named : Unit {0}
-unfolding transactionNamed recordNamed transactionOf recordOf
-open-named = tt

@@ -8,8 +8,3 @@ use Rattle.laws.specs.Bits.{bits}
 -- the members of the set at place r; past the end there are none
 unfoldable pub sets : List ℕ → ℕ → ℕ → Bool
 sets l r = bits (getD l r 0)
-
--- opens the definitions of this module: for what is proved by computing
-unfoldable pub open-sets : Unit {0}
-unfolding sets
-open-sets = tt

@@ -13,13 +13,12 @@ use Rattle.rules.specs.Geometry.{Geometry, Proper, records, pageCount}
 use Rattle.rules.specs.Store.{Pages, intention, commitPage, readCommit, isDamaged, isEmptied, emptied, Prepared, readPrepared, identityIn, preparedMap, isReserved, pending, settled}
 use Rattle.rules.specs.Versions.{isSome, else}
 use Rattle.rules.specs.Commit.{Cut, cutAt, decideWrites, recoverAt, decideAt}
-use Rattle.rules.proofs.CommitPage.{commitPage-length}
 use Rattle.rules.proofs.PreparedPage.{read-unprepared, not-prepared}
 use Rattle.rules.proofs.Members.{those-below}
 use Rattle.rules.proofs.Shows.{shows-mark, settled-shows, names-empty, emptied-zero}
 use Rattle.rules.proofs.Cuts.{home-of, start}
 use Rattle.rules.proofs.Prepares.{reserves, ruled, ruled-page, ruled-read, ruled-settled, commits-first, commits-then, aborts-first, aborts-then}
-use Rattle.rules.proofs.Pages.{Sized, updated-sized}
+use Rattle.rules.proofs.Pages.{Sized}
 use Rattle.rules.proofs.Writable.{fit-take, applied-sized, Writable, fit-decide}
 use Rattle.rules.proofs.AtomicCommits.{home-unread, recover-whole, recover-keeps, Agree, agree-recover, recover-unmoved}
 
@@ -55,10 +54,6 @@ module _ (g : Geometry) where
     struck-settled s p r e =
         settled-shows g (shows-mark g (start g s) (commitPage g 0)) r
         ∙ rw (names-empty g (commitPage g 0) (emptied-zero g proper) r) (sym (home-unread g proper s r p e))
-
-    ruled-sized : (s : Pages) (p : Prepared) (e : readPrepared g (s 0) ≡ some p) → Sized (pageCount g) s → Sized (pageCount g) (ruled g proper s p e)
-    unfolding ruled pageCount
-    ruled-sized s p e S = updated-sized (pageCount g) s 0 (commitPage g (p .map)) (omega arith) (commitPage-length g (p .map)) S
 
     ruled-free : (s : Pages) (p : Prepared) (e : readPrepared g (s 0) ≡ some p) → readPrepared g (ruled g proper s p e 0) ≡ none
     ruled-free s p e = read-unprepared g proper (ruled g proper s p e 0) (p .map) (ruled-read g proper s p e)

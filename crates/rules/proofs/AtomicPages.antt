@@ -72,10 +72,6 @@ module _ (g : Geometry) where
     unfolding atomic-laws
     shaped-sized s S = S
 
-    pub sized-shaped : (s : Pages) → Sized (pageCount g) s → atomic-laws .Shaped s
-    unfolding atomic-laws
-    sized-shaped s S = S
-
     -- stores that agree have the same commit page
     pub agree-first : (s c : Pages) → atomic-laws .Agree s c → c 0 ≡ s 0
     unfolding atomic-laws Agree

@@ -79,17 +79,6 @@ module _ (w : ℕ) where
           let m = at-most p n l in
           front (flat n s) (s n) p (omega (arith, flat-length n s sizes)) ∙ ih l
 
-  -- cells, as bytes, are those cells again
-  pub cellsOf-flat : (n : ℕ) (s : ℕ → List ℕ) → Celled n s → cellsOf (flat n s) ≡ s
-  cellsOf-flat n s S = fun-ext λ p. go p (is? (under p n))
-    where
-      len : length (flat n s) ≡ n * w
-      len = flat-length n s (S .full) ∙ mul-comm w n
-
-      go : (p : ℕ) → Is (under p n) → cellsOf (flat n s) p ≡ s p
-      go p (yes′ k) = flat-cell n s (S .full) p (under-lt p n k)
-      go p (no′ k) = cellsOf-celled n (flat n s) len .beyond p (not-under p n k) ∙ sym (S .beyond p (not-under p n k))
-
   -- a cell put in place in the bytes is a change of that cell, and of no other
   module _ (n : ℕ) (new bs : List ℕ) (whole : length new ≡ w) (inside : w * n + w ≤ length bs) where
     put : List ℕ

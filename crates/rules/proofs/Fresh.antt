@@ -1,18 +1,17 @@
--- A fresh store, laid as bytes: it has the store's size, an empty commit page, and zeros for every record.
+-- A fresh store, laid as bytes: it has an empty commit page, and zeros for every record.
 use mathlib.Core.Path.{_≡_, _∙_, ap}
 use mathlib.Core.Bool.{Bool, true, false, cond}
-use Prim.Native.Nat.{ℕ, _+_, _*_, _<_}
-use native.Mathlib.Nat.{mul-comm}
+use Prim.Native.Nat.{ℕ, _+_, _<_}
 use native.Mathlib.Omega.{arith}
 use lib.ListN.{length, length-replicate}
 use Rattle.laws.specs.Tests.{same}
 use Rattle.laws.proofs.Tests.{same?, Same, is, isnt, same-refl}
-use Rattle.rules.specs.Geometry.{Geometry, Proper, pageSize, records, pageCount}
+use Rattle.rules.specs.Geometry.{Geometry, Proper, records, pageCount}
 use Rattle.rules.specs.Store.{Pages, pagesOf, flat, blank, home, commitPage, readCommit, isEmptied, emptied, settled, fresh}
 use Rattle.rules.proofs.CommitPage.{commitPage-length}
 use Rattle.rules.proofs.Shows.{emptied-zero}
 use Rattle.rules.proofs.Cuts.{home-settled}
-use Rattle.rules.proofs.Pages.{flat-length, flat-page}
+use Rattle.rules.proofs.Pages.{flat-page}
 
 module _ (g : Geometry) where
   -- the pages that the bytes of a fresh store spell
@@ -26,9 +25,6 @@ module _ (g : Geometry) where
       go : (b : Bool) → length (cond b (commitPage g 0) blank) ≡ 32
       go true = commitPage-length g 0
       go false = length-replicate {A = ℕ} 32 0
-
-  pub fresh-length : length (flat (pageCount g) (fresh g)) ≡ pageCount g * pageSize
-  fresh-length = flat-length (pageCount g) (fresh g) fresh-full ∙ mul-comm 32 (pageCount g)
 
   pub laid-page : (p : ℕ) → p < pageCount g → laid p ≡ fresh g p
   unfolding laid

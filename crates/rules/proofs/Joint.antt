@@ -8,8 +8,8 @@ use mathlib.Core.Option.{Option, none, some}
 use Prim.Native.Nat.{ℕ}
 use Rattle.laws.proofs.Tests.{same-refl, ne-false}
 use Rattle.laws.proofs.Booleans.{or-left}
-use Rattle.rules.specs.Event.{Event, Access, lock, commit, crash, prepare, decide, query}
-use Rattle.rules.specs.State.{lineOf, live, down}
+use Rattle.rules.specs.Event.{Event, Access, lock, commit, prepare, decide, query}
+use Rattle.rules.specs.State.{lineOf, live}
 use Rattle.rules.specs.Locks.{grantable}
 use Rattle.rules.specs.Form.{Form}
 use Rattle.rules.specs.Step.{done, firstOf, hasChild, isFor, isTop, StateOf, changes, busy, reserved, refusals, refusal, finished, decides, act, judged, step}
@@ -44,11 +44,6 @@ pub is-for : (i : ℕ) (o : Option ℕ) → o ≡ some i → isFor i o ≡ true
 is-for i o h = ap (isFor i) h ∙ unfold isFor in same-refl i
 
 module _ (f : Form) (s : StateOf f) where
-  -- a crash leaves the store as it is: what is prepared stays so
-  pub crash-keeps : step f s (some crash) .state .store ≡ s .store
-  unfolding step judged refusal refusals act finished down
-  crash-keeps = ap (λ (o : Option ℕ). judged f s crash o .state .store) (ends refl)
-
   -- while down nothing is prepared, decided or told
   pub prepare-down : (t k i : ℕ) → s .up ≡ false → Refused f s (prepare t k i) 2
   unfolding refusal refusals

@@ -130,13 +130,6 @@ module _ {f : Form} {s : StateOf f} (S : Sound f s) where
   pub line-apart : (j k : ℕ) → mem j (lineOf (s .bearer) k) ≡ true → j ≢ k → depthIn (s .bearer j) < depthIn (s .bearer k)
   line-apart j k e n = rw (← line-length (s .bearer) j, ← line-length (s .bearer) k) (shorter tree-of j k e n)
 
-  pub depths-apart : (j k r : ℕ) → isSome (s .version j r) ≡ true → isSome (s .version k r) ≡ true → j ≢ k → depthIn (s .bearer j) ≢ depthIn (s .bearer k)
-  unfolding inLine
-  depths-apart j k r v w n q =
-      or-cases (mem j (lineOf (s .bearer) k)) (mem k (lineOf (s .bearer) j)) (versions-in-line j k r v w)
-      (λ e. let h = line-apart j k e n in omega arith)
-      (λ e. let h = line-apart k j e (λ d. n (sym d)) in omega arith)
-
   -- a transaction with a live descendant has a live child
   pub no-child : (x : ℕ) → hasChild s x ≡ false → (z : ℕ) → z ≢ x → mem x (lineOf (s .bearer) z) ≡ false
   unfolding hasChild lineOf live

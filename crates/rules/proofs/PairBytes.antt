@@ -140,9 +140,6 @@ pub from-to : (n : ℕ) (s : Pairs) → SizedPairs n s → pairsOf (flatPairs n 
 unfolding pairsOf flatPairs cellsOf
 from-to n s S = fun-ext (λ p. go p (is? (under p n)))
   where
-    cells : ℕ → List ℕ
-    cells p = pairBytes (s p)
-
     sizes : (p : ℕ) → p < n → length (pairBytes (s p)) ≡ 66
     sizes p k = pair-length (s p) (S .full p k)
 

@@ -18,22 +18,6 @@ use Rattle.rules.specs.Commit.{PageWrite, sets, written, applied}
 use Rattle.rules.specs.Pairs.{Pair, Pairs, isGood, good, bad, whole, shows, shown, allBad, isWhole, mend, torn, isNew, counted, putAll, tearFirst, cutPairs}
 use Rattle.rules.proofs.Shows.{applied-append}
 
--- the copies of a pair, good or bad
-data Copies (c : Pair) : Type 0 where
-  two : isGood (c .first) ≡ true → isGood (c .second) ≡ true → Copies c
-  one : isGood (c .first) ≡ true → isGood (c .second) ≡ false → Copies c
-  other : isGood (c .first) ≡ false → isGood (c .second) ≡ true → Copies c
-  none : isGood (c .first) ≡ false → isGood (c .second) ≡ false → Copies c
-
-copies? : (c : Pair) → Copies c
-copies? c = go (is? (isGood (c .first))) (is? (isGood (c .second)))
-  where
-    go : Is (isGood (c .first)) → Is (isGood (c .second)) → Copies c
-    go (yes′ a) (yes′ b) = two a b
-    go (yes′ a) (no′ b) = one a b
-    go (no′ a) (yes′ b) = other a b
-    go (no′ a) (no′ b) = none a b
-
 -- a pair that a torn write can't change but for the write: good and alike, or all bad
 pub data Steady (c : Pair) : Type 0 where
   alike : isWhole c ≡ true → Steady c

@@ -22,11 +22,6 @@ unfolding lastOf
 last-behind w [] x = refl
 last-behind w (y ∷ ys) x = last-behind y ys x
 
--- a list of page writes that is cut at 0 makes none
-pub cut-at-none : (ws : List PageWrite) (s : Pages) → cutAt 0 ws s .store ≡ s
-unfolding cutAt applied
-cut-at-none ws s = refl
-
 module _ (g : Geometry) where
   -- a prepare of n records takes n + 1 page writes, its last is the prepared page
   pub prepare-last : (new : ℕ → Page) (p : Prepared) (r : ℕ) (rs : List ℕ) (w : PageWrite) → lastOf w (prepareWrites g new p (r ∷ rs)) ≡ sets 0 (preparedPage g p)

@@ -17,7 +17,6 @@ use Rattle.rules.specs.State.{mem, down}
 use Rattle.rules.specs.Form.{Form}
 use Rattle.rules.specs.Step.{Answer, numberOf, valueOf, StateOf, firstOf, step}
 use Rattle.rules.specs.Run.{Played, words, answerBytes, play, eventsIn, runRefusals, runAll, runBy, run}
-use Rattle.rules.specs.Sound.{Sound}
 use Rattle.rules.specs.Portion.{Lent, Finds, wordsIn, Portion, portionRefusals, portionAll, portionBy, portion, added, addedAnswers, next, chain, chainFrom, Takes}
 use Rattle.rules.proofs.Medium.{MediumLaws}
 use Rattle.rules.proofs.Soundness.{Reached, reached-start, reached-play}
@@ -138,25 +137,6 @@ module _ (f : Form) where
   unfolding portion portionBy portionRefusals firstOf
   sound-played s store events work answers h = ap (portionBy f s store events answers) (first-else (runRefusals f store events work answers) ((25, false) ∷ []) h)
 
-  -- a portion that does not answer 0 is refused: it changes nothing, and adds nothing to the joined list
-  pub refused-portion : (sound : Bool) (s : StateOf f) (store : List ℕ) (l : Lent) → let p = portion f sound s store (l .events) (l .work) (l .answers) in
-      p .answer ≢ 0 → (p .state ≡ s) × (p .store ≡ store) × (p .answers ≡ l .answers) × (added f p l ≡ []) × (addedAnswers f p l ≡ [])
-  unfolding added addedAnswers portionAll
-  refused-portion sound s store l h = go (case? sound s store (l .events) (l .work) (l .answers))
-    where
-      p : Portion f
-      p = portion f sound s store (l .events) (l .work) (l .answers)
-
-      go : Case sound s store (l .events) (l .work) (l .answers) → (p .state ≡ s) × (p .store ≡ store) × (p .answers ≡ l .answers) × (added f p l ≡ []) × (addedAnswers f p l ≡ [])
-      go (plays q e) = absurd (h (ap (λ (x : Portion f). x .answer) e))
-      go (refuses n q z e) = (
-        ap (λ (x : Portion f). x .state) e,
-        ap (λ (x : Portion f). x .store) e,
-        ap (λ (x : Portion f). x .answers) e,
-        ap (λ (x : Portion f). added f x l) e ∙ ap (λ (b : Bool). cond b (wordsIn f (l .events)) []) z,
-        ap (λ (x : Portion f). addedAnswers f x l) e ∙ ap (λ (b : Bool). cond b (take (2 * eventsIn f (l .events)) (l .answers)) []) z,
-      )
-
   -- a portion that is played gives its answers to its events, and leaves the answer bytes behind them
   pub answers-all : (s : StateOf f) (events answers : List ℕ) → take (2 * eventsIn f events) (portionAll f s events answers .answers) ≡ answerBytes (play f s (wordsIn f events) .answers)
   unfolding portionAll wordsIn
@@ -188,10 +168,6 @@ module _ (f : Form) (M : MediumLaws (f .geometry) (f .medium)) where
   pub carried-start : (store : List ℕ) → length store ≡ f .medium .size → Carried (down (f .medium .fromBytes store)) store
   unfolding down
   carried-start store sized = record { reached = reached-start f M store sized; reads = refl; writes = M .to-from store sized }
-
-  -- any words on a sound state, reachable or not, lead to a sound state
-  pub sound-words : (s : StateOf f) → Reached f M s → (ws : List ℕ) → Sound f (play f s ws .state)
-  sound-words s R ws = reached-play f M s R ws .sound
 
   carried-all : (s : StateOf f) (events answers : List ℕ) → Reached f M s → let p = portionAll f s events answers in Carried (p .state) (p .store)
   unfolding portionAll
@@ -270,18 +246,6 @@ module _ (f : Form) (M : MediumLaws (f .geometry) (f .medium)) where
           state = rest .state ∙ ap (λ (x : Played f). x .state) e ∙ sym (both .state);
           carried = rest .carried;
         }
-
-    -- two chains with one joined list, cut in any two ways, leave the same
-    pub same-joined : (s : StateOf f) (store : List ℕ) (ls ls′ : List Lent) → Carried s store → let a = chain f sound s store ls in let b = chain f sound s store ls′ in
-        a .joined ≡ b .joined → (a .answers ≡ b .answers) × (a .state ≡ b .state) × (a .store ≡ b .store)
-    same-joined s store ls ls′ C e =
-        let A = chain-whole s store ls C in
-        let B = chain-whole s store ls′ C in
-        let states = A .state ∙ ap (λ (ws : List ℕ). play f s ws .state) e ∙ sym (B .state) in (
-          A .answers ∙ ap (λ (ws : List ℕ). answerBytes (play f s ws .answers)) e ∙ sym (B .answers),
-          states,
-          sym (A .carried .writes) ∙ ap (λ (t : StateOf f). f .medium .toBytes (t .store)) states ∙ B .carried .writes,
-        )
 
     -- soundness is kept, so no portion of a chain is refused with 25
     pub never-25 : Takes f sound → (s : StateOf f) (store : List ℕ) (ls : List Lent) → Carried s store → mem 25 (chain f sound s store ls .results) ≡ false

@@ -114,11 +114,6 @@ module _ (g : Geometry) where
       go (yes′ k) = under-lt r (records g) k
       go (no′ k) = absurd (false≢true (rw k at e))
 
-  -- only records are named
-  pub isNamed-below : (s : Pages) (r : ℕ) → isNamed g s r ≡ true → r < records g
-  unfolding isNamed names
-  isNamed-below s r e = names-below (s 0) r e
-
   pub settled-shows : {x : Pages} {mark : Page} {plan homed : ℕ → Page} → Shows x mark plan homed → (r : ℕ) → settled g x r ≡ cond (names mark r) (plan r) (homed r)
   unfolding settled isNamed names
   settled-shows {x} {mark} {plan} {homed} S r = rw (S .at-mark) (go (is? (names mark r)))

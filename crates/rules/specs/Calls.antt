@@ -65,8 +65,3 @@ module _ (f : Form) {X : Type 0} where
     abbrev pub AllPromised : X → List (Call X) → Type 0
     AllPromised x [] = Unit {0}
     AllPromised x (c ∷ cs) = Promised x c × AllPromised (c .after) cs
-
--- opens the definitions of this module: for what is proved by computing
-unfoldable pub open-calls : Unit {0}
-unfolding lents results left joinedOf answersOf
-open-calls = tt

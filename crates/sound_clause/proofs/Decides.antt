@@ -29,10 +29,6 @@ decides-true p = record { yes = λ e. p; no = λ e q. true≢false e }
 pub decides-self : (b : Bool) → Decides b (b ≡ true)
 decides-self b = record { yes = λ e. e; no = λ e f. clash f e }
 
-pub decides-not : (b : Bool) → Decides (not b) (b ≡ false)
-decides-not true = record { yes = λ e. absurd (false≢true e); no = λ e f. true≢false f }
-decides-not false = record { yes = λ e. refl; no = λ e f. true≢false e }
-
 pub decides-and : {a b : Bool} {P Q : Type 0} → Decides a P → Decides b Q → Decides (a && b) (P × Q)
 decides-and {a = true} d e = record { yes = λ h. (d .yes refl, e .yes h); no = λ h x. e .no h (x .1) }
 decides-and {a = false} d e = record { yes = λ h. absurd (false≢true h); no = λ h x. d .no refl (x .0) }

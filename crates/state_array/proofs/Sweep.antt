@@ -6,11 +6,9 @@ use mathlib.Core.Logic.{dite}
 use native.Mathlib.Decide.{decLt}
 use Prim.Native.Nat.{ℕ, _+_, _≤_, _<_}
 use native.Mathlib.Omega.{arith}
-use native.Mathlib.Numerals.{add-one}
 use lib.ListN.{length, getD, set, length-set, List·getD-eq-default}
 use lib.Seq.{getD-set-same, getD-set-other}
 use Rattle.laws.specs.Tests.{same}
-use Rattle.laws.specs.Counting.{any}
 use Rattle.laws.specs.Functions.{updated}
 use Rattle.laws.specs.Bits.{bits}
 use Rattle.laws.proofs.Tests.{same?, Same, is, isnt}
@@ -128,11 +126,6 @@ clearing-all gone l l₀ i C h = record { are = swept-all (C .swept) (λ k le. p
 pub cleared-one : (l : List ℕ) (t : ℕ) → length l ≡ 24 → t < 24 → Cleared (λ k. same k t) l (set l t 0)
 unfolding cleared updated
 cleared-one l t e h = let a = clear-is true l (set l t 0) t (omega arith) refl in record { are = a .0; long = a .1 ∙ e }
-
--- Some number passes.
-pub any-more : (p : ℕ → Bool) (n : ℕ) (b : Bool) → b ≡ any n p → (b || p n) ≡ any (n + 1) p
-unfolding any
-any-more p n b e = ap (λ (x : Bool). x || p n) e ∙ sym (ap (λ (m : ℕ). any m p) (add-one n))
 
 -- A set that is filled in order.
 pub fills-more : (goal : ℕ → Bool) (m m′ i : ℕ) (b : Bool) → Swept (bits m) (λ k. false) goal i → b ≡ goal i

@@ -80,8 +80,3 @@ cleared gone f k = cond (gone k) 0 (f k)
 pub record Cleared (gone : ℕ → Bool) (l l′ : List ℕ) : Type 0 where
   pub are : places l′ ≡ cleared gone (places l)
   pub long : length l′ ≡ 24
-
--- opens the definitions of this module: for what is proved by computing
-unfoldable pub open-changes : Unit {0}
-unfolding accessWhen barring openTo joined joinedFor less leaving heirsOf inheriting handed reporting places cleared
-open-changes = tt

@@ -53,8 +53,3 @@ versionsOf depth writers work t r = cond (sets writers r t) (some (pagesOf work 
 unfoldable pub seen : List ℕ → List ℕ → List ℕ → List ℕ → Page → ℕ → ℕ → Page
 seen parent depth writers work base t r =
     nearest (versionsOf depth writers work) base r (lineOf (bearersOf parent depth) t)
-
--- opens the definitions of this module: for what is proved by computing
-unfoldable pub open-view : Unit {0}
-unfolding bearerAt bearersOf anyMode writeMode modeOf modesOf slot versionsOf seen
-open-view = tt

@@ -3,5 +3,4 @@ pub mod Room
 pub mod Understood
 pub mod Sweeps
 pub mod Plans
-pub mod Arguments
 pub mod Prepares

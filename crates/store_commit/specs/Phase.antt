@@ -2,7 +2,7 @@
 use mathlib.Core.Bool.{Bool, true, false, not, cond, _&&_}
 use mathlib.Core.List.{List, [], _∷_, map}
 use mathlib.Core.Option.{Option, none, some}
-use Prim.Native.Nat.{ℕ, _+_, _-_, _*_}
+use Prim.Native.Nat.{ℕ, _+_, _*_}
 use Rattle.laws.specs.Tests.{under}
 use Rattle.laws.specs.Counting.{those}
 use Rattle.rules.specs.Geometry.{Geometry, records}
@@ -38,8 +38,3 @@ versionsIn g map work r = cond (under r (records g) && named g map r) (some (top
 abbrev pub understoodIn : (tears : Bool) → Geometry → StoreOf tears → CommitMap
 understoodIn false g s = understood g (s 0)
 understoodIn true g s = record { good = not (damagedPairs g s); map = mapIn (readCommit g (shown s 0)) }
-
--- opens the definitions of this module: for what is proved by computing
-unfoldable pub open-phase : Unit {0}
-unfolding due sweep copies topSlot versionsIn
-open-phase = tt

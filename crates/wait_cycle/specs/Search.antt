@@ -39,8 +39,3 @@ pub record Walked (p : Pointings) (path : List ℕ) (n t : ℕ) : Type 0 where
   pub long : length path ≡ 24
   pub path-to : Path p (take n path) t
   pub again : mem t (take n path) ≡ true
-
--- opens the definitions of this module: for what is proved by computing
-unfoldable pub open-search : Unit {0}
-unfolding goesOn trail
-open-search = tt

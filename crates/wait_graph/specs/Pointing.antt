@@ -54,7 +54,3 @@ numberIn lives w = cond (not (lives (w .transaction))) 5 (cond (not (under (w .r
 unfoldable pub numbersIn : (ℕ → Bool) → List ℕ → ℕ → ℕ → ℕ
 numbersIn lives words i zero = 0
 numbersIn lives words i (suc n) = cond (same (numberIn lives (rowOf (getD words i 0))) 0) (numbersIn lives words (suc i) n) (numberIn lives (rowOf (getD words i 0)))
-
-unfoldable pub open-pointing : Unit {0}
-unfolding blockersAt reached waitedOn rowIn rowsIn numberIn numbersIn
-open-pointing = tt

@@ -1,6 +1,6 @@
 -- Rows of a lent slice are read one by one, and copied by value: a walk of the code, by hand. The slice is looked into once, before the loop, and shut once, after it.
 use mathlib.Core.Path.{_≡_, refl, sym, _∙_, ap, subst}
-use Prim.Native.Nat.{ℕ, zero, suc, _+_, _*_, _-_, _<_, _≤_, _^_}
+use Prim.Native.Nat.{ℕ, zero, suc, _+_, _*_, _-_, _<_, _^_}
 use native.Mathlib.Nat.{zero-add, lt-suc-self, lt-irrefl}
 use native.Mathlib.Numerals.{add-one}
 use native.Mathlib.Omega.{arith}
@@ -109,9 +109,6 @@ fails false _ = refl
 
 offset-fits : (i n : ℕ) → i < n → n * 3 < 2 ^ 63 → i * 3 < 2 ^ 64
 offset-fits i n l g = omega arith
-
-small-fits : (i : ℕ) → i ≤ 24 → i < 2 ^ 64
-small-fits i l = omega arith
 
 step-fits : (i : ℕ) → i < 24 → i + 1 < 2 ^ 64
 step-fits i l = omega arith
