@@ -22,7 +22,7 @@ use Rattle.audit_link.specs.Links.{fateOf, passedOf, entryAt, fateIn, passedIn}
 use Rattle.audit_bearer.specs.Tables.{Tables, Matched, Ending, takes, tables, ledgerOf}
 use Rattle.audit_bearer.proofs.Change.{entries-set, fates-set, passes-set, fate-bears}
 use Rattle.audit_bearer.proofs.Matching.{number-small, matched-end}
-use Rattle.audit_event.specs.Step.{Audited, Before, Ready}
+use Rattle.audit_event.specs.Step.{Audited, Before, BearerReady}
 use Rattle.audit_event.proofs.Still.{grants-still, writes-still, due-accepted}
 use Rattle.audit_event.proofs.Aborts.{after-consistent, everyone}
 use Rattle.audit_event.proofs.Ends.{fates-after, passes-after, bearers-after}
@@ -145,7 +145,7 @@ module _ {fate bearer : List ℕ} {begun : ℕ} (S : Matched fate bearer begun) 
   pub one-passes : passedIn (set fate me new) ≡ updated me (passedOf new) (passedIn fate)
   one-passes = passes-set fate me new inside
 
-module _ (start : ℕ → Page) (owner parent fate bearer events store : List ℕ) (begun n t me k : ℕ) (R : Ready (tables owner parent fate bearer begun true) t me)
+module _ (start : ℕ → Page) (owner parent fate bearer events store : List ℕ) (begun n t me k : ℕ) (R : BearerReady (tables owner parent fate bearer begun true) t me)
     (B : Before events n (some (commit t k)) (tables owner parent fate bearer begun true)) (room : begun < 4097)
     (alone : isParent (ledgerOf (tables owner parent fate bearer begun true) events n .story) me ≡ false) where
   abbrev b : Tables

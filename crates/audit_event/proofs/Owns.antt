@@ -19,12 +19,12 @@ use Rattle.rules.specs.Step.{done, numberOf, valueOf, firstOf}
 use Rattle.rules.specs.Editions.{geometry1, edition1}
 use Rattle.history.specs.History.{told, effectOf, effect, after, overlaid}
 use Rattle.history.specs.Claims.{seenBy}
-use Rattle.audit_rules.specs.Plain.{Ledger, borne, isParent, blocks, locksOf, learned, passedBy, grantsBy, upBy, readBy, dueRefusals, dueDone, dueTo, dueBy, due}
+use Rattle.audit_rules.specs.Plain.{Ledger, borne, isParent, grantBlocks, locksOf, learned, passedBy, grantsBy, upBy, readBy, dueRefusals, dueDone, dueTo, dueBy, due}
 use Rattle.audit_link.specs.Links.{entryAt, showsTo}
 use Rattle.audit_scan.specs.Scans.{modeTest, withGrant, withWrite, grantsTo, writesUpTo}
 use Rattle.audit_bearer.specs.Tables.{Tables, tables, ledgerOf}
 use Rattle.audit_bearer.proofs.Change.{entry-set}
-use Rattle.audit_event.specs.Step.{Consistent, Audited, Before, Ready}
+use Rattle.audit_event.specs.Step.{Consistent, Audited, Before, BearerReady}
 use Rattle.audit_event.proofs.Still.{grants-before, writes-before, ledger-still, consistent-still, refused-audited, due-accepted}
 
 -- the modes that bar what a lock's value asks for
@@ -48,7 +48,7 @@ module _ (start : ℕ → Page) (owner parent fate bearer events store : List �
   abbrev l : Ledger
   l = ledgerOf b events n
 
-  module _ (R : Ready b t me) (alone : isParent (l .story) me ≡ false) where
+  module _ (R : BearerReady b t me) (alone : isParent (l .story) me ≡ false) where
     bears : l .story .bearer t ≡ me
     unfolding ledgerOf tables entryAt
     bears = R .bears
@@ -102,15 +102,15 @@ module _ (start : ℕ → Page) (owner parent fate bearer events store : List �
     childless : isParent (l .story) (l .story .bearer t) ≡ false
     childless = ap (isParent (l .story)) bears ∙ alone
 
-    barred : (r : ℕ) (a : Access) → locksOf (bars a) (blocks l (l .story .bearer t)) r (l .grants) ≡ locksOf (bars a) (blocks l me) r (l .grants)
-    barred r a = ap (λ (i : ℕ). locksOf (bars a) (blocks l i) r (l .grants)) bears
+    barred : (r : ℕ) (a : Access) → locksOf (bars a) (grantBlocks l (l .story .bearer t)) r (l .grants) ≡ locksOf (bars a) (grantBlocks l me) r (l .grants)
+    barred r a = ap (λ (i : ℕ). locksOf (bars a) (grantBlocks l i) r (l .grants)) bears
 
     -- a lock
-    pub lock-8 : (r : ℕ) (a : Access) → locksOf (bars a) (blocks l me) r (l .grants) ≡ true → Before events n (some (lock t r a)) b → Audited start events n b store (some (lock t r a)) 8 0 b store
+    pub lock-8 : (r : ℕ) (a : Access) → locksOf (bars a) (grantBlocks l me) r (l .grants) ≡ true → Before events n (some (lock t r a)) b → Audited start events n b store (some (lock t r a)) 8 0 b store
     unfolding dueRefusals firstOf ledgerOf tables
     lock-8 r a q B = refused-audited start events n b store (lock t r a) 8 (rw (alive, childless, barred r a, q)) B
 
-    pub lock-0 : (r : ℕ) (a : Access) → locksOf (bars a) (blocks l me) r (l .grants) ≡ false → (B : Before events n (some (lock t r a)) b) → n < 4096
+    pub lock-0 : (r : ℕ) (a : Access) → locksOf (bars a) (grantBlocks l me) r (l .grants) ≡ false → (B : Before events n (some (lock t r a)) b) → n < 4096
         → Audited start events n b store (some (lock t r a)) 0 0 (tables (set owner n me) parent fate bearer begun true) store
     unfolding numberOf valueOf dueRefusals firstOf dueBy dueTo dueDone ledgerOf tables
     lock-0 r a q B small =
@@ -155,9 +155,9 @@ module _ (start : ℕ → Page) (owner parent fate bearer events store : List �
         due-accepted start events n b store (read t r o) (rw (is-up, alive, bears, alone, q)) ∙ ap (λ (x : ℕ). record { answer = done x; store = pagesOf store }) (sym (z ∙ ap (λ (p : Page). getD p o 0) (reads-are r))) in
         record { numbered = rw w; valued = rw w; stored = rw w; learns = rw w (ledger-still b events n (B .consistent) ∙ read-ledger r o v); consistent = consistent-still (B .consistent) }
 
-  pub lock-told : (r v : ℕ) (hit : Bool) → hit ≡ locksOf (modeTest (same v 0)) (blocks l me) r (grantsTo owner events n) → locksOf (bars (accessOf v)) (blocks l me) r (l .grants) ≡ hit
+  pub lock-told : (r v : ℕ) (hit : Bool) → hit ≡ locksOf (modeTest (same v 0)) (grantBlocks l me) r (grantsTo owner events n) → locksOf (bars (accessOf v)) (grantBlocks l me) r (l .grants) ≡ hit
   unfolding ledgerOf tables
-  lock-told r v hit e = ap (λ (test : Mode → Bool). locksOf test (blocks l me) r (grantsTo owner events n)) (sym (bars-is v)) ∙ sym e
+  lock-told r v hit e = ap (λ (test : Mode → Bool). locksOf test (grantBlocks l me) r (grantsTo owner events n)) (sym (bars-is v)) ∙ sym e
 
   pub write-told : (r : ℕ) (hit : Bool) → hit ≡ locksOf (modeTest false) (λ i. same i me) r (grantsTo owner events n) → locksOf isWriting (λ i. same i me) r (l .grants) ≡ hit
   unfolding ledgerOf tables

@@ -17,7 +17,7 @@ use Rattle.leaf_event.proofs.Meaning.{means-bad, means-begin, means-lock, means
 use Rattle.audit_rules.specs.Plain.{Ledger, borne, isParent, dueRefusals}
 use Rattle.audit_link.specs.Links.{entryAt}
 use Rattle.audit_bearer.specs.Tables.{Tables, tables, ledgerOf}
-use Rattle.audit_event.specs.Step.{Audited, Before, Ready}
+use Rattle.audit_event.specs.Step.{Audited, Before, BearerReady}
 use Rattle.audit_event.proofs.Still.{refused-audited, bad-audited}
 
 module _ (start : ℕ → Page) (owner parent fate bearer events store : List ℕ) (begun n : ℕ) where
@@ -85,7 +85,7 @@ module _ (start : ℕ → Page) (owner parent fate bearer events store : List �
     unknown-is (suc (suc (suc (suc (suc (suc (suc k))))))) q h g B = absurd (omega (arith, g))
 
   -- a live child
-  module _ (x : Fields) (me : ℕ) (R : Ready (B′ true) (x .transaction) me) (child : isParent (ledgerOf (B′ true) events n .story) me ≡ true) where
+  module _ (x : Fields) (me : ℕ) (R : BearerReady (B′ true) (x .transaction) me) (child : isParent (ledgerOf (B′ true) events n .story) me ≡ true) where
     abbrev l : Ledger
     l = ledgerOf (B′ true) events n
 

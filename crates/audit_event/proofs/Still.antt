@@ -14,7 +14,7 @@ use Rattle.rules.specs.Step.{refused, numberOf, valueOf, firstOf}
 use Rattle.rules.specs.Editions.{geometry1, edition1}
 use Rattle.history.specs.History.{Write}
 use Rattle.audit_rules.specs.Plain.{Grant, Ledger, learned, Due, dueRefusals, dueBy, due}
-use Rattle.audit_scan.specs.Scans.{eventAt, withGrant, withWrite, grantsTo, writesUpTo}
+use Rattle.audit_scan.specs.Scans.{eventInBytes, withGrant, withWrite, grantsTo, writesUpTo}
 use Rattle.audit_bearer.specs.Tables.{Tables, ledgerOf}
 use Rattle.audit_event.specs.Step.{Consistent, Audited, Before}
 
@@ -52,11 +52,11 @@ no-write (some (query j)) ws = refl
 module _ (owner events : List ℕ) (n : ℕ) where
   pub grants-still : getD owner n 0 ≡ 0 → grantsTo owner events (suc n) ≡ grantsTo owner events n
   unfolding grantsTo
-  grants-still e = rw e (no-grant (eventAt events n) (grantsTo owner events n))
+  grants-still e = rw e (no-grant (eventInBytes events n) (grantsTo owner events n))
 
   pub writes-still : getD owner n 0 ≡ 0 → writesUpTo owner events (suc n) ≡ writesUpTo owner events n
   unfolding writesUpTo
-  writes-still e = rw e (no-write (eventAt events n) (writesUpTo owner events n))
+  writes-still e = rw e (no-write (eventInBytes events n) (writesUpTo owner events n))
 
 -- earlier events don't see a later owner
 pub grants-before : (owner events : List ℕ) (n v k : ℕ) → k ≤ n → grantsTo (set owner n v) events k ≡ grantsTo owner events k

@@ -13,7 +13,7 @@ use Rattle.rules.specs.Step.{numberOf, valueOf}
 use Rattle.rules.specs.Editions.{geometry1, edition1}
 use Rattle.audit_rules.specs.Plain.{isParent, learned, due}
 use Rattle.audit_link.specs.Links.{Earlier}
-use Rattle.audit_scan.specs.Scans.{eventAt}
+use Rattle.audit_scan.specs.Scans.{eventInBytes}
 use Rattle.audit_bearer.specs.Tables.{Tables, Matched, ledgerOf}
 
 -- the tables are in order before event n
@@ -35,7 +35,7 @@ pub record Audited (start : ℕ → Page) (events : List ℕ) (n : ℕ) (b : Tab
   pub consistent : Consistent b′ (suc n)
 
 -- the transaction `me` bears the number t, and the store is up
-pub record Ready (b : Tables) (t me : ℕ) : Type 0 where
+pub record BearerReady (b : Tables) (t me : ℕ) : Type 0 where
   pub up : b .up ≡ true
   pub bears : getD (b .bearer) t 0 ≡ me
   pub some : me ≢ 0
@@ -46,5 +46,5 @@ Childless b events n me = isParent (ledgerOf b events n .story) me ≡ false
 
 -- event n is e, and the tables are in order
 pub record Before (events : List ℕ) (n : ℕ) (e : Option Event) (b : Tables) : Type 0 where
-  pub comes : eventAt events n ≡ e
+  pub comes : eventInBytes events n ≡ e
   pub consistent : Consistent b n

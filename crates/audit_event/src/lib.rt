@@ -21,7 +21,7 @@ ghost use Rattle.leaf_event.specs.Flags.{flags};
 ghost use Rattle.leaf_event.specs.Meaning.{meaning, InRange};
 ghost use Rattle.audit_link.specs.Links.{Earlier, Bounded};
 ghost use Rattle.audit_bearer.specs.Tables.{tables, Matched};
-ghost use Rattle.audit_event.specs.Step.{Audited, Ready, Childless, Before};
+ghost use Rattle.audit_event.specs.Step.{Audited, BearerReady, Childless, Before};
 use leaf_event::Event;
 
 // An answer's two bytes.
@@ -96,7 +96,7 @@ fn lock_event(
         let before = tables (now (owner .entry)) (now (parent .entry)) (now (fate .entry)) bearer begun true in
         let after = tables (now (owner .exit)) (now (parent .entry)) (now (fate .entry)) bearer begun true in
         let e = some (lock t r (accessOf value)) in
-        Before list n e before → Ready before t me → Childless before list n me
+        Before list n e before → BearerReady before t me → Childless before list n me
         → Audited start list n before store e (a .number) (a .value) after store) ⌝ }
 {
     if audit_scan::barred(table, events, owner, parent, fate, n, me, r, value == 0) {
@@ -128,7 +128,7 @@ fn write_event(
         let before = tables (now (owner .entry)) parent fate bearer begun true in
         let after = tables (now (owner .exit)) parent fate bearer begun true in
         let e = some (write t r o v) in
-        Before list n e before → Ready before t me → Childless before list n me
+        Before list n e before → BearerReady before t me → Childless before list n me
         → Audited start list n before store e (a .number) (a .value) after store) ⌝ }
 {
     if audit_scan::holds(table, events, owner, n, me, r, false) {
@@ -164,7 +164,7 @@ fn read_event(
         let settled = settledIn edition1 (now (start .entry)) in
         let before = tables (now (owner .entry)) (now (parent .entry)) (now (fate .entry)) bearer begun true in
         let e = some (read t r o) in
-        Before list n e before → Ready before t me → Childless before list n me
+        Before list n e before → BearerReady before t me → Childless before list n me
         → Audited settled list n before store e (a .number) (a .value) before store) ⌝ }
 {
     if audit_scan::holds(table, events, owner, n, me, r, true) {
@@ -280,7 +280,7 @@ fn commit_event(
         let before = tables (now (owner .entry)) (now (parent .entry)) (now (fate .entry)) (now (bearer .entry)) begun true in
         let after = tables (now (owner .entry)) (now (parent .entry)) (now (fate .exit)) (now (bearer .exit)) begun (a .up) in
         let e = some (commit t k) in
-        begun < 4097 → Before list n e before → Ready before t me → Childless before list n me
+        begun < 4097 → Before list n e before → BearerReady before t me → Childless before list n me
         → Audited settled list n before (now (store .entry)) e (a .number) (a .value) after (now (store .exit))) ⌝ }
 {
     if audit_link::above(parent, me) != 0 {
@@ -388,7 +388,7 @@ fn record_event(
         let settled = settledIn edition1 (now (start .entry)) in
         let before = tables (now (owner .entry)) (now (parent .entry)) (now (fate .entry)) bearer begun true in
         let after = tables (now (owner .exit)) (now (parent .entry)) (now (fate .entry)) bearer begun true in
-        Before list n (meaning e) before → Ready before (e .transaction) me → Childless before list n me
+        Before list n (meaning e) before → BearerReady before (e .transaction) me → Childless before list n me
         → Audited settled list n before store (meaning e) (a .number) (a .value) after store) ⌝ }
 {
     let kind = e.kind;
@@ -434,7 +434,7 @@ fn named_event(
         let settled = settledIn edition1 (now (start .entry)) in
         let before = tables (now (owner .entry)) (now (parent .entry)) (now (fate .entry)) (now (bearer .entry)) begun true in
         let after = tables (now (owner .exit)) (now (parent .entry)) (now (fate .exit)) (now (bearer .exit)) begun (a .up) in
-        begun < 4097 → Before list n (meaning e) before → Ready before (e .transaction) me
+        begun < 4097 → Before list n (meaning e) before → BearerReady before (e .transaction) me
         → Audited settled list n before (now (store .entry)) (meaning e) (a .number) (a .value) after (now (store .exit))) ⌝ }
 {
     let kind = e.kind;

@@ -12,7 +12,7 @@ use Rattle.rules.specs.State.{State, lineOf, live}
 use Rattle.rules.specs.Locks.{grantable}
 use Rattle.rules.specs.Versions.{isSome}
 use Rattle.rules.specs.Commit.{commitAt, recoverAt, open-commit}
-use Rattle.rules.specs.Step.{isBusy, isTop, hasChild, firstOf, changes, busy, reserved, visible, refusals, refusal, commitsTop, commitsChild, commits, recovers, act, judged, step}
+use Rattle.rules.specs.Step.{isBusy, isTop, hasChild, firstOf, changes, busy, reserved, visible, refusals, refusal, commitsTop, commitsChild, commits, recovers, act, outcomeBy, step}
 use Rattle.rules.specs.Editions.{geometry1, edition1}
 use Rattle.rules.proofs.Editions.{proper1}
 use Rattle.rules.proofs.AtomicPages.{atomic-laws}
@@ -127,10 +127,10 @@ module _ (s : State Pages) (F : Free edition1 s) where
   act-same (query i) z = absurd (false≢true z)
 
   pub step-same : (e : Option Event) → isPlain e ≡ true → step edition1Without s e ≡ step edition1 s e
-  unfolding step judged
+  unfolding step outcomeBy
   step-same none z = refl
-  step-same (some e) z = ap (judged edition1Without s e) (refusal-same e z) ∙ go (refusal edition1 s e)
+  step-same (some e) z = ap (outcomeBy edition1Without s e) (refusal-same e z) ∙ go (refusal edition1 s e)
     where
-      go : (o : Option ℕ) → judged edition1Without s e o ≡ judged edition1 s e o
+      go : (o : Option ℕ) → outcomeBy edition1Without s e o ≡ outcomeBy edition1 s e o
       go none = act-same e z
       go (some n) = refl

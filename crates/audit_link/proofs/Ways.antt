@@ -8,7 +8,7 @@ use lib.ListN.{getD}
 use Rattle.laws.specs.Tests.{same, under, open-tests}
 use Rattle.laws.proofs.Tests.{same?, Same, is, isnt, ne-false}
 use Rattle.history.specs.History.{History, climbs, isWithin, isCommitted, follows, standsWith, isBearing, isStored, survives, bearing, committed, stored, ended}
-use Rattle.audit_rules.specs.Plain.{Ledger, rises, height, locksWith, blocks}
+use Rattle.audit_rules.specs.Plain.{Ledger, rises, height, locksWith, grantBlocks}
 use Rattle.audit_link.specs.Links.{fateOf, entryAt, fateIn, upIn, Earlier, Linked, showsTo}
 
 module _ (parent : List ℕ) (E : Earlier parent) where
@@ -165,8 +165,8 @@ module _ (l : Ledger) (parent fate : List ℕ) (K : Linked l parent fate) where
   stands-are i = follows-is (l .story) i i ∙ rw (K .parents, K .fates)
 
   pub way-is : (asker i j : ℕ) → j ≡ rises (entryAt parent) (upIn fate true) i i
-      → blocks l asker i ≡ (not (under (getD fate j 0) 32) && not (cond (same j i) (same i asker) (not (same j 0) && climbs (entryAt parent) asker j asker)))
-  unfolding blocks isWithin fateIn
+      → grantBlocks l asker i ≡ (not (under (getD fate j 0) 32) && not (cond (same j i) (same i asker) (not (same j 0) && climbs (entryAt parent) asker j asker)))
+  unfolding grantBlocks isWithin fateIn
   way-is asker i j e = rw (locks-are i, ← e, K .fates, K .parents, bearing-is (getD fate j 0))
 
   pub shows-is : (reader i j : ℕ) → j ≡ rises (entryAt parent) (upIn fate false) i i

@@ -6,7 +6,7 @@ ghost use mathlib.Core.Bool.{cond, not, _&&_};
 ghost use Prim.Native.Nat.{_+_, _-_, _<_, _≤_};
 ghost use Rattle.laws.specs.Tests.{same};
 ghost use Rattle.history.specs.History.{climbs, isCommitted};
-ghost use Rattle.audit_rules.specs.Plain.{Ledger, rises, height, blocks};
+ghost use Rattle.audit_rules.specs.Plain.{Ledger, rises, height, grantBlocks};
 ghost use Rattle.audit_link.specs.Links.{fateOf, passedOf, entryAt, upIn, Earlier, Linked, showsTo};
 
 // A way up from a transaction: where it stands, and how many steps it may still go.
@@ -94,7 +94,7 @@ pub fn depth_of(parent: &[u16; 4097], i: usize) -> usize
 // A lock that i was granted stands in the way of another transaction.
 pub fn blocks(parent: &[u16; 4097], fate: &[u8; 4097], asker: usize, i: usize) -> bool
     requires { ⌜ (i < 4097) × (asker < 4097) × Earlier (now parent) ⌝ }
-    ensures { λ r. ⌜ ((l : Ledger) → Linked l (now (parent .entry)) (now (fate .entry)) → r ≡ blocks l asker i) ⌝ }
+    ensures { λ r. ⌜ ((l : Ledger) → Linked l (now (parent .entry)) (now (fate .entry)) → r ≡ grantBlocks l asker i) ⌝ }
 {
     let j = stands(parent, fate, true, i);
     if fate[j] < 32 {

@@ -14,8 +14,8 @@ ghost use Rattle.history.specs.Demand3.{settledIn};
 ghost use Rattle.leaf_event.specs.Flags.{flags};
 ghost use Rattle.audit_rules.specs.Plain.{Ledger, changesBy};
 ghost use Rattle.leaf_commit_page.specs.Heard.{understood};
-ghost use Rattle.store_write.specs.Phase.{Phase, Leaves};
-ghost use Rattle.store_commit.specs.Phase.{due, sweep, copies};
+ghost use Rattle.store_write.specs.Phase.{WritesPhase, PageWritesDone};
+ghost use Rattle.store_commit.specs.Phase.{writeIfPicked, sweep, copies};
 ghost use Rattle.audit_link.specs.Links.{Earlier, Bounded, Linked};
 ghost use Rattle.audit_scan.specs.Scans.{writesUpTo};
 ghost use Rattle.audit_bearer.specs.Tables.{tables, ledgerOf};
@@ -95,7 +95,7 @@ fn changed_map(
 // Page n becomes `page`, if the count `left` allows another page write. Returns what remains of the count.
 fn write_one(store: &mut [u8], n: usize, page: [u8; 32], left: u8) -> u8
     requires { ⌜ (n < 33) × (length (now store) ≡ 1056) ⌝ }
-    ensures { λ x. ⌜ Phase false left (sets n page ∷ []) (pagesOf (now (store .entry))) (pagesOf (now (store .exit))) x ⌝ }
+    ensures { λ x. ⌜ WritesPhase false left (sets n page ∷ []) (pagesOf (now (store .entry))) (pagesOf (now (store .exit))) x ⌝ }
 {
     if 0 < left {
         leaf_page::put_page(store, n, page);
@@ -127,7 +127,7 @@ fn write_record(
         let after = pagesOf (now (store .exit)) in
         ⌜ ((l : Ledger) → Linked l (now (parent .entry)) (now (fate .entry)) →
         let new = changedPage l (now (start .entry)) (now (owner .entry)) (now (events .entry)) n me in
-        Phase false left (due (named geometry1 map) (copies first new) r) before after x) ⌝ }
+        WritesPhase false left (writeIfPicked (named geometry1 map) (copies first new) r) before after x) ⌝ }
 {
     if leaf_commit_page::names(map, 16, r) & (0 < left) {
         let at = first + (r as usize);
@@ -170,7 +170,7 @@ fn write_records(
         let after = pagesOf (now (store .exit)) in
         ⌜ ((l : Ledger) → Linked l (now (parent .entry)) (now (fate .entry)) →
         let new = changedPage l (now (start .entry)) (now (owner .entry)) (now (events .entry)) n me in
-        Phase false left (sweep (named geometry1 map) (copies first new) 16) before after x) ⌝ }
+        WritesPhase false left (sweep (named geometry1 map) (copies first new) 16) before after x) ⌝ }
 {
     let mut rest = left;
     for r in 0..16u8 {
@@ -214,7 +214,7 @@ fn write_intentions(
         let after = pagesOf (now (store .exit)) in
         ⌜ ((l : Ledger) → Linked l (now (parent .entry)) (now (fate .entry)) →
         let new = changedPage l (now (start .entry)) (now (owner .entry)) (now (events .entry)) n me in
-        Phase false left (sweep (named geometry1 map) (copies 1 new) 16 ++ (sets 0 (commitPage geometry1 map) ∷ [])) before after x) ⌝ }
+        WritesPhase false left (sweep (named geometry1 map) (copies 1 new) 16 ++ (sets 0 (commitPage geometry1 map) ∷ [])) before after x) ⌝ }
 {
     let rest = write_records(
         store,
@@ -256,7 +256,7 @@ pub fn commit_writes(
         let here = tables (now (owner .entry)) (now (parent .entry)) (now (fate .entry)) bearer begun true in
         let story = ledgerOf here (now (events .entry)) n .story in
         let changes = changesBy edition1 (settledIn edition1 (now (start .entry))) story t in
-        Leaves (commitAt geometry1 before changes k) after (w .made) (w .crashed) × (w .ones ≡ changedBy (records geometry1) story me)) ⌝ }
+        PageWritesDone (commitAt geometry1 before changes k) after (w .made) (w .crashed) × (w .ones ≡ changedBy (records geometry1) story me)) ⌝ }
 {
     let map = changed_map(table, events, owner, parent, fate, n, me);
     let ones = leaf_commit_page::ones(map);
@@ -308,7 +308,7 @@ fn recover_record(store: &mut [u8], map: u64, r: u8, left: u8) -> u8
     ensures { λ x.
         let before = pagesOf (now (store .entry)) in
         let after = pagesOf (now (store .exit)) in
-        ⌜ Phase false left (due (named geometry1 map) (copies 17 (λ j. before (1 + j))) r) before after x ⌝ }
+        ⌜ WritesPhase false left (writeIfPicked (named geometry1 map) (copies 17 (λ j. before (1 + j))) r) before after x ⌝ }
 {
     if leaf_commit_page::names(map, 16, r) & (0 < left) {
         let at = r as usize;
@@ -323,7 +323,7 @@ fn recover_record(store: &mut [u8], map: u64, r: u8, left: u8) -> u8
 // commit page is emptied; none where the map is 0. The first k happen.
 pub fn recover_writes(store: &mut [u8], map: u64, k: u8) -> Made
     requires { ⌜ (length (now store) ≡ 1056) × (mapIn (readCommit geometry1 (pagesOf (now store) 0)) ≡ map) ⌝ }
-    ensures { λ m. ⌜ Leaves (recoverAt geometry1 (pagesOf (now (store .entry))) k) (pagesOf (now (store .exit))) (m .made) (m .crashed) ⌝ }
+    ensures { λ m. ⌜ PageWritesDone (recoverAt geometry1 (pagesOf (now (store .entry))) k) (pagesOf (now (store .exit))) (m .made) (m .crashed) ⌝ }
 {
     if map == 0 {
         return Made {

@@ -19,7 +19,7 @@ use Rattle.rules.specs.Locks.{grantable}
 use Rattle.rules.specs.Versions.{isSome}
 use Rattle.rules.specs.Commit.{Cut}
 use Rattle.rules.specs.Form.{Form}
-use Rattle.rules.specs.Step.{Answer, done, refused, cut, firstOf, hasChild, isTop, changes, busy, StateOf, OutcomeOf, firstFree, begun, locked, wrote, ended as endedState, passed as passedState, retaining, aborted, raised, concluded, finished, visible, refusals, refusal, commitsTop, commitsChild, commits, recovers, act, judged, step}
+use Rattle.rules.specs.Step.{Answer, done, refused, cut, firstOf, hasChild, isTop, changes, busy, StateOf, OutcomeOf, firstFree, begun, locked, wrote, ended as endedState, passed as passedState, retaining, aborted, raised, concluded, finished, visible, refusals, refusal, commitsTop, commitsChild, commits, recovers, act, outcomeBy, step}
 use Rattle.rules.proofs.Tree.{isCons}
 use Rattle.rules.proofs.Medium.{MediumLaws}
 use Rattle.rules.proofs.Acceptance.{read-ok, commit-ok, Judged, acts, refuses, judge?}
@@ -200,11 +200,11 @@ module _ (f : Form) (M : MediumLaws (f .geometry) (f .medium)) {start : ℕ → 
 
   -- WHAT IS DUE IS WHAT THE RULES ANSWER, AND THE STORE IS THEIRS.
   pub due-is : (e : Option Event) → isPlain e ≡ true → due f start l (s .store) e ≡ dueOf f (step f s e)
-  unfolding due step dueBy judged
+  unfolding due step dueBy outcomeBy
   due-is none z = refl
   due-is (some e) z = ap (dueBy f start l (s .store) e) (refusal-is e z) ∙ go (judge? f s e)
     where
-      go : Judged f s e → dueBy f start l (s .store) e (refusal f s e) ≡ dueOf f (judged f s e (refusal f s e))
+      go : Judged f s e → dueBy f start l (s .store) e (refusal f s e) ≡ dueOf f (outcomeBy f s e (refusal f s e))
       go (acts q k) = rw q (act-is e z q)
       go (refuses n q k) = rw q
 

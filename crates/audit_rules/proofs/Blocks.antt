@@ -19,7 +19,7 @@ use Rattle.rules.proofs.Grades.{barring}
 use Rattle.history.specs.History.{Fate, bearing, committed, stored, waiting, ended, History, isBearing, isWithin}
 use Rattle.history.proofs.Roots.{Root, settled, lost, waiting as awaiting, at, isAt}
 use Rattle.history.proofs.Table.{Table, bearer-one, within-is}
-use Rattle.audit_rules.specs.Plain.{Grant, Ledger, rises, locksWith, locksOf, blocks}
+use Rattle.audit_rules.specs.Plain.{Grant, Ledger, rises, locksWith, locksOf, grantBlocks}
 use Rattle.audit_rules.proofs.Picked.{locksOf-or, locksOf-pick}
 use Rattle.audit_rules.proofs.Locking.{over-stand, bears, stand, Locking, none-stands}
 
@@ -156,8 +156,8 @@ module _ (l : Ledger) {b : Bearers} {root : ℕ → Root} (S : Rooted transactio
     abbrev line : List ℕ
     line = lineOf b t
 
-    way-is : (i : ℕ) → blocks l (h .bearer t) i ≡ (heldOff t (h .fate i) || (not (isBearing (h .fate i)) && off line (lroot i)))
-    unfolding blocks isBearing
+    way-is : (i : ℕ) → grantBlocks l (h .bearer t) i ≡ (heldOff t (h .fate i) || (not (isBearing (h .fate i)) && off line (lroot i)))
+    unfolding grantBlocks isBearing
     way-is i = rw (stands-is i) (go (h .fate i) refl (same? (locksWith l i) i))
       where
         at-rest : (c : Fate) → h .fate (locksWith l i) ≡ c → (isBearing c && not (isWithin h (locksWith l i) (h .bearer t))) ≡ off line (stand lost false c)
@@ -234,7 +234,7 @@ module _ (l : Ledger) {b : Bearers} {root : ℕ → Root} (S : Rooted transactio
           go false = rw (stands-is i) (by (h .fate (locksWith l i)) refl)
 
       -- WHO BARS A LOCK IS TOLD BY THE LEDGER.
-      pub grant-is : (a : Access) (r : ℕ) → not (grantable a held retained line t r) ≡ locksOf (bars a) (blocks l (h .bearer t)) r (l .grants)
+      pub grant-is : (a : Access) (r : ℕ) → not (grantable a held retained line t r) ≡ locksOf (bars a) (grantBlocks l (h .bearer t)) r (l .grants)
       unfolding grantable holdersAllow retainersAllow
       grant-is a r =
           let test = bars a in

@@ -71,8 +71,8 @@ locksOf test p r (g ∷ gs) = (p (g .transaction) && (same (g .rec) r && test (m
 
 -- A lock that i was granted stands in the way of another transaction: i still holds it and is another; or it has come up to a live
 -- transaction, which retains it, and that one is neither the asker nor its ancestor.
-unfoldable pub blocks : Ledger → ℕ → ℕ → Bool
-blocks l asker i =
+unfoldable pub grantBlocks : Ledger → ℕ → ℕ → Bool
+grantBlocks l asker i =
     let j : ℕ = locksWith l i in
     isBearing (l .story .fate j) && not (cond (same j i) (same i asker) (isWithin (l .story) j asker))
 
@@ -162,7 +162,7 @@ module _ (f : Form) (start : ℕ → Page) where
       (6, same (depthOf (l .story) (l .story .bearer p)) (f .geometry .depthLimit)) ∷ (7, all transactions (borne (l .story))) ∷ []
   dueRefusals l store (lock t r a) =
       (2, not (l .up)) ∷ (5, not (borne (l .story) t)) ∷ (14, isParent (l .story) (l .story .bearer t)) ∷
-      (8, locksOf (bars a) (blocks l (l .story .bearer t)) r (l .grants)) ∷ []
+      (8, locksOf (bars a) (grantBlocks l (l .story .bearer t)) r (l .grants)) ∷ []
   dueRefusals l store (write t r o v) =
       (2, not (l .up)) ∷ (5, not (borne (l .story) t)) ∷ (14, isParent (l .story) (l .story .bearer t)) ∷
       (9, not (locksOf isWriting (λ i. same i (l .story .bearer t)) r (l .grants))) ∷ []

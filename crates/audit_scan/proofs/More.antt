@@ -20,7 +20,7 @@ use Rattle.leaf_event.specs.Meaning.{meaning, InRange}
 use Rattle.leaf_event.proofs.Meaning.{means-bad, means-begin, means-lock, means-write, means-read, means-commit, means-abort, means-crash, means-recover, means-prepare, means-decide, means-query}
 use Rattle.history.specs.History.{Write, writesTo, overlaid}
 use Rattle.audit_rules.specs.Plain.{Grant, locksOf}
-use Rattle.audit_scan.specs.Scans.{eventAt, modeTest, locksAt, writesAt, byteAt, withGrant, withWrite, grantsTo, writesUpTo}
+use Rattle.audit_scan.specs.Scans.{eventInBytes, modeTest, locksAt, writesAt, byteAt, withGrant, withWrite, grantsTo, writesUpTo}
 
 quiet : (m z q : Bool) → (m || (not z && (q && false))) ≡ m
 quiet true z q = refl
@@ -180,7 +180,7 @@ module _ (owner events : List ℕ) (k : ℕ) where
   o = getD owner k 0
 
   abbrev e : Option Event
-  e = eventAt events k
+  e = eventInBytes events k
 
   grants-next : grantsTo owner events (k + 1) ≡ withGrant o e (grantsTo owner events k)
   unfolding grantsTo

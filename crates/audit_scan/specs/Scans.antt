@@ -15,8 +15,8 @@ use Rattle.history.specs.History.{Write}
 use Rattle.audit_rules.specs.Plain.{Grant}
 
 -- event k of a list of bytes
-unfoldable pub eventAt : List ℕ → ℕ → Option Event
-eventAt events k = decode geometry1 (number (take 4 (drop (4 * k) events)))
+unfoldable pub eventInBytes : List ℕ → ℕ → Option Event
+eventInBytes events k = decode geometry1 (number (take 4 (drop (4 * k) events)))
 
 -- any mode, or write mode
 unfoldable pub modeTest : Bool → Mode → Bool
@@ -100,8 +100,8 @@ withWrite i (some (query j)) ws = ws
 -- of the first n events, the newest first
 unfoldable pub grantsTo : List ℕ → List ℕ → ℕ → List Grant
 grantsTo owner events zero = []
-grantsTo owner events (suc n) = withGrant (getD owner n 0) (eventAt events n) (grantsTo owner events n)
+grantsTo owner events (suc n) = withGrant (getD owner n 0) (eventInBytes events n) (grantsTo owner events n)
 
 unfoldable pub writesUpTo : List ℕ → List ℕ → ℕ → List Write
 writesUpTo owner events zero = []
-writesUpTo owner events (suc n) = withWrite (getD owner n 0) (eventAt events n) (writesUpTo owner events n)
+writesUpTo owner events (suc n) = withWrite (getD owner n 0) (eventInBytes events n) (writesUpTo owner events n)

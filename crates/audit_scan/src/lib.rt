@@ -9,15 +9,15 @@ ghost use Rattle.laws.specs.Tests.{same};
 ghost use Rattle.leaf_event.specs.Flags.{flags};
 ghost use Rattle.leaf_event.specs.Meaning.{meaning, InRange};
 ghost use Rattle.history.specs.History.{standsWith, writesTo, overlaid};
-ghost use Rattle.audit_rules.specs.Plain.{Ledger, blocks, locksOf};
+ghost use Rattle.audit_rules.specs.Plain.{Ledger, grantBlocks, locksOf};
 ghost use Rattle.audit_link.specs.Links.{Earlier, Bounded, Linked, showsTo};
-ghost use Rattle.audit_scan.specs.Scans.{eventAt, modeTest, locksAt, writesAt, byteAt, grantsTo, writesUpTo};
+ghost use Rattle.audit_scan.specs.Scans.{eventInBytes, modeTest, locksAt, writesAt, byteAt, grantsTo, writesUpTo};
 use leaf_event::Event;
 
 // Event k.
 pub fn event_at(table: &[u32; 16], events: &[u8], k: usize) -> Event
     requires { ⌜ (now table ≡ flags) × (k < 4096) × (4 * k + 4 ≤ length (now events)) ⌝ }
-    ensures { λ e. ⌜ (eventAt (now (events .entry)) k ≡ meaning e) × InRange e ⌝ }
+    ensures { λ e. ⌜ (eventInBytes (now (events .entry)) k ≡ meaning e) × InRange e ⌝ }
 {
     Event::of_word(table, Event::word_at(events, k))
 }
@@ -49,7 +49,7 @@ fn own_lock(
     any: bool,
 ) -> bool
     requires { ⌜ (now table ≡ flags) × (k < 4096) × (4 * k + 4 ≤ length (now events)) × Bounded (now owner) ⌝ }
-    ensures { λ b. ⌜ b ≡ (same (getD (now (owner .entry)) k 0) me && locksAt (eventAt (now (events .entry)) k) r (modeTest any)) ⌝ }
+    ensures { λ b. ⌜ b ≡ (same (getD (now (owner .entry)) k 0) me && locksAt (eventInBytes (now (events .entry)) k) r (modeTest any)) ⌝ }
 {
     if owner_of(owner, k) != me {
         return false;
@@ -92,9 +92,9 @@ fn bars(
     requires { ⌜ (now table ≡ flags) × (k < 4096) × (4 * k + 4 ≤ length (now events)) × Earlier (now parent) × Bounded (now owner) × (me < 4097) ⌝ }
     ensures { λ b.
         let i = getD (now (owner .entry)) k 0 in
-        let e = eventAt (now (events .entry)) k in
+        let e = eventInBytes (now (events .entry)) k in
         ⌜ ((l : Ledger) → Linked l (now (parent .entry)) (now (fate .entry))
-        → b ≡ (not (same i 0) && (blocks l me i && locksAt e r (modeTest any)))) ⌝ }
+        → b ≡ (not (same i 0) && (grantBlocks l me i && locksAt e r (modeTest any)))) ⌝ }
 {
     let i = owner_of(owner, k);
     if i == 0 {
@@ -120,7 +120,7 @@ pub fn barred(
 ) -> bool
     requires { ⌜ (now table ≡ flags) × (n ≤ 4096) × (4 * n ≤ length (now events)) × Earlier (now parent) × Bounded (now owner) × (me < 4097) ⌝ }
     ensures { λ b. ⌜ ((l : Ledger) → Linked l (now (parent .entry)) (now (fate .entry))
-        → b ≡ locksOf (modeTest any) (blocks l me) r (grantsTo (now (owner .entry)) (now (events .entry)) n)) ⌝ }
+        → b ≡ locksOf (modeTest any) (grantBlocks l me) r (grantsTo (now (owner .entry)) (now (events .entry)) n)) ⌝ }
 {
     let mut met = false;
     for k in 0..n {
@@ -151,7 +151,7 @@ fn own_write(
     requires { ⌜ (now table ≡ flags) × (k < 4096) × (4 * k + 4 ≤ length (now events)) × Earlier (now parent) × Bounded (now owner) × (me < 4097) ⌝ }
     ensures { λ b.
         let i = getD (now (owner .entry)) k 0 in
-        let e = eventAt (now (events .entry)) k in
+        let e = eventInBytes (now (events .entry)) k in
         ⌜ ((l : Ledger) → Linked l (now (parent .entry)) (now (fate .entry))
         → b ≡ (not (same i 0) && (same (standsWith (l .story) i) me && writesAt e r))) ⌝ }
 {
@@ -203,7 +203,7 @@ fn lay(
     requires { ⌜ (now table ≡ flags) × (k < 4096) × (4 * k + 4 ≤ length (now events)) × Earlier (now parent) × Bounded (now owner) × (me < 4097) ⌝ }
     ensures { λ _.
         let i = getD (now (owner .entry)) k 0 in
-        let e = eventAt (now (events .entry)) k in
+        let e = eventInBytes (now (events .entry)) k in
         let before = now (page .entry) in
         ⌜ ((l : Ledger) → Linked l (now (parent .entry)) (now (fate .entry))
         → now (page .exit) ≡ cond (not (same i 0) && (showsTo l me i && writesAt e r)) (byteAt e before) before) ⌝ }

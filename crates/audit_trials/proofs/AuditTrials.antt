@@ -14,8 +14,8 @@ use Rattle.rules.specs.Commit.{open-commit}
 use Rattle.rules.specs.Step.{open-step}
 use Rattle.rules.specs.Run.{open-run}
 use Rattle.audit_rules.specs.Audit.{open-audit}
-use Rattle.audit_trials.specs.AuditTrials.{allPass, auditRows}
+use Rattle.audit_trials.specs.AuditTrials.{auditRowsPass, auditRows}
 
-pub audit-trials-hold : T (allPass auditRows)
+pub audit-trials-hold : T (auditRowsPass auditRows)
 unfolding open-tests open-bytes open-counting open-functions open-geometry open-store open-event open-state open-locks open-versions open-commit open-step open-run open-audit
 audit-trials-hold = tt

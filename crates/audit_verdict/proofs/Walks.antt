@@ -20,7 +20,7 @@ use Rattle.rules.specs.Editions.{geometry1, edition1}
 use Rattle.leaf_event.proofs.Words.{bytes1, words-next}
 use Rattle.audit_rules.specs.Plain.{Ledger, blankLedger, learned, due}
 use Rattle.audit_rules.specs.Walk.{Walked, wrong, right, answered, walk}
-use Rattle.audit_scan.specs.Scans.{eventAt}
+use Rattle.audit_scan.specs.Scans.{eventInBytes}
 use Rattle.audit_bearer.specs.Tables.{Tables, tables, ledgerOf}
 use Rattle.audit_event.specs.Step.{Consistent, Audited}
 use Rattle.audit_verdict.proofs.Blank.{zeros-tell}
@@ -51,9 +51,9 @@ module _ (start : ℕ → Page) (answers events : List ℕ) (n : ℕ) where
   clause l s k w ws e q = rw q
 
   -- one event
-  pub walk-more : (k : ℕ) (b b′ : Tables) (store store′ : List ℕ) (e : Option Event) (x y : ℕ) → k < n → eventAt events k ≡ e
+  pub walk-more : (k : ℕ) (b b′ : Tables) (store store′ : List ℕ) (e : Option Event) (x y : ℕ) → k < n → eventInBytes events k ≡ e
       → Audited start events k b store e x y b′ store′ → onward k b store ≡ cond (twoBytes k x y) (onward (k + 1) b′ store′) (wrong k)
-  unfolding eventAt
+  unfolding eventInBytes
   walk-more k b b′ store store′ e x y h q A =
       let d = due edition1 start (ledgerOf b events k) (pagesOf store) e in
       let ws = words geometry1 (n - (k + 1)) (drop (4 * (k + 1)) events) in
@@ -70,13 +70,13 @@ module _ (start : ℕ → Page) (answers events : List ℕ) (n : ℕ) where
   walk-done k b store e = let z : n - k ≡ 0 = omega (arith, e) in ap (λ (m : ℕ). walk edition1 start answers (ledgerOf b events k) (pagesOf store) k (words geometry1 m (drop (4 * k) events))) z
 
   module _ (W : Walked Pages) where
-    pub walk-again : (k : ℕ) (b b′ : Tables) (store store′ : List ℕ) (e : Option Event) (x y : ℕ) (t : Bool) → k < n → eventAt events k ≡ e
+    pub walk-again : (k : ℕ) (b b′ : Tables) (store store′ : List ℕ) (e : Option Event) (x y : ℕ) (t : Bool) → k < n → eventInBytes events k ≡ e
         → Audited start events k b store e x y b′ store′ → t ≡ twoBytes k x y → t ≡ true → W ≡ onward k b store → W ≡ onward (k + 1) b′ store′
     walk-again k b b′ store store′ e x y t h q A r u p =
         p ∙ walk-more k b b′ store store′ e x y h q A ∙ ap (λ (s : Bool). cond s (onward (k + 1) b′ store′) (wrong k)) (sym r ∙ u)
 
     -- the first wrong event
-    pub walk-wrong : (k : ℕ) (b b′ : Tables) (store store′ : List ℕ) (e : Option Event) (x y : ℕ) (t : Bool) (s : Pages) → k < n → eventAt events k ≡ e
+    pub walk-wrong : (k : ℕ) (b b′ : Tables) (store store′ : List ℕ) (e : Option Event) (x y : ℕ) (t : Bool) (s : Pages) → k < n → eventInBytes events k ≡ e
         → Audited start events k b store e x y b′ store′ → t ≡ twoBytes k x y → t ≡ false → W ≡ onward k b store → W ≡ cond (under k n) (wrong k) (right s)
     walk-wrong k b b′ store store′ e x y t s h q A r u p =
         p ∙ walk-more k b b′ store store′ e x y h q A ∙ ap (λ (s : Bool). cond s (onward (k + 1) b′ store′) (wrong k)) (sym r ∙ u)

@@ -24,7 +24,7 @@ use Rattle.history.specs.Claims.{seenBy, isRestart, restarts, stateAfter, rowsA
 use Rattle.history.proofs.Demand3.{independent-as, words-independent}
 use Rattle.history.proofs.Claims.{rows-played, reads-overlay, commit-survives}
 use Rattle.claim_device.specs.Plan.{lesser, countOf, withCount}
-use Rattle.claim_device.specs.Device.{Happening, plays, fails, loses, restarted, deviceAfter, cutWord, standsFor, listOf, historyOf, isRestarting, restarting, Device-holds}
+use Rattle.claim_device.specs.Device.{Happening, plays, fails, loses, restarted, deviceAfter, cutWord, standsFor, listOf, deviceHistory, isRestarting, restarting, Device-holds}
 use Rattle.claim_device.proofs.Device.{cut-decodes, crash-decodes, Follows, lives-follows}
 
 restart-counts : (n : ℕ) (e : Event) → isRestart (some (withCount n e)) ≡ isRestart (some e)
@@ -95,17 +95,17 @@ module _ (g : Geometry) (proper : Proper g) (store : List ℕ) (sized : length s
     pub sound-memory : Sound (atomic g) (deviceAfter g store hs .memory)
     sound-memory = rw (follow .memory) (reached .sound)
 
-    settled-is : Surviving-overlay (settled g (pagesOf store)) (historyOf g store hs) (settled g (deviceAfter g store hs .medium))
-    unfolding historyOf settledIn
+    settled-is : Surviving-overlay (settled g (pagesOf store)) (deviceHistory g store hs) (settled g (deviceAfter g store hs .medium))
+    unfolding deviceHistory settledIn
     settled-is r = ap (λ (m : Pages). settled g m r) medium-is ∙ reads-overlay (atomic g) laws store (listOf g hs) sized .settles r
 
-    reads-is : (t r : ℕ) → live (deviceAfter g store hs .memory) t ≡ true → let h = historyOf g store hs in
+    reads-is : (t r : ℕ) → live (deviceAfter g store hs .memory) t ≡ true → let h = deviceHistory g store hs in
         visible (atomic g) (deviceAfter g store hs .memory) t r ≡ overlaid (seenBy h t) r (h .writes) (settled g (pagesOf store) r)
-    unfolding historyOf settledIn
+    unfolding deviceHistory settledIn
     reads-is t r e = rw (follow .memory) (reads-overlay (atomic g) laws store (listOf g hs) sized .reads t r (rw (follow .memory) at e))
 
   pub survives-is : (hs more : List Happening) → restarting g more ≡ true → (r : ℕ) → settled g (deviceAfter g store (hs ++ more) .medium) r ≡ settled g (deviceAfter g store hs .medium) r
-  unfolding historyOf settledIn Commit-survives
+  unfolding deviceHistory settledIn Commit-survives
   survives-is hs more e r =
       ap (λ (m : Pages). settled g m r) (medium-is (hs ++ more))
       ∙ ap (λ (ws : List ℕ). settled g (stateAfter (atomic g) store ws .store) r) (list-append g hs more)

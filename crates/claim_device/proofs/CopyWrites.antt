@@ -8,7 +8,7 @@ use native.Mathlib.Omega.{arith}
 use Rattle.rules.specs.Store.{Page}
 use Rattle.rules.specs.Commit.{PageWrite, sets}
 use Rattle.claim_device.specs.Plan.{writeAt}
-use Rattle.claim_device.specs.Asked.{pageBytes, copyBytes, spelledIn}
+use Rattle.claim_device.specs.Asked.{pageBytes, copyWriteBytes, spelledIn}
 use Rattle.claim_device.specs.CopyWrites.{first, second, copiesOf}
 
 first-copy : (i : ℕ) (ws : List PageWrite) (n : ℕ) (p : Page) → writeAt i ws ≡ some (sets n p) → writeAt (2 * i) (copiesOf ws) ≡ some (first n p)
@@ -51,12 +51,12 @@ module _ (i : ℕ) (ws : List PageWrite) where
   page-spelled n p e = mapped-at pageBytes i ws (sets n p) e
 
   pub first-spelled : (n : ℕ) (p : Page) → writeAt i ws ≡ some (sets n p) → writeAt (2 * i) (spelledIn true ws) ≡ some (n ∷ 0 ∷ p)
-  unfolding spelledIn copyBytes
-  first-spelled n p e = mapped-at copyBytes (2 * i) (copiesOf ws) (first n p) (first-copy i ws n p e)
+  unfolding spelledIn copyWriteBytes
+  first-spelled n p e = mapped-at copyWriteBytes (2 * i) (copiesOf ws) (first n p) (first-copy i ws n p e)
 
   pub second-spelled : (n : ℕ) (p : Page) → writeAt i ws ≡ some (sets n p) → writeAt (2 * i + 1) (spelledIn true ws) ≡ some (n ∷ 1 ∷ p)
-  unfolding spelledIn copyBytes
-  second-spelled n p e = mapped-at copyBytes (2 * i + 1) (copiesOf ws) (second n p) (second-copy i ws n p e)
+  unfolding spelledIn copyWriteBytes
+  second-spelled n p e = mapped-at copyWriteBytes (2 * i + 1) (copiesOf ws) (second n p) (second-copy i ws n p e)
 
   pub pages-end : writeAt i ws ≡ none → writeAt i (spelledIn false ws) ≡ none
   unfolding spelledIn
@@ -64,4 +64,4 @@ module _ (i : ℕ) (ws : List PageWrite) where
 
   pub copies-end : (j : ℕ) → writeAt i ws ≡ none → 2 * i ≤ j → writeAt j (spelledIn true ws) ≡ none
   unfolding spelledIn
-  copies-end j e h = mapped-none copyBytes j (copiesOf ws) (no-copy i j ws e h)
+  copies-end j e h = mapped-none copyWriteBytes j (copiesOf ws) (no-copy i j ws e h)

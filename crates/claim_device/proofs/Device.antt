@@ -15,7 +15,7 @@ use Rattle.rules.specs.Event.{Event, begin, lock, write, read, commit, abort, c
 use Rattle.rules.specs.State.{down}
 use Rattle.rules.specs.Commit.{PageWrite, written}
 use Rattle.rules.specs.Form.{atomic}
-use Rattle.rules.specs.Step.{StateOf, firstOf, finished, refusals, refusal, act, judged, step}
+use Rattle.rules.specs.Step.{StateOf, firstOf, finished, refusals, refusal, act, outcomeBy, step}
 use Rattle.rules.specs.Run.{play}
 use Rattle.rules.proofs.Event.{decode-encode, decode-fits}
 use Rattle.rules.proofs.Portions.{play-append}
@@ -125,7 +125,7 @@ module _ (g : Geometry) where
   crash-decodes = decode-encode g crash refl
 
   crash-falls : (s : StateOf (atomic g)) → step (atomic g) s (some crash) .state ≡ down (s .store)
-  unfolding step judged refusal refusals firstOf act finished
+  unfolding step outcomeBy refusal refusals firstOf act finished
   crash-falls s = refl
 
   crash-leaves : (s : StateOf (atomic g)) → step (atomic g) s (decode g (encode g crash)) .state ≡ down (s .store)

@@ -18,7 +18,7 @@ use Rattle.rules.specs.Event.{recover}
 use Rattle.rules.specs.State.{down, open-state}
 use Rattle.rules.specs.Commit.{PageWrite, written, marks, open-commit}
 use Rattle.rules.specs.Form.{atomic}
-use Rattle.rules.specs.Step.{done, refused, firstOf, refusals, refusal, judged, step, open-step}
+use Rattle.rules.specs.Step.{done, refused, firstOf, refusals, refusal, outcomeBy, step, open-step}
 use Rattle.rules.specs.Editions.{geometry1, geometry2}
 use Rattle.rules.proofs.Cuts.{broken}
 use Rattle.claim_device.specs.Plan.{carried, open-plan}
@@ -70,7 +70,7 @@ module _ (g : Geometry) where
 
   -- a machine that is down over a damaged store refuses to recover, with 4
   damaged-refuses : (m : Pages) (n : ℕ) → damaged g m ≡ true → step (atomic g) (down m) (some (recover n)) .answer ≡ refused 4
-  unfolding step judged refusal refusals firstOf down
+  unfolding step outcomeBy refusal refusals firstOf down
   damaged-refuses m n e = rw e
 
   mark-damaged : (m x : Pages) → x 0 ≡ m 0 → damaged g m ≡ true → damaged g x ≡ true

@@ -29,8 +29,8 @@ orElse (some n) next = some n
 
 module _ (g : Geometry) where
   -- the state that a list leaves, from the start with this store
-  unfoldable pub after : List ℕ → List ℕ → StateOf (atomic g)
-  after store events = play (atomic g) (down (atomicPages g .fromBytes store)) (words g (eventsIn (atomic g) events) events) .state
+  unfoldable pub stateAfterBytes : List ℕ → List ℕ → StateOf (atomic g)
+  stateAfterBytes store events = play (atomic g) (down (atomicPages g .fromBytes store)) (words g (eventsIn (atomic g) events) events) .state
 
   -- the refusals of a run with the list, and then those of a question on the event, by the lengths of the buffers
   unfoldable pub refusedAfter : List ℕ → List ℕ → List ℕ → List ℕ → List ℕ → List ℕ → Option ℕ
@@ -39,7 +39,7 @@ module _ (g : Geometry) where
   unfoldable pub askedAfterBy : List ℕ → List ℕ → List ℕ → List ℕ → ℕ → List ℕ → Option ℕ → AskedAfter
   askedAfterBy store events answers event index write none =
       let ran = runAll (atomic g) store events answers in
-      let said = saidOf false g (after store events) (decode g (number event)) index write in
+      let said = saidOf false g (stateAfterBytes store events) (decode g (number event)) index write in
       record { answer = said .answer; store = ran .store; answers = ran .answers; write = said .write }
   askedAfterBy store events answers event index write (some n) = record { answer = n; store = store; answers = answers; write = write }
 
@@ -58,5 +58,5 @@ module _ (g : Geometry) where
 
 -- opens the definitions of this module: for what is proved by computing
 unfoldable pub open-after : Unit {0}
-unfolding orElse after refusedAfter askedAfterBy askedAfter
+unfolding orElse stateAfterBytes refusedAfter askedAfterBy askedAfter
 open-after = tt

@@ -21,22 +21,22 @@ pub record Asked : Type 0 where
   pub write : List ℕ
 
 -- 0, with the bytes of the write; or 12, no such write, and the buffer stays
-unfoldable pub told : Option (List ℕ) → List ℕ → Asked
-told none write = record { answer = 12; write = write }
-told (some bytes) write = record { answer = 0; write = bytes }
+unfoldable pub writeTold : Option (List ℕ) → List ℕ → Asked
+writeTold none write = record { answer = 12; write = write }
+writeTold (some bytes) write = record { answer = 0; write = bytes }
 
 -- the bytes of a page write: the page's number and the page; of a copy write the number of the copy between them, 0 for the first and 1 for the second
 unfoldable pub pageBytes : PageWrite → List ℕ
 pageBytes (sets n p) = n ∷ p
 
-unfoldable pub copyBytes : CopyWrite → List ℕ
-copyBytes (first n p) = n ∷ 0 ∷ p
-copyBytes (second n p) = n ∷ 1 ∷ p
+unfoldable pub copyWriteBytes : CopyWrite → List ℕ
+copyWriteBytes (first n p) = n ∷ 0 ∷ p
+copyWriteBytes (second n p) = n ∷ 1 ∷ p
 
 -- the writes of a plan on its medium, each as bytes, and how many bytes each has
 unfoldable pub spelledIn : Bool → List PageWrite → List (List ℕ)
 spelledIn false ws = map pageBytes ws
-spelledIn true ws = map copyBytes (copiesOf ws)
+spelledIn true ws = map copyWriteBytes (copiesOf ws)
 
 abbrev pub writeSize : Bool → ℕ
 writeSize false = suc pageSize
@@ -50,7 +50,7 @@ module _ (tears : Bool) (g : Geometry) where
 
   -- what is said of the write number `index` of an event on a state
   unfoldable pub saidOf : StateOf (formIn tears g) → Option Event → ℕ → List ℕ → Asked
-  saidOf s e index write = told (writeAt index (spelledIn tears (planFor s e))) write
+  saidOf s e index write = writeTold (writeAt index (spelledIn tears (planFor s e))) write
 
   -- The refusals in the order in which they are tried: by the lengths of the buffers, and then 25. `sound` says what is found of what is lent as a
   -- state.
@@ -74,5 +74,5 @@ module _ (tears : Bool) (g : Geometry) where
 
 -- opens the definitions of this module: for what is proved by computing
 unfoldable pub open-asked : Unit {0}
-unfolding told pageBytes copyBytes spelledIn planFor saidOf askLengths askRefusals askedBy asked
+unfolding writeTold pageBytes copyWriteBytes spelledIn planFor saidOf askLengths askRefusals askedBy asked
 open-asked = tt

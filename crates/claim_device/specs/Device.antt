@@ -71,8 +71,8 @@ module _ (g : Geometry) where
   listOf (h ∷ hs) = standsFor h ++ listOf hs
 
   -- what the events of that list and the rules' answers to them tell
-  unfoldable pub historyOf : List ℕ → List Happening → History
-  historyOf store hs = historyAfter (atomic g) store (listOf hs)
+  unfoldable pub deviceHistory : List ℕ → List Happening → History
+  deviceHistory store hs = historyAfter (atomic g) store (listOf hs)
 
   -- power cuts, and crashes and recoveries, each cut anywhere
   unfoldable pub isRestarting : Happening → Bool
@@ -93,9 +93,9 @@ module _ (g : Geometry) where
     -- The memory is the state that the rules' run over the list leaves.
     pub follows : deviceAfter store hs .memory ≡ stateAfter (atomic g) store (listOf hs)
     -- Demand 3, first half: the medium's settled records are the start's, overlaid with the writes of the transactions that survive.
-    pub settles : Surviving-overlay (settled g (pagesOf store)) (historyOf store hs) (settled g (deviceAfter store hs .medium))
+    pub settles : Surviving-overlay (settled g (pagesOf store)) (deviceHistory store hs) (settled g (deviceAfter store hs .medium))
     -- The central law: what a live transaction would read.
-    pub reads : (t r : ℕ) → live (deviceAfter store hs .memory) t ≡ true → let h = historyOf store hs in
+    pub reads : (t r : ℕ) → live (deviceAfter store hs .memory) t ≡ true → let h = deviceHistory store hs in
         visible (atomic g) (deviceAfter store hs .memory) t r ≡ overlaid (seenBy h t) r (h .writes) (settled g (pagesOf store) r)
     -- A commit survives: power cuts and recoveries, however many and wherever each is cut, leave the medium's settled records alone.
     pub survives-cuts : (more : List Happening) → restarting more ≡ true → (r : ℕ) →
@@ -119,5 +119,5 @@ module _ (g : Geometry) where
 
 -- opens the definitions of this module: for what is proved by computing
 unfoldable pub open-device : Unit {0}
-unfolding restarted happens lives deviceAfter cutWord standsFor listOf historyOf isRestarting restarting
+unfolding restarted happens lives deviceAfter cutWord standsFor listOf deviceHistory isRestarting restarting
 open-device = tt

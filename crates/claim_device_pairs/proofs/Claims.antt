@@ -25,7 +25,7 @@ use Rattle.history.specs.Claims.{seenBy, isRestart, restarts, stateAfter, rowsA
 use Rattle.history.proofs.Demand3.{independent-as, words-independent}
 use Rattle.history.proofs.Claims.{rows-played, reads-overlay, commit-survives}
 use Rattle.claim_device_pairs.specs.Copies.{behind, within}
-use Rattle.claim_device_pairs.specs.Device.{Happening, plays, fails, tears, loses, cutTo, wholly, restarted, deviceAfter, standsFor, listOf, allFit, wordsOf, historyOf, isRestarting, restarting, Torn-device-holds}
+use Rattle.claim_device_pairs.specs.Device.{TornHappening, plays, fails, tears, loses, cutTo, wholly, restartedPairs, tornDeviceAfter, eventsFor, allEventsFor, allFit, wordsFor, tornDeviceHistory, isRestartingPairs, restartingPairs, Torn-device-holds}
 use Rattle.claim_device_pairs.proofs.Device.{words-after, Follows, lives-follows}
 
 restart-cut : (k : ℕ) (e : Event) → isRestart (some (cutTo k e)) ≡ isRestart (some e)
@@ -57,18 +57,18 @@ module _ (g : Geometry) where
   unfolding isRestart
   crash-restarts = refl
 
-  stands-restart : (h : Happening) → isRestarting g h ≡ true → allRestart (standsFor g h) ≡ true
-  unfolding isRestarting standsFor allRestart wholly
+  stands-restart : (h : TornHappening) → isRestartingPairs g h ≡ true → allRestart (eventsFor g h) ≡ true
+  unfolding isRestartingPairs eventsFor allRestart wholly
   stands-restart (plays e) q = rw (restart-cut (uncut g) e, q)
   stands-restart (fails e j) q = rw (restart-cut (behind j) e, q, crash-restarts)
   stands-restart (tears e j) q = rw (restart-cut (within j) e, q, crash-restarts)
   stands-restart loses q = rw crash-restarts
 
-  list-restart : (hs : List Happening) → restarting g hs ≡ true → allRestart (listOf g hs) ≡ true
-  unfolding restarting listOf allRestart
+  list-restart : (hs : List TornHappening) → restartingPairs g hs ≡ true → allRestart (allEventsFor g hs) ≡ true
+  unfolding restartingPairs allEventsFor allRestart
   list-restart [] e = refl
   list-restart (h ∷ hs) e =
-      restart-append (standsFor g h) (listOf g hs) (stands-restart h (and-left (isRestarting g h) (restarting g hs) e)) (list-restart hs (and-right (isRestarting g h) (restarting g hs) e))
+      restart-append (eventsFor g h) (allEventsFor g hs) (stands-restart h (and-left (isRestartingPairs g h) (restartingPairs g hs) e)) (list-restart hs (and-right (isRestartingPairs g h) (restartingPairs g hs) e))
 
   words-restart : (es : List Event) → allFit g es ≡ true → allRestart es ≡ true → restarts g (map (encode g) es) ≡ true
   unfolding allFit allRestart restarts
@@ -77,10 +77,10 @@ module _ (g : Geometry) where
       rw (decode-encode g x (and-left (fits g x) (allFit g xs) f), and-left (isRestart (some x)) (allRestart xs) e)
       (words-restart xs (and-right (fits g x) (allFit g xs) f) (and-right (isRestart (some x)) (allRestart xs) e))
 
-  list-append : (hs ks : List Happening) → listOf g (hs ++ ks) ≡ listOf g hs ++ listOf g ks
-  unfolding listOf
+  list-append : (hs ks : List TornHappening) → allEventsFor g (hs ++ ks) ≡ allEventsFor g hs ++ allEventsFor g ks
+  unfolding allEventsFor
   list-append [] ks = refl
-  list-append (h ∷ hs) ks = ap (standsFor g h ++_) (list-append hs ks) ∙ sym (append-assoc (standsFor g h) (listOf g hs) (listOf g ks))
+  list-append (h ∷ hs) ks = ap (eventsFor g h ++_) (list-append hs ks) ∙ sym (append-assoc (eventsFor g h) (allEventsFor g hs) (allEventsFor g ks))
 
   map-append : (xs ys : List Event) → map (encode g) (xs ++ ys) ≡ map (encode g) xs ++ map (encode g) ys
   map-append [] ys = refl
@@ -95,47 +95,47 @@ module _ (g : Geometry) (proper : Proper g) (torn : g .tears ≡ true) (store : 
   laws : MediumLaws g (pairedPages g)
   laws = paired-laws g proper torn
 
-  module _ (hs : List Happening) (fit : allFit g (listOf g hs) ≡ true) where
-    follow : Follows g proper torn (deviceAfter g store hs) (stateAfter (inPairs g) store (wordsOf g hs))
-    unfolding deviceAfter stateAfter restarted down wordsOf
+  module _ (hs : List TornHappening) (fit : allFit g (allEventsFor g hs) ≡ true) where
+    follow : Follows g proper torn (tornDeviceAfter g store hs) (stateAfter (inPairs g) store (wordsFor g hs))
+    unfolding tornDeviceAfter stateAfter restartedPairs down wordsFor
     follow =
-        let F = lives-follows g proper torn (restarted g (pairsOf store)) refl hs fit in
-        record { memory = F .memory ∙ sym (words-after g (down (pairsOf store)) (listOf g hs) fit); medium = F .medium }
+        let F = lives-follows g proper torn (restartedPairs g (pairsOf store)) refl hs fit in
+        record { memory = F .memory ∙ sym (words-after g (down (pairsOf store)) (allEventsFor g hs) fit); medium = F .medium }
 
-    medium-is : deviceAfter g store hs .medium ≡ stateAfter (inPairs g) store (wordsOf g hs) .store
+    medium-is : tornDeviceAfter g store hs .medium ≡ stateAfter (inPairs g) store (wordsFor g hs) .store
     medium-is = follow .medium ∙ ap (λ s. s .store) (follow .memory)
 
-    reached : Reached (inPairs g) laws (stateAfter (inPairs g) store (wordsOf g hs))
+    reached : Reached (inPairs g) laws (stateAfter (inPairs g) store (wordsFor g hs))
     unfolding stateAfter
-    reached = reached-play (inPairs g) laws (down (pairsOf store)) (reached-start (inPairs g) laws store sized) (wordsOf g hs)
+    reached = reached-play (inPairs g) laws (down (pairsOf store)) (reached-start (inPairs g) laws store sized) (wordsFor g hs)
 
-    bytes-back : pairsOf (flatPairs (pageCount g) (deviceAfter g store hs .medium)) ≡ deviceAfter g store hs .medium
-    bytes-back = rw medium-is (laws .from-to (stateAfter (inPairs g) store (wordsOf g hs) .store) (reached .shaped))
+    bytes-back : pairsOf (flatPairs (pageCount g) (tornDeviceAfter g store hs .medium)) ≡ tornDeviceAfter g store hs .medium
+    bytes-back = rw medium-is (laws .from-to (stateAfter (inPairs g) store (wordsFor g hs) .store) (reached .shaped))
 
-    settled-is : Surviving-overlay (settled g (shown (pairsOf store))) (historyOf g store hs) (settled g (shown (deviceAfter g store hs .medium)))
-    unfolding historyOf settledIn
-    settled-is r = ap (λ (m : Pairs). settled g (shown m) r) medium-is ∙ reads-overlay (inPairs g) laws store (wordsOf g hs) sized .settles r
+    settled-is : Surviving-overlay (settled g (shown (pairsOf store))) (tornDeviceHistory g store hs) (settled g (shown (tornDeviceAfter g store hs .medium)))
+    unfolding tornDeviceHistory settledIn
+    settled-is r = ap (λ (m : Pairs). settled g (shown m) r) medium-is ∙ reads-overlay (inPairs g) laws store (wordsFor g hs) sized .settles r
 
-    reads-is : (t r : ℕ) → live (deviceAfter g store hs .memory) t ≡ true → let h = historyOf g store hs in
-        visible (inPairs g) (deviceAfter g store hs .memory) t r ≡ overlaid (seenBy h t) r (h .writes) (settled g (shown (pairsOf store)) r)
-    unfolding historyOf settledIn
-    reads-is t r e = rw (follow .memory) (reads-overlay (inPairs g) laws store (wordsOf g hs) sized .reads t r (rw (follow .memory) at e))
+    reads-is : (t r : ℕ) → live (tornDeviceAfter g store hs .memory) t ≡ true → let h = tornDeviceHistory g store hs in
+        visible (inPairs g) (tornDeviceAfter g store hs .memory) t r ≡ overlaid (seenBy h t) r (h .writes) (settled g (shown (pairsOf store)) r)
+    unfolding tornDeviceHistory settledIn
+    reads-is t r e = rw (follow .memory) (reads-overlay (inPairs g) laws store (wordsFor g hs) sized .reads t r (rw (follow .memory) at e))
 
-    bad-is : OneBadAtMost g (pairsOf store) → OneBadAtMost g (deviceAfter g store hs .medium)
+    bad-is : OneBadAtMost g (pairsOf store) → OneBadAtMost g (tornDeviceAfter g store hs .medium)
     unfolding stateAfter
-    bad-is h = rw medium-is (one-bad-kept g proper torn store sized h (wordsOf g hs))
+    bad-is h = rw medium-is (one-bad-kept g proper torn store sized h (wordsFor g hs))
 
-  two-is : (hs : List Happening) → allFit g (listOf g hs) ≡ true → (hs′ : List Happening) → allFit g (listOf g hs′) ≡ true → Independent-of-lost-writes g (startOf (inPairs g) store)
-      (rowsAfter (inPairs g) store (wordsOf g hs)) (settled g (shown (deviceAfter g store hs .medium)))
-      (rowsAfter (inPairs g) store (wordsOf g hs′)) (settled g (shown (deviceAfter g store hs′ .medium)))
+  two-is : (hs : List TornHappening) → allFit g (allEventsFor g hs) ≡ true → (hs′ : List TornHappening) → allFit g (allEventsFor g hs′) ≡ true → Independent-of-lost-writes g (startOf (inPairs g) store)
+      (rowsAfter (inPairs g) store (wordsFor g hs)) (settled g (shown (tornDeviceAfter g store hs .medium)))
+      (rowsAfter (inPairs g) store (wordsFor g hs′)) (settled g (shown (tornDeviceAfter g store hs′ .medium)))
   unfolding stateAfter rowsAfter
   two-is hs fit hs′ fit′ = independent-as g (startOf (inPairs g) store)
-      (rows-played (inPairs g) (down (pairsOf store)) (wordsOf g hs)) (λ r. ap (λ (m : Pairs). settled g (shown m) r) (medium-is hs fit))
-      (rows-played (inPairs g) (down (pairsOf store)) (wordsOf g hs′)) (λ r. ap (λ (m : Pairs). settled g (shown m) r) (medium-is hs′ fit′))
-      (words-independent (inPairs g) laws store (wordsOf g hs) (wordsOf g hs′) (reached-start (inPairs g) laws store sized))
+      (rows-played (inPairs g) (down (pairsOf store)) (wordsFor g hs)) (λ r. ap (λ (m : Pairs). settled g (shown m) r) (medium-is hs fit))
+      (rows-played (inPairs g) (down (pairsOf store)) (wordsFor g hs′)) (λ r. ap (λ (m : Pairs). settled g (shown m) r) (medium-is hs′ fit′))
+      (words-independent (inPairs g) laws store (wordsFor g hs) (wordsFor g hs′) (reached-start (inPairs g) laws store sized))
 
   -- THE DEVICE whose writes tear: whatever happens to it
-  pub torn-device-holds : (hs : List Happening) → allFit g (listOf g hs) ≡ true → Torn-device-holds g store hs
+  pub torn-device-holds : (hs : List TornHappening) → allFit g (allEventsFor g hs) ≡ true → Torn-device-holds g store hs
   torn-device-holds hs fit = record {
     agrees = follow hs fit .medium;
     reads-back = bytes-back hs fit;
@@ -147,24 +147,24 @@ module _ (g : Geometry) (proper : Proper g) (torn : g .tears ≡ true) (store : 
     one-bad = bad-is hs fit;
   }
     where
-      survives-is : (more : List Happening) → allFit g (listOf g more) ≡ true → restarting g more ≡ true → (r : ℕ)
-          → settled g (shown (deviceAfter g store (hs ++ more) .medium)) r ≡ settled g (shown (deviceAfter g store hs .medium)) r
+      survives-is : (more : List TornHappening) → allFit g (allEventsFor g more) ≡ true → restartingPairs g more ≡ true → (r : ℕ)
+          → settled g (shown (tornDeviceAfter g store (hs ++ more) .medium)) r ≡ settled g (shown (tornDeviceAfter g store hs .medium)) r
       survives-is more f e r =
-          let both : allFit g (listOf g (hs ++ more)) ≡ true = rw (list-append g hs more) (both-fit g (listOf g hs) (listOf g more) fit f) in
-          let words : wordsOf g (hs ++ more) ≡ wordsOf g hs ++ wordsOf g more = unfold wordsOf in ap (map (encode g)) (list-append g hs more) ∙ map-append g (listOf g hs) (listOf g more) in
-          let back : restarts g (wordsOf g more) ≡ true = unfold wordsOf in words-restart g (listOf g more) f (list-restart g more e) in
+          let both : allFit g (allEventsFor g (hs ++ more)) ≡ true = rw (list-append g hs more) (both-fit g (allEventsFor g hs) (allEventsFor g more) fit f) in
+          let words : wordsFor g (hs ++ more) ≡ wordsFor g hs ++ wordsFor g more = unfold wordsFor in ap (map (encode g)) (list-append g hs more) ∙ map-append g (allEventsFor g hs) (allEventsFor g more) in
+          let back : restarts g (wordsFor g more) ≡ true = unfold wordsFor in words-restart g (allEventsFor g more) f (list-restart g more e) in
           ap (λ (m : Pairs). settled g (shown m) r) (medium-is (hs ++ more) both)
           ∙ ap (λ (ws : List ℕ). settled g (shown (stateAfter (inPairs g) store ws .store)) r) words
           ∙ survives-words more back r
           ∙ sym (settled-is hs fit r)
         where
-          survives-words : (more : List Happening) → restarts g (wordsOf g more) ≡ true
-              → Surviving-overlay (settled g (shown (pairsOf store))) (historyOf g store hs)
-              (settled g (shown (stateAfter (inPairs g) store (wordsOf g hs ++ wordsOf g more) .store)))
-          survives-words more back = unfold historyOf settledIn Commit-survives in commit-survives (inPairs g) laws store (wordsOf g hs) (wordsOf g more) sized back
+          survives-words : (more : List TornHappening) → restarts g (wordsFor g more) ≡ true
+              → Surviving-overlay (settled g (shown (pairsOf store))) (tornDeviceHistory g store hs)
+              (settled g (shown (stateAfter (inPairs g) store (wordsFor g hs ++ wordsFor g more) .store)))
+          survives-words more back = unfold tornDeviceHistory settledIn Commit-survives in commit-survives (inPairs g) laws store (wordsFor g hs) (wordsFor g more) sized back
 
 -- of the form of document 02, L5
-pub torn-device-pairs : (store : List ℕ) → length store ≡ 2178 → (hs : List Happening) → allFit geometryPairs (listOf geometryPairs hs) ≡ true → Torn-device-holds geometryPairs store hs
+pub torn-device-pairs : (store : List ℕ) → length store ≡ 2178 → (hs : List TornHappening) → allFit geometryPairs (allEventsFor geometryPairs hs) ≡ true → Torn-device-holds geometryPairs store hs
 unfolding pageCount records
 torn-device-pairs store sized hs fit = torn-device-holds geometryPairs proper-pairs refl store (sized ∙ size) hs fit
   where

@@ -13,7 +13,7 @@ use Rattle.rules.specs.Commit.{PageWrite, sets}
 use Rattle.rules.specs.Pairs.{Pair, Pairs, good, bad, whole, torn, putAll, tearFirst, cutPairs}
 use Rattle.rules.proofs.Pairs.{cut-none, cut-append, cut-one-whole}
 use Rattle.claim_device.specs.CopyWrites.{first, second, copiesOf}
-use Rattle.claim_device_pairs.specs.Copies.{made, spoiled, carriedAll, carried, spoiledAt, behind, within}
+use Rattle.claim_device_pairs.specs.Copies.{made, spoiled, carriedAll, carriedCopies, spoiledAt, behind, within}
 
 module _ (n : ℕ) (p : Page) (s : Pairs) where
   abbrev half : Pair
@@ -52,13 +52,13 @@ cut-next c n p ws s =
     cut-append (4 + c) (sets n p ∷ []) ws s
     ∙ ap₂ (λ (k : ℕ) (x : Pairs). cutPairs k ws x .store) e (cut-one-whole (4 + c) n p s (omega arith))
 
-pub copies-behind : (j : ℕ) (ws : List PageWrite) (s : Pairs) → carried j (copiesOf ws) s ≡ cutPairs (behind j) ws s .store
-unfolding carried copiesOf behind
+pub copies-behind : (j : ℕ) (ws : List PageWrite) (s : Pairs) → carriedCopies j (copiesOf ws) s ≡ cutPairs (behind j) ws s .store
+unfolding carriedCopies copiesOf behind
 copies-behind zero ws s = sym (cut-none ws s)
 copies-behind (suc zero) [] s = sym (cut-nil 3 s)
 copies-behind (suc zero) (sets n p ∷ ws) s = unfold made cutPairs putAll tearFirst torn in refl
 copies-behind (suc (suc j)) [] s = sym (cut-nil (4 + behind j) s)
-copies-behind (suc (suc j)) (sets n p ∷ ws) s = ap (carried j (copiesOf ws)) (put-both n p s) ∙ copies-behind j ws (updated n (whole p) s) ∙ sym (cut-next (behind j) n p ws s)
+copies-behind (suc (suc j)) (sets n p ∷ ws) s = ap (carriedCopies j (copiesOf ws)) (put-both n p s) ∙ copies-behind j ws (updated n (whole p) s) ∙ sym (cut-next (behind j) n p ws s)
 
 pub copies-within : (j : ℕ) (ws : List PageWrite) (s : Pairs) → spoiledAt j (copiesOf ws) s ≡ cutPairs (within j) ws s .store
 unfolding spoiledAt copiesOf within

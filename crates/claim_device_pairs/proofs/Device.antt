@@ -13,15 +13,15 @@ use Rattle.rules.specs.Event.{Event, begin, lock, write, read, commit, abort, c
 use Rattle.rules.specs.State.{lineOf, down}
 use Rattle.rules.specs.Commit.{Cut, commitPlan, recoverPlan}
 use Rattle.rules.specs.Pairs.{Pairs, shown, mended, cutPairs, commitPairs, recoverPairs, inPairs}
-use Rattle.rules.specs.Step.{begun, locked, wrote, ended, retaining, aborted, raised, concluded, finished, firstOf, refusals, refusal, commitsTop, commitsChild, commits, recovers, act, judged, step}
+use Rattle.rules.specs.Step.{begun, locked, wrote, ended, retaining, aborted, raised, concluded, finished, firstOf, refusals, refusal, commitsTop, commitsChild, commits, recovers, act, outcomeBy, step}
 use Rattle.rules.specs.Run.{play}
 use Rattle.rules.proofs.Uncut.{uncut-count}
 use Rattle.rules.proofs.Event.{decode-encode}
 use Rattle.claim_device.specs.Plan.{linePlan, acceptedPlan, planBy, planOf}
 use Rattle.claim_device.specs.CopyWrites.{copiesOf}
 use Rattle.claim_device.proofs.Plan.{plan-short}
-use Rattle.claim_device_pairs.specs.Copies.{carried, spoiledAt, behind, within}
-use Rattle.claim_device_pairs.specs.Device.{Happening, plays, fails, tears, loses, cutTo, Memory, readied, readyBy, readyOf, wholly, Device, restarted, happens, lives, standsFor, listOf, allFit}
+use Rattle.claim_device_pairs.specs.Copies.{carriedCopies, spoiledAt, behind, within}
+use Rattle.claim_device_pairs.specs.Device.{TornHappening, plays, fails, tears, loses, cutTo, Memory, readied, readyBy, readyOf, wholly, TornDevice, restartedPairs, happensPairs, livesPairs, eventsFor, allEventsFor, allFit}
 use Rattle.claim_device_pairs.proofs.Copies.{copies-behind, copies-within, copies-whole, none-cut}
 
 -- events one after the other
@@ -105,11 +105,11 @@ module _ (g : Geometry) (proper : Proper g) (torn : g .tears ≡ true) where
     -- an event cut at k leaves what the rules' cut of its plan leaves
     step-store : (e : Event) → fits g (cutTo k e) ≡ true → step (inPairs g) s (some (cutTo k e)) .state .store ≡ cutPairs k (planOf true g s e) (readyOf g s e (s .store)) .store
     unfolding step planOf readyOf
-    step-store e h = ap (λ (o : Option ℕ). judged (inPairs g) s (cutTo k e) o .state .store) (cut-refused e) ∙ go (refusal (inPairs g) s e)
+    step-store e h = ap (λ (o : Option ℕ). outcomeBy (inPairs g) s (cutTo k e) o .state .store) (cut-refused e) ∙ go (refusal (inPairs g) s e)
       where
-        go : (o : Option ℕ) → judged (inPairs g) s (cutTo k e) o .state .store ≡ cutPairs k (planBy true g s e o) (readyBy g e (s .store) o) .store
-        go none = unfold judged planBy readyBy in act-store e h
-        go (some n) = unfold judged planBy readyBy in sym (none-cut k (s .store))
+        go : (o : Option ℕ) → outcomeBy (inPairs g) s (cutTo k e) o .state .store ≡ cutPairs k (planBy true g s e o) (readyBy g e (s .store) o) .store
+        go none = unfold outcomeBy planBy readyBy in act-store e h
+        go (some n) = unfold outcomeBy planBy readyBy in sym (none-cut k (s .store))
 
   -- the greatest count of a word leaves room for every plan
   wide : uncut g / 4 ≡ 2 ^ g .cutBits - 1
@@ -123,23 +123,23 @@ module _ (g : Geometry) (proper : Proper g) (torn : g .tears ≡ true) where
   plan-room s e = let h = plan-short true g s e in let w = proper .count-wide in rw wide (omega (arith, h, w))
 
   -- the machine goes on as the rules say, and the medium is its store
-  pub record Follows (d : Device g) (s : Memory g) : Type 0 where
+  pub record Follows (d : TornDevice g) (s : Memory g) : Type 0 where
     pub memory : d .memory ≡ s
     pub medium : d .medium ≡ d .memory .store
 
   crash-falls : (s : Memory g) → step (inPairs g) s (some crash) .state ≡ down (s .store)
-  unfolding step judged refusal refusals firstOf act finished
+  unfolding step outcomeBy refusal refusals firstOf act finished
   crash-falls s = refl
 
-  happens-follows : (d : Device g) → d .medium ≡ d .memory .store → (h : Happening) → allFit g (standsFor g h) ≡ true → Follows (happens g d h) (after g (d .memory) (standsFor g h))
-  unfolding happens standsFor after restarted allFit wholly
+  happens-follows : (d : TornDevice g) → d .medium ≡ d .memory .store → (h : TornHappening) → allFit g (eventsFor g h) ≡ true → Follows (happensPairs g d h) (after g (d .memory) (eventsFor g h))
+  unfolding happensPairs eventsFor after restartedPairs allFit wholly
   happens-follows d a (plays e) f = record {
     memory = refl;
     medium = rw a (copies-whole (uncut g) (planOf true g (d .memory) e) (readyOf g (d .memory) e (d .memory .store)) (plan-room (d .memory) e)
         ∙ sym (step-store (d .memory) (uncut g) e (and-left (fits g (cutTo (uncut g) e)) true f)));
   }
   happens-follows d a (fails e j) f = record {
-    memory = ap down (ap (λ (m : Pairs). carried j (copiesOf (planOf true g (d .memory) e)) (readyOf g (d .memory) e m)) a
+    memory = ap down (ap (λ (m : Pairs). carriedCopies j (copiesOf (planOf true g (d .memory) e)) (readyOf g (d .memory) e m)) a
         ∙ copies-behind j (planOf true g (d .memory) e) (readyOf g (d .memory) e (d .memory .store))
         ∙ sym (step-store (d .memory) (behind j) e (and-left (fits g (cutTo (behind j) e)) (fits g crash && true) f)))
         ∙ sym (crash-falls (step (inPairs g) (d .memory) (some (cutTo (behind j) e)) .state));
@@ -154,14 +154,14 @@ module _ (g : Geometry) (proper : Proper g) (torn : g .tears ≡ true) where
   }
   happens-follows d a loses f = record { memory = ap down a ∙ sym (crash-falls (d .memory)); medium = unfold down in refl }
 
-  pub lives-follows : (d : Device g) → d .medium ≡ d .memory .store → (hs : List Happening) → allFit g (listOf g hs) ≡ true → Follows (lives g d hs) (after g (d .memory) (listOf g hs))
-  unfolding lives listOf after
+  pub lives-follows : (d : TornDevice g) → d .medium ≡ d .memory .store → (hs : List TornHappening) → allFit g (allEventsFor g hs) ≡ true → Follows (livesPairs g d hs) (after g (d .memory) (allEventsFor g hs))
+  unfolding livesPairs allEventsFor after
   lives-follows d a [] f = record { memory = refl; medium = a }
   lives-follows d a (h ∷ hs) f =
-      let b = fit-append g (standsFor g h) (listOf g hs) f in
+      let b = fit-append g (eventsFor g h) (allEventsFor g hs) f in
       let F = happens-follows d a h (b .0) in
-      let G = lives-follows (happens g d h) (F .medium) hs (b .1) in
+      let G = lives-follows (happensPairs g d h) (F .medium) hs (b .1) in
       record {
-        memory = G .memory ∙ ap (λ (s : Memory g). after g s (listOf g hs)) (F .memory) ∙ sym (after-append g (d .memory) (standsFor g h) (listOf g hs));
+        memory = G .memory ∙ ap (λ (s : Memory g). after g s (allEventsFor g hs)) (F .memory) ∙ sym (after-append g (d .memory) (eventsFor g h) (allEventsFor g hs));
         medium = G .medium;
       }

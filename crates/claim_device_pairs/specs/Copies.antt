@@ -20,10 +20,10 @@ unfoldable pub carriedAll : List CopyWrite → Pairs → Pairs
 carriedAll [] s = s
 carriedAll (w ∷ ws) s = carriedAll ws (made w s)
 
-unfoldable pub carried : ℕ → List CopyWrite → Pairs → Pairs
-carried zero ws s = s
-carried (suc j) [] s = s
-carried (suc j) (w ∷ ws) s = carried j ws (made w s)
+unfoldable pub carriedCopies : ℕ → List CopyWrite → Pairs → Pairs
+carriedCopies zero ws s = s
+carriedCopies (suc j) [] s = s
+carriedCopies (suc j) (w ∷ ws) s = carriedCopies j ws (made w s)
 
 unfoldable pub spoiledAt : ℕ → List CopyWrite → Pairs → Pairs
 spoiledAt j [] s = s
@@ -44,5 +44,5 @@ within (suc (suc j)) = 4 + within j
 
 -- opens the definitions of this module: for what is proved by computing
 unfoldable pub open-copies : Unit {0}
-unfolding made spoiled carriedAll carried spoiledAt behind within
+unfolding made spoiled carriedAll carriedCopies spoiledAt behind within
 open-copies = tt

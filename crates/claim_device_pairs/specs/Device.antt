@@ -17,18 +17,18 @@ use Rattle.history.specs.Demand3.{Surviving-overlay, Independent-of-lost-writes
 use Rattle.history.specs.Claims.{seenBy, isRestart, stateAfter, rowsAfter, historyAfter}
 use Rattle.claim_device.specs.Plan.{planOf}
 use Rattle.claim_device.specs.CopyWrites.{copiesOf}
-use Rattle.claim_device_pairs.specs.Copies.{carriedAll, carried, spoiledAt, behind, within}
+use Rattle.claim_device_pairs.specs.Copies.{carriedAll, carriedCopies, spoiledAt, behind, within}
 
 -- What happens to a device.
-pub data Happening : Type 0 where
+pub data TornHappening : Type 0 where
   -- an event is played, with its count as in a word that cuts nothing, and all that it writes reaches the medium
-  plays : Event → Happening
+  plays : Event → TornHappening
   -- the power goes once so many of its copy writes have reached the medium (or all, where it has fewer)
-  fails : Event → ℕ → Happening
+  fails : Event → ℕ → TornHappening
   -- the power goes within the copy write behind so many, and leaves that copy bad
-  tears : Event → ℕ → Happening
+  tears : Event → ℕ → TornHappening
   -- the power goes between two events
-  loses : Happening
+  loses : TornHappening
 
 -- the same event with another place of its crash; only a commit and a recover have one here
 unfoldable pub cutTo : ℕ → Event → Event
@@ -74,42 +74,42 @@ module _ (g : Geometry) where
   unfoldable pub wholly : Event → Event
   wholly e = cutTo (uncut g) e
 
-  pub record Device : Type 0 where
+  pub record TornDevice : Type 0 where
     pub medium : Pairs
     pub memory : Memory
 
   -- the power comes back: the machine knows the medium's pairs and nothing else, and is down
-  unfoldable pub restarted : Pairs → Device
-  restarted m = record { medium = m; memory = down m }
+  unfoldable pub restartedPairs : Pairs → TornDevice
+  restartedPairs m = record { medium = m; memory = down m }
 
-  unfoldable pub happens : Device → Happening → Device
-  happens d (plays e) = record {
+  unfoldable pub happensPairs : TornDevice → TornHappening → TornDevice
+  happensPairs d (plays e) = record {
     medium = carriedAll (copiesOf (planOf true g (d .memory) e)) (readyOf (d .memory) e (d .medium));
     memory = step (inPairs g) (d .memory) (some (wholly e)) .state;
   }
-  happens d (fails e j) = restarted (carried j (copiesOf (planOf true g (d .memory) e)) (readyOf (d .memory) e (d .medium)))
-  happens d (tears e j) = restarted (spoiledAt j (copiesOf (planOf true g (d .memory) e)) (readyOf (d .memory) e (d .medium)))
-  happens d loses = restarted (d .medium)
+  happensPairs d (fails e j) = restartedPairs (carriedCopies j (copiesOf (planOf true g (d .memory) e)) (readyOf (d .memory) e (d .medium)))
+  happensPairs d (tears e j) = restartedPairs (spoiledAt j (copiesOf (planOf true g (d .memory) e)) (readyOf (d .memory) e (d .medium)))
+  happensPairs d loses = restartedPairs (d .medium)
 
-  unfoldable pub lives : Device → List Happening → Device
-  lives d [] = d
-  lives d (h ∷ hs) = lives (happens d h) hs
+  unfoldable pub livesPairs : TornDevice → List TornHappening → TornDevice
+  livesPairs d [] = d
+  livesPairs d (h ∷ hs) = livesPairs (happensPairs d h) hs
 
   -- a device whose power comes on over a medium with these bytes, after what happens to it
-  unfoldable pub deviceAfter : List ℕ → List Happening → Device
-  deviceAfter store hs = lives (restarted (pairsOf store)) hs
+  unfoldable pub tornDeviceAfter : List ℕ → List TornHappening → TornDevice
+  tornDeviceAfter store hs = livesPairs (restartedPairs (pairsOf store)) hs
 
   -- WHAT THE RULES SAY OF IT: the events that stand for what happened. Where the power goes behind j copy writes, or within the next, the event has a count and a
   -- value that say so; wherever the power goes there is a crash.
-  unfoldable pub standsFor : Happening → List Event
-  standsFor (plays e) = wholly e ∷ []
-  standsFor (fails e j) = cutTo (behind j) e ∷ crash ∷ []
-  standsFor (tears e j) = cutTo (within j) e ∷ crash ∷ []
-  standsFor loses = crash ∷ []
+  unfoldable pub eventsFor : TornHappening → List Event
+  eventsFor (plays e) = wholly e ∷ []
+  eventsFor (fails e j) = cutTo (behind j) e ∷ crash ∷ []
+  eventsFor (tears e j) = cutTo (within j) e ∷ crash ∷ []
+  eventsFor loses = crash ∷ []
 
-  unfoldable pub listOf : List Happening → List Event
-  listOf [] = []
-  listOf (h ∷ hs) = standsFor h ++ listOf hs
+  unfoldable pub allEventsFor : List TornHappening → List Event
+  allEventsFor [] = []
+  allEventsFor (h ∷ hs) = eventsFor h ++ allEventsFor hs
 
   -- they fit words: an event with a count that a word can hold
   unfoldable pub allFit : List Event → Bool
@@ -117,48 +117,48 @@ module _ (g : Geometry) where
   allFit (e ∷ es) = fits g e && allFit es
 
   -- as words, and what these and the rules' answers to them tell
-  unfoldable pub wordsOf : List Happening → List ℕ
-  wordsOf hs = map (encode g) (listOf hs)
+  unfoldable pub wordsFor : List TornHappening → List ℕ
+  wordsFor hs = map (encode g) (allEventsFor hs)
 
-  unfoldable pub historyOf : List ℕ → List Happening → History
-  historyOf store hs = historyAfter (inPairs g) store (wordsOf hs)
+  unfoldable pub tornDeviceHistory : List ℕ → List TornHappening → History
+  tornDeviceHistory store hs = historyAfter (inPairs g) store (wordsFor hs)
 
   -- power cuts, and crashes and recoveries, each cut or torn anywhere
-  unfoldable pub isRestarting : Happening → Bool
-  isRestarting (plays e) = isRestart (some e)
-  isRestarting (fails e j) = isRestart (some e)
-  isRestarting (tears e j) = isRestart (some e)
-  isRestarting loses = true
+  unfoldable pub isRestartingPairs : TornHappening → Bool
+  isRestartingPairs (plays e) = isRestart (some e)
+  isRestartingPairs (fails e j) = isRestart (some e)
+  isRestartingPairs (tears e j) = isRestart (some e)
+  isRestartingPairs loses = true
 
-  unfoldable pub restarting : List Happening → Bool
-  restarting [] = true
-  restarting (h ∷ hs) = isRestarting h && restarting hs
+  unfoldable pub restartingPairs : List TornHappening → Bool
+  restartingPairs [] = true
+  restartingPairs (h ∷ hs) = isRestartingPairs h && restartingPairs hs
 
   -- OF EVERY SUCH DEVICE, whatever has happened to it.
-  pub record Torn-device-holds (store : List ℕ) (hs : List Happening) : Type 0 where
+  pub record Torn-device-holds (store : List ℕ) (hs : List TornHappening) : Type 0 where
     -- The medium is what the memory has as the store: after every power cut it is safe to go on from the medium alone.
-    pub agrees : deviceAfter store hs .medium ≡ deviceAfter store hs .memory .store
+    pub agrees : tornDeviceAfter store hs .medium ≡ tornDeviceAfter store hs .memory .store
     -- The medium's bytes spell it: a machine that starts from them starts from this medium.
-    pub reads-back : pairsOf (flatPairs (pageCount g) (deviceAfter store hs .medium)) ≡ deviceAfter store hs .medium
+    pub reads-back : pairsOf (flatPairs (pageCount g) (tornDeviceAfter store hs .medium)) ≡ tornDeviceAfter store hs .medium
     -- The memory is the state that the rules' run over the list leaves.
-    pub follows : deviceAfter store hs .memory ≡ stateAfter (inPairs g) store (wordsOf hs)
+    pub follows : tornDeviceAfter store hs .memory ≡ stateAfter (inPairs g) store (wordsFor hs)
     -- Demand 3, first half: the records that the pairs show are the start's, overlaid with the writes of the transactions that survive.
-    pub settles : Surviving-overlay (settled g (shown (pairsOf store))) (historyOf store hs) (settled g (shown (deviceAfter store hs .medium)))
+    pub settles : Surviving-overlay (settled g (shown (pairsOf store))) (tornDeviceHistory store hs) (settled g (shown (tornDeviceAfter store hs .medium)))
     -- The central law: what a live transaction would read.
-    pub reads : (t r : ℕ) → live (deviceAfter store hs .memory) t ≡ true → let h = historyOf store hs in
-        visible (inPairs g) (deviceAfter store hs .memory) t r ≡ overlaid (seenBy h t) r (h .writes) (settled g (shown (pairsOf store)) r)
+    pub reads : (t r : ℕ) → live (tornDeviceAfter store hs .memory) t ≡ true → let h = tornDeviceHistory store hs in
+        visible (inPairs g) (tornDeviceAfter store hs .memory) t r ≡ overlaid (seenBy h t) r (h .writes) (settled g (shown (pairsOf store)) r)
     -- A commit survives: power cuts and recoveries, however many and wherever each is cut or torn, leave the settled records alone.
-    pub survives-tears : (more : List Happening) → allFit (listOf more) ≡ true → restarting more ≡ true → (r : ℕ)
-        → settled g (shown (deviceAfter store (hs ++ more) .medium)) r ≡ settled g (shown (deviceAfter store hs .medium)) r
+    pub survives-tears : (more : List TornHappening) → allFit (allEventsFor more) ≡ true → restartingPairs more ≡ true → (r : ℕ)
+        → settled g (shown (tornDeviceAfter store (hs ++ more) .medium)) r ≡ settled g (shown (tornDeviceAfter store hs .medium)) r
     -- Demand 3, second half: another device over the same bytes, to which the same happens but for the values in accepted writes of transactions
     -- that are lost on this one, has the same answers and the same settled records on its medium.
-    pub two-devices : (hs′ : List Happening) → allFit (listOf hs′) ≡ true → Independent-of-lost-writes g (startOf (inPairs g) store)
-        (rowsAfter (inPairs g) store (wordsOf hs)) (settled g (shown (deviceAfter store hs .medium)))
-        (rowsAfter (inPairs g) store (wordsOf hs′)) (settled g (shown (deviceAfter store hs′ .medium)))
+    pub two-devices : (hs′ : List TornHappening) → allFit (allEventsFor hs′) ≡ true → Independent-of-lost-writes g (startOf (inPairs g) store)
+        (rowsAfter (inPairs g) store (wordsFor hs)) (settled g (shown (tornDeviceAfter store hs .medium)))
+        (rowsAfter (inPairs g) store (wordsFor hs′)) (settled g (shown (tornDeviceAfter store hs′ .medium)))
     -- No page is lost: from a medium with at most one bad copy in each pair, it always has that.
-    pub one-bad : OneBadAtMost g (pairsOf store) → OneBadAtMost g (deviceAfter store hs .medium)
+    pub one-bad : OneBadAtMost g (pairsOf store) → OneBadAtMost g (tornDeviceAfter store hs .medium)
 
 -- opens the definitions of this module: for what is proved by computing
-unfoldable pub open-device : Unit {0}
-unfolding cutTo readied readyBy readyOf wholly restarted happens lives deviceAfter standsFor listOf allFit wordsOf historyOf isRestarting restarting
-open-device = tt
+unfoldable pub open-torn-device : Unit {0}
+unfolding cutTo readied readyBy readyOf wholly restartedPairs happensPairs livesPairs tornDeviceAfter eventsFor allEventsFor allFit wordsFor tornDeviceHistory isRestartingPairs restartingPairs
+open-torn-device = tt

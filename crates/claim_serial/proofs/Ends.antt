@@ -26,7 +26,7 @@ use Rattle.rules.proofs.Medium.{MediumLaws, changedIn, stored, isClear}
 use Rattle.rules.proofs.Acceptance.{CommitOk, PrepareOk, commit-ok, commit-clear, prepare-ok, Judged, acts, refuses, judge?}
 use Rattle.rules.proofs.Locks.{rooted-of, tree-of, live-line, member-live, no-child, top-line, child-line}
 use Rattle.rules.proofs.Reserved.{clear-of, for-some, prepare-fits}
-use Rattle.history.specs.History.{History, accepted, suffices, isWhole, effectOf, effect, after, ending, allEnding, told, belongs, bearerOf, names}
+use Rattle.history.specs.History.{History, accepted, suffices, isWholeAnswer, effectOf, effect, after, ending, allEnding, told, belongs, bearerOf, names}
 use Rattle.history.specs.Entries.{awaits, owner, topOf, entryOf, entryBy, entry}
 use Rattle.history.proofs.Roots.{Root, settled, lost, waiting, at, isSettled, allLost}
 use Rattle.history.proofs.Table.{Table, bearer-one}
@@ -156,7 +156,7 @@ module _ (f : Form) (L : MediumLaws (f .geometry) (f .medium)) {s : StateOf f} (
 
   -- a prepare of x: what changed nothing just commits, other wait, or are cut
   ends-prepare : (x k i : ℕ) → fits (f .geometry) (prepare x k i) ≡ true → PrepareOk f s x → EndsAt (prepare x k i) (commitsTop f s x (f .medium .prepare (s .store) (s .version x) i k))
-  unfolding commitsTop concluded endedState down closes isWhole entry entryBy owner belongs bearerOf names accepted told effectOf effect after ending allEnding entryOf topOf valueOf
+  unfolding commitsTop concluded endedState down closes isWholeAnswer entry entryBy owner belongs bearerOf names accepted told effectOf effect after ending allEnding entryOf topOf valueOf
   ends-prepare x k i fit ok fin finw = go (c .crashed) refl fin
     where
       c : Cut (f .medium .Store)

@@ -26,7 +26,7 @@ use Rattle.rules.proofs.Acceptance.{CommitOk, PrepareOk, commit-clear, prepare-
 use Rattle.rules.proofs.Locks.{rooted-of, live-line, beneath-closed, top-line}
 use Rattle.rules.proofs.Reserved.{for-some, prepare-fits}
 use Rattle.rules.proofs.Soundness.{alone-closed}
-use Rattle.history.specs.History.{Fate, ended, History, accepted, isWithin, suffices, ending, isWhole, effectOf, effect, after, told, belongs, bearerOf, names}
+use Rattle.history.specs.History.{Fate, ended, History, accepted, isWithin, suffices, ending, isWholeAnswer, effectOf, effect, after, told, belongs, bearerOf, names}
 use Rattle.history.specs.Entries.{Entry, awaits, waitingIn, owner, topOf, entryOf, entryBy, entry}
 use Rattle.history.proofs.Roots.{Root, settled, lost, waiting, at, isSettled, move}
 use Rattle.history.proofs.Table.{Table, bearer-some}
@@ -193,7 +193,7 @@ module _ (f : Form) (L : MediumLaws (f .geometry) (f .medium)) {s : StateOf f} (
 
   -- a prepare of x, which stands alone
   goes-prepare : (x k i : ℕ) → fits (f .geometry) (prepare x k i) ≡ true → PrepareOk f s x → Went (prepare x k i) (commitsTop f s x (f .medium .prepare (s .store) (s .version x) i k))
-  unfolding commitsTop concluded down open-state endedState told effectOf effect after entry entryBy owner belongs bearerOf names accepted entryOf topOf ending isWhole
+  unfolding commitsTop concluded down open-state endedState told effectOf effect after entry entryBy owner belongs bearerOf names accepted entryOf topOf ending isWholeAnswer
   goes-prepare x k i fit ok = go (c .crashed)
     where
       c : Cut (f .medium .Store)

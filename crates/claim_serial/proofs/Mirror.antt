@@ -15,7 +15,7 @@ use Rattle.rules.specs.Event.{Event, Access, fits}
 use Rattle.rules.specs.State.{lineOf, mem, live}
 use Rattle.rules.specs.Locks.{bars}
 use Rattle.rules.specs.Form.{Form}
-use Rattle.rules.specs.Step.{Answer, numberOf, valueOf, StateOf, OutcomeOf, refusal, act, judged, step}
+use Rattle.rules.specs.Step.{Answer, numberOf, valueOf, StateOf, OutcomeOf, refusal, act, outcomeBy, step}
 use Rattle.rules.proofs.Medium.{MediumLaws}
 use Rattle.rules.proofs.Shaped.{shaped-step}
 use Rattle.rules.proofs.Soundness.{Reached, sound-step}
@@ -100,8 +100,8 @@ module _ (f : Form) where
 
   -- an event that is not refused acts
   pub acting : (u : StateOf f) (e : Event) → refusal f u e ≡ none → step f u (some e) ≡ act f u e
-  unfolding step judged
-  acting u e q = ap (judged f u e) q
+  unfolding step outcomeBy
+  acting u e q = ap (outcomeBy f u e) q
 
   pub fits-step : {d : f .medium .Store} {sv′ : ℕ → Bool} {s′ : StateOf f} {a : Answer} {name : ℕ → ℕ} (u : StateOf f) (e e′ : Event) → refusal f u e′ ≡ none
       → Fits d sv′ s′ e a name (act f u e′) → Fits d sv′ s′ e a name (step f u (some e′))

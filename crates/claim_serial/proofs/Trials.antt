@@ -19,8 +19,8 @@ use Rattle.history.specs.Claims.{open-claims}
 use Rattle.history.specs.Entries.{open-entries}
 use Rattle.claim_serial.specs.Serial.{open-serial}
 use Rattle.claim_serial.specs.OneAtATime.{open-one}
-use Rattle.claim_serial.specs.Trials.{freshStore, committedStore, damagedStore, preparedStore, answersOf, passes, allPass, trials}
+use Rattle.claim_serial.specs.Trials.{freshStore, committedStore, damagedStore, preparedStore, playedAnswers, serialTrialPasses, serialTrialsPass, serialTrials}
 
-pub trials-hold : T (allPass trials)
-unfolding open-tests open-counting open-functions open-bytes open-geometry open-event open-store open-state open-locks open-versions open-commit open-step open-run open-history open-demand open-claims open-entries open-serial open-one freshStore committedStore damagedStore preparedStore answersOf passes allPass
+pub trials-hold : T (serialTrialsPass serialTrials)
+unfolding open-tests open-counting open-functions open-bytes open-geometry open-event open-store open-state open-locks open-versions open-commit open-step open-run open-history open-demand open-claims open-entries open-serial open-one freshStore committedStore damagedStore preparedStore playedAnswers serialTrialPasses serialTrialsPass
 trials-hold = tt

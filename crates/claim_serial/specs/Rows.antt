@@ -10,19 +10,16 @@ use Rattle.rules.specs.Step.{Answer, done, cut}
 use Rattle.rules.specs.Editions.{geometry1}
 use Rattle.history.specs.History.{History}
 use Rattle.history.specs.Entries.{Entry}
-use Rattle.history.specs.Trials.{Line, toldAll}
+use Rattle.history.specs.Trials.{AnsweredEvent, toldAll, ok}
 use Rattle.claim_serial.specs.Serial.{closes, plays, order, serial}
 use Rattle.claim_serial.specs.OneAtATime.{renamed, naming, isRead}
 
-abbrev ok : Answer
-ok = done 0
-
-abbrev digits : List Bool → List ℕ
-digits [] = []
-digits (b ∷ bs) = cond b 1 0 ∷ digits bs
+abbrev flagDigits : List Bool → List ℕ
+flagDigits [] = []
+flagDigits (b ∷ bs) = cond b 1 0 ∷ flagDigits bs
 
 -- an event of each kind, with answers that make a difference
-abbrev kinds : List Line
+abbrev kinds : List AnsweredEvent
 kinds =
     (begin nobody, ok) ∷ (lock 0 3 toWrite, ok) ∷ (write 0 3 1 7, ok) ∷ (read 0 3 1, ok) ∷ (abort 0 true, ok) ∷ (crash, ok) ∷ (recover 63, ok) ∷ (query 5, ok) ∷
     (commit 0 63, done 4) ∷ (commit 0 63, ok) ∷ (commit 0 2, cut 2) ∷ (prepare 0 63 5, done 2) ∷ (prepare 0 63 5, ok) ∷ (decide true 63 5, done 3) ∷ (decide false 63 5, done 1) ∷ []
@@ -30,12 +27,12 @@ kinds =
 -- a commit, a prepare that wrote nothing and a stored decision close
 abbrev pub closesRight : Bool
 closesRight =
-    sameList (digits (map (λ (l : Line). closes (l .0) (l .1)) kinds))
+    sameList (flagDigits (map (λ (l : AnsweredEvent). closes (l .0) (l .1)) kinds))
     (0 ∷ 0 ∷ 0 ∷ 0 ∷ 0 ∷ 0 ∷ 0 ∷ 0 ∷ 1 ∷ 1 ∷ 1 ∷ 0 ∷ 1 ∷ 1 ∷ 1 ∷ [])
 
 abbrev pub readsRight : Bool
 readsRight =
-    sameList (digits (map (λ (l : Line). isRead (l .0)) kinds))
+    sameList (flagDigits (map (λ (l : AnsweredEvent). isRead (l .0)) kinds))
     (0 ∷ 0 ∷ 0 ∷ 1 ∷ 0 ∷ 0 ∷ 0 ∷ 0 ∷ 0 ∷ 0 ∷ 0 ∷ 0 ∷ 0 ∷ 0 ∷ 0 ∷ [])
 
 -- who is played, of 0 and the transactions of this list: 1 survives with its child 2; 3 and the child 4 that it lost are lost
@@ -43,7 +40,7 @@ abbrev pub playsRight : History → Bool
 playsRight start =
     let h = toldAll start (
     (recover 63, ok) ∷ (begin nobody, ok) ∷ (begin 0, done 1) ∷ (begin nobody, done 2) ∷ (begin 2, done 3) ∷ (abort 3 false, ok) ∷ (commit 1 63, ok) ∷ (commit 0 63, ok) ∷ (crash, ok) ∷ []) in
-    sameList (digits (map (plays h) (0 ∷ 1 ∷ 2 ∷ 3 ∷ 4 ∷ []))) (1 ∷ 1 ∷ 1 ∷ 0 ∷ 0 ∷ [])
+    sameList (flagDigits (map (plays h) (0 ∷ 1 ∷ 2 ∷ 3 ∷ 4 ∷ []))) (1 ∷ 1 ∷ 1 ∷ 0 ∷ 0 ∷ [])
 
 abbrev of : ℕ → ℕ → Event → Answer → Entry
 of i t e a = record { event = e; answer = a; transaction = i; top = t }
@@ -63,14 +60,14 @@ final i = under i 4 || same i 5
 abbrev pub orderRight : Bool
 orderRight = sameList (order final list) (0 ∷ 2 ∷ 5 ∷ 1 ∷ [])
 
-abbrev spelled : List Entry → List ℕ
-spelled [] = []
-spelled (x ∷ xs) = x .transaction ∷ encode geometry1 (x .event) ∷ spelled xs
+abbrev spelledEntries : List Entry → List ℕ
+spelledEntries [] = []
+spelledEntries (x ∷ xs) = x .transaction ∷ encode geometry1 (x .event) ∷ spelledEntries xs
 
 abbrev pub serialRight : Bool
 serialRight =
-    sameList (spelled (serial final list))
-    (spelled (
+    sameList (spelledEntries (serial final list))
+    (spelledEntries (
     of 0 0 (decide false 63 9) ok ∷
     of 2 2 (begin nobody) ok ∷ of 2 2 (lock 1 5 toRead) ok ∷ of 2 2 (commit 1 63) ok ∷
     of 5 5 (begin nobody) ok ∷ of 5 5 (prepare 2 63 9) ok ∷ of 5 5 (decide true 63 9) ok ∷
@@ -86,16 +83,16 @@ renamedRight =
     begin nobody ∷ begin 12 ∷ lock 12 3 toRead ∷ write 12 3 1 7 ∷ read 12 3 1 ∷ commit 12 63 ∷ abort 12 true ∷ crash ∷ recover 63 ∷ prepare 12 63 9 ∷ decide true 63 9 ∷ decide false 63 9 ∷ query 9 ∷ []))
 
 -- number 2 was given in the run, 0 is given now: only a begin changes what a number stands for
-abbrev names : Event → List ℕ
-names e = map (naming (λ t. t + 10) e 2 0) (1 ∷ 2 ∷ 3 ∷ [])
+abbrev namedNumbers : Event → List ℕ
+namedNumbers e = map (naming (λ t. t + 10) e 2 0) (1 ∷ 2 ∷ 3 ∷ [])
 
-abbrev allNamed : List Line → Bool
+abbrev allNamed : List AnsweredEvent → Bool
 allNamed [] = true
-allNamed (l ∷ ls) = sameList (names (l .0)) (11 ∷ 12 ∷ 13 ∷ []) && allNamed ls
+allNamed (l ∷ ls) = sameList (namedNumbers (l .0)) (11 ∷ 12 ∷ 13 ∷ []) && allNamed ls
 
-abbrev rest : List Line → List Line
+abbrev rest : List AnsweredEvent → List AnsweredEvent
 rest [] = []
 rest (l ∷ ls) = ls
 
 abbrev pub namingRight : Bool
-namingRight = sameList (names (begin nobody)) (11 ∷ 0 ∷ 13 ∷ []) && sameList (names (begin 1)) (11 ∷ 0 ∷ 13 ∷ []) && allNamed (rest kinds)
+namingRight = sameList (namedNumbers (begin nobody)) (11 ∷ 0 ∷ 13 ∷ []) && sameList (namedNumbers (begin 1)) (11 ∷ 0 ∷ 13 ∷ []) && allNamed (rest kinds)

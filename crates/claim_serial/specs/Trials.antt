@@ -14,9 +14,10 @@ use Rattle.rules.specs.Run.{answerBytes, play}
 use Rattle.rules.specs.Editions.{geometry1, edition1}
 use Rattle.history.specs.Claims.{rowsAfter}
 use Rattle.claim_serial.specs.OneAtATime.{replay}
+use Rattle.history.specs.Trials.{ok}
 
 -- the start store's bytes, the list and its answers, the replay and its answers
-pub record Trial : Type 0 where
+pub record SerialTrial : Type 0 where
   pub store : List ℕ
   pub events : List Event
   pub answers : List Answer
@@ -37,27 +38,24 @@ damagedStore = edition1 .medium .toBytes (updated 0 blank (edition1 .medium .fre
 unfoldable pub preparedStore : List ℕ
 preparedStore = edition1 .medium .toBytes (updated 0 (preparedPage geometry1 (record { map = 4096; identity = 5 })) (updated 4 (7 ∷ replicate 31 0) (edition1 .medium .fresh)))
 
-unfoldable pub answersOf : List ℕ → List ℕ → List Answer
-answersOf store ws = play edition1 (down (edition1 .medium .fromBytes store)) ws .answers
+unfoldable pub playedAnswers : List ℕ → List ℕ → List Answer
+playedAnswers store ws = play edition1 (down (edition1 .medium .fromBytes store)) ws .answers
 
 -- the run and the replay are answered so, and the replay is this list
-unfoldable pub passes : Trial → Bool
-passes t =
+unfoldable pub serialTrialPasses : SerialTrial → Bool
+serialTrialPasses t =
     let ws = map (encode geometry1) (t .events) in
     let vs = replay edition1 (t .store) (rowsAfter edition1 (t .store) ws) in
-    sameList (answerBytes (answersOf (t .store) ws)) (answerBytes (t .answers)) &&
+    sameList (answerBytes (playedAnswers (t .store) ws)) (answerBytes (t .answers)) &&
     sameList vs (map (encode geometry1) (t .replayed)) &&
-    sameList (answerBytes (answersOf (t .store) vs)) (answerBytes (t .again))
+    sameList (answerBytes (playedAnswers (t .store) vs)) (answerBytes (t .again))
 
-unfoldable pub allPass : List Trial → Bool
-allPass [] = true
-allPass (t ∷ ts) = passes t && allPass ts
+unfoldable pub serialTrialsPass : List SerialTrial → Bool
+serialTrialsPass [] = true
+serialTrialsPass (t ∷ ts) = serialTrialPasses t && serialTrialsPass ts
 
-abbrev ok : Answer
-ok = done 0
-
-abbrev pub trials : List Trial
-trials =
+abbrev pub serialTrials : List SerialTrial
+serialTrials =
     -- Two tops interleaved that read record 3 together: 0 and 1. The child 2 of 1 aborts with a report, and its number goes to a child of 0; a
     -- third top one is lost in the crash that cuts the commit of 0 behind its commit record. 1 goes first, whole; then 0, whose child bears 1 now.
     record {

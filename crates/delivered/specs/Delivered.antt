@@ -20,7 +20,7 @@ use Rattle.history.specs.Claims.{Reads-overlay, Commit-survives}
 use Rattle.history.specs.Survival.{Survives-in-k}
 use Rattle.claim_serial.specs.OneAtATime.{One-run-at-a-time-holds}
 use Rattle.claim_device.specs.Device.{Happening, Device-holds}
-use Rattle.claim_device_pairs.specs.Device.{Happening as TornHappening, listOf, allFit, Torn-device-holds}
+use Rattle.claim_device_pairs.specs.Device.{TornHappening, allEventsFor, allFit, Torn-device-holds}
 use Rattle.depot_agreement.specs.Agreement.{Agreement, Fresh}
 use Rattle.audit_rules.specs.Audit.{audit1}
 use Rattle.audit_rules.specs.Walk.{plainAudit}
@@ -70,7 +70,7 @@ pub record Promised-of-torn-pages : Type 0 where
   pub one-bad-kept : (store : List ℕ) → length store ≡ editionPairs .medium .size → OneBadAtMost geometryPairs (pairsOf store)
       → (ws : List ℕ) → OneBadAtMost geometryPairs (play editionPairs (down (pairsOf store)) ws .state .store)
   -- Wherever the power goes among copy writes, between two or within one, the medium is what the rules' tears leave.
-  pub device : (store : List ℕ) → length store ≡ 2178 → (hs : List TornHappening) → allFit geometryPairs (listOf geometryPairs hs) ≡ true → Torn-device-holds geometryPairs store hs
+  pub device : (store : List ℕ) → length store ≡ 2178 → (hs : List TornHappening) → allFit geometryPairs (allEventsFor geometryPairs hs) ≡ true → Torn-device-holds geometryPairs store hs
   -- Each tear at each write of a commit and of a recovery, and torn again, by computing.
   pub torn-rows : T (allHold editionPairs commitRows) × T (allHold editionPairs wholeRows) × T (allHold editionPairs recoveryRows) × T (allHold editionPairs againRows)
   pub rows : T (allHold editionPairs mendRows) × T (allSo editionPairs calmRows) × AllHold editionPairs numbersPairs trialsOfPairs × AllGo editionPairs numbersPairs playedPairs

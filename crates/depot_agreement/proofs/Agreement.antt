@@ -21,7 +21,7 @@ use Rattle.rules.proofs.AtomicPages.{atomic-laws}
 use Rattle.rules.proofs.Soundness.{Reached, reached-start, reached-word}
 use Rattle.depot_agreement.specs.Depot.{Stage, Input, start, yes, no, giveUp, Order, toPrepare, toCommit, toAbort, goes, table, decision, open-depot}
 use Rattle.depot_agreement.specs.Messages.{Message, order, vote, about, inputOf, following, isOwn, reply, News, nothing, taken, ended, news, open-messages}
-use Rattle.depot_agreement.specs.Agreement.{Network, sending, World, preparedAt, played, depotTurns, sinceThen, obeyedThen, gateTurns, loses, Fresh, Happens, starts, givesUp, votes, orders, plays, lost, Reaches, here, then, first, Agreement}
+use Rattle.depot_agreement.specs.Agreement.{Network, sending, World, preparedAt, gatewayPlays, depotTurns, sinceThen, obeyedThen, gateTurns, loses, Fresh, Happens, starts, givesUp, votes, orders, plays, lost, Reaches, here, then, firstWorld, Agreement}
 use Rattle.depot_agreement.proofs.Table.{ruling, isStart, none-some, keeps, asks}
 use Rattle.depot_agreement.proofs.Follows.{Follows, Fits, news-fits, follows-word}
 
@@ -183,29 +183,29 @@ module _ (f : Form) (M : MediumLaws (f .geometry) (f .medium)) where
 
     -- the gateway plays a word; where that ends a transaction the depot holds the decision
     gated : (x : ℕ) → ((i k : ℕ) (d : Bool) → decode (f .geometry) x ≡ some (decide d k i) → decision (w .depot i) ≡ some d) → Holds (gateTurns f w x)
-    unfolding preparedAt played
-    gated x told = go (news (decode (f .geometry) x) (played f w x .answer)) (follows-word f M (I .reached .sound) x) (news-fits (decode (f .geometry) x) (played f w x .answer))
+    unfolding preparedAt gatewayPlays
+    gated x told = go (news (decode (f .geometry) x) (gatewayPlays f w x .answer)) (follows-word f M (I .reached .sound) x) (news-fits (decode (f .geometry) x) (gatewayPlays f w x .answer))
       where
         v : News → World f
         v t = record {
           depot = w .depot;
           round = w .round;
-          gate = played f w x .state;
+          gate = gatewayPlays f w x .state;
           since = sinceThen f w t;
-          network = sending (reply (decode (f .geometry) x) (played f w x .answer)) (w .network);
+          network = sending (reply (decode (f .geometry) x) (gatewayPlays f w x .answer)) (w .network);
           ruled = w .ruled;
           obeyed = obeyedThen f w t;
         }
 
-        sent′ : (i : ℕ) (q : Order) (b : Bool) → sending (reply (decode (f .geometry) x) (played f w x .answer)) (w .network) (order i q) → ruling q ≡ some b → decision (w .depot i) ≡ some b
-        sent′ i q b m h = by (reply (decode (f .geometry) x) (played f w x .answer)) (reply-votes (decode (f .geometry) x) (played f w x .answer)) m
+        sent′ : (i : ℕ) (q : Order) (b : Bool) → sending (reply (decode (f .geometry) x) (gatewayPlays f w x .answer)) (w .network) (order i q) → ruling q ≡ some b → decision (w .depot i) ≡ some b
+        sent′ i q b m h = by (reply (decode (f .geometry) x) (gatewayPlays f w x .answer)) (reply-votes (decode (f .geometry) x) (gatewayPlays f w x .answer)) m
           where
             by : (o : Option Message) → Vote o → sending o (w .network) (order i q) → decision (w .depot i) ≡ some b
             by none z m = I .sent i q b m h
             by (some y) z (inr m) = I .sent i q b m h
             by (some y) z (inl m) = absurd (true≢false (ap isOrder m ∙ z))
 
-        go : (t : News) → Follows (preparedAt f w) t (f .medium .prepared (played f w x .state .store)) → Fits (decode (f .geometry) x) t → Holds (v t)
+        go : (t : News) → Follows (preparedAt f w) t (f .medium .prepared (gatewayPlays f w x .state .store)) → Fits (decode (f .geometry) x) t → Holds (v t)
         go nothing F k = record {
           reached = reached-word f M (I .reached) x;
           sent = sent′;
@@ -284,7 +284,7 @@ module _ (f : Form) (M : MediumLaws (f .geometry) (f .medium)) where
   reaches-holds I here = I
   reaches-holds I (then r s) = happens-holds (reaches-holds I r) s
 
-  first-holds : (store : List ℕ) → length store ≡ f .medium .size → Holds (first f store)
+  first-holds : (store : List ℕ) → length store ≡ f .medium .size → Holds (firstWorld f store)
   unfolding open-depot
   first-holds store sized = record {
     reached = reached-start f M store sized;
@@ -301,11 +301,11 @@ module _ (f : Form) (M : MediumLaws (f .geometry) (f .medium)) where
   agreement store sized w r i n b c m o = let I = reaches-holds (first-holds store sized) r in I .once i n b c m (I .obeys i n c o)
 
   -- what the gateway has stored the depot has decided, for the round in which the transaction was prepared
-  pub gateway-follows : (store : List ℕ) → length store ≡ f .medium .size → (w : World f) → Reaches f (Fresh f) (first f store) w → (i n : ℕ) (b : Bool) → w .obeyed i n b → w .ruled i n b
+  pub gateway-follows : (store : List ℕ) → length store ≡ f .medium .size → (w : World f) → Reaches f (Fresh f) (firstWorld f store) w → (i n : ℕ) (b : Bool) → w .obeyed i n b → w .ruled i n b
   gateway-follows store sized w r = reaches-holds (first-holds store sized) r .obeys
 
   -- the depot decides a round once
-  pub decided-once : (store : List ℕ) → length store ≡ f .medium .size → (w : World f) → Reaches f (Fresh f) (first f store) w → (i n : ℕ) (b c : Bool) → w .ruled i n b → w .ruled i n c → b ≡ c
+  pub decided-once : (store : List ℕ) → length store ≡ f .medium .size → (w : World f) → Reaches f (Fresh f) (firstWorld f store) w → (i n : ℕ) (b c : Bool) → w .ruled i n b → w .ruled i n c → b ≡ c
   decided-once store sized w r = reaches-holds (first-holds store sized) r .once
 
 -- of edition 1

@@ -21,7 +21,7 @@ use Rattle.rules.specs.Step.{open-step}
 use Rattle.rules.specs.Editions.{edition1}
 use Rattle.depot_agreement.specs.Depot.{asked, committed, aborted, toPrepare, toCommit, toAbort, open-depot}
 use Rattle.depot_agreement.specs.Messages.{open-messages}
-use Rattle.depot_agreement.specs.Agreement.{World, depotTurns, gateTurns, loses, Quiet, Unused, Fresh, starts, givesUp, votes, orders, plays, lost, Reaches, here, then, first, Agreement, open-agreement}
+use Rattle.depot_agreement.specs.Agreement.{World, depotTurns, gateTurns, loses, Quiet, Unused, Fresh, starts, givesUp, votes, orders, plays, lost, Reaches, here, then, firstWorld, Agreement, open-agreement}
 
 abbrev W : Type 1
 W = World edition1
@@ -48,7 +48,7 @@ unfolding open-tests open-counting open-functions open-bytes open-geometry open-
 not-unused-alone claim = true≢false (claim fresh refl w6 run 0 2 true false (inr (refl, refl, refl)) (inr (refl, refl, refl)))
   where
     w1 : W
-    w1 = depotTurns edition1 (first edition1 fresh) 0 1 asked toPrepare
+    w1 = depotTurns edition1 (firstWorld edition1 fresh) 0 1 asked toPrepare
 
     w2 : W
     w2 = depotTurns edition1 w1 0 1 aborted toAbort
@@ -65,7 +65,7 @@ not-unused-alone claim = true≢false (claim fresh refl w6 run 0 2 true false (i
     w6 : W
     w6 = depotTurns edition1 w5 0 2 committed toCommit
 
-    run : Reaches edition1 (Unused edition1) (first edition1 fresh) w6
+    run : Reaches edition1 (Unused edition1) (firstWorld edition1 fresh) w6
     run = then (then (then (prepares (Unused edition1) (then (then (then here
         (starts 0 asked toPrepare refl no-identity))
         (givesUp 0 aborted toAbort refl))
@@ -80,7 +80,7 @@ unfolding open-tests open-counting open-functions open-bytes open-geometry open-
 not-quiet-alone claim = false≢true (claim fresh refl w8 run 0 1 false true (inl (inl (inr (refl, refl, refl)))) (inr (refl, refl, refl)))
   where
     w1 : W
-    w1 = depotTurns edition1 (first edition1 fresh) 0 1 asked toPrepare
+    w1 = depotTurns edition1 (firstWorld edition1 fresh) 0 1 asked toPrepare
 
     w2 : W
     w2 = gateTurns edition1 (busy w1) 0x90003F00
@@ -103,7 +103,7 @@ not-quiet-alone claim = false≢true (claim fresh refl w8 run 0 1 false true (in
     w8 : W
     w8 = gateTurns edition1 w7 0xA0007F00
 
-    run : Reaches edition1 (Quiet edition1) (first edition1 fresh) w8
+    run : Reaches edition1 (Quiet edition1) (firstWorld edition1 fresh) w8
     run = then (then (then (then (then (then (then (prepares (Quiet edition1) (then here
         (starts 0 asked toPrepare refl (λ m e k. k))))
         (orders 0 toPrepare 0 63 0x90003F00 (inl refl) refl))
@@ -115,12 +115,12 @@ not-quiet-alone claim = false≢true (claim fresh refl w8 run 0 1 false true (in
         (orders 0 toCommit 0 63 0xA0007F00 (inl refl) refl)
 
 -- with both, the two ends do come to a commit that both hold
-pub both-commit : (w : W) × Reaches edition1 (Fresh edition1) (first edition1 fresh) w × w .ruled 0 1 true × w .obeyed 0 1 true
+pub both-commit : (w : W) × Reaches edition1 (Fresh edition1) (firstWorld edition1 fresh) w × w .ruled 0 1 true × w .obeyed 0 1 true
 unfolding open-tests open-counting open-functions open-bytes open-geometry open-store open-event open-state open-locks open-versions open-commit open-step open-depot open-messages open-agreement
 both-commit = (w4, run, inr (refl, refl, refl), inr (refl, refl, refl))
   where
     w1 : W
-    w1 = depotTurns edition1 (first edition1 fresh) 0 1 asked toPrepare
+    w1 = depotTurns edition1 (firstWorld edition1 fresh) 0 1 asked toPrepare
 
     w2 : W
     w2 = gateTurns edition1 (busy w1) 0x90003F00
@@ -131,7 +131,7 @@ both-commit = (w4, run, inr (refl, refl, refl), inr (refl, refl, refl))
     w4 : W
     w4 = gateTurns edition1 w3 0xA0007F00
 
-    run : Reaches edition1 (Fresh edition1) (first edition1 fresh) w4
+    run : Reaches edition1 (Fresh edition1) (firstWorld edition1 fresh) w4
     run = then (then (then (prepares (Fresh edition1) (then here
         (starts 0 asked toPrepare refl (λ m e k. k, no-identity))))
         (orders 0 toPrepare 0 63 0x90003F00 (inl refl) refl))

@@ -45,8 +45,8 @@ module _ (f : Form) where
   preparedAt w = f .medium .prepared (w .gate .store)
 
   -- the gateway plays an event word
-  unfoldable pub played : World → ℕ → OutcomeOf f
-  played w x = step f (w .gate) (decode (f .geometry) x)
+  unfoldable pub gatewayPlays : World → ℕ → OutcomeOf f
+  gatewayPlays w x = step f (w .gate) (decode (f .geometry) x)
 
   -- the depot goes to a state for i, in round n, and gives an order
   abbrev pub depotTurns : World → ℕ → ℕ → Stage → Order → World
@@ -74,11 +74,11 @@ module _ (f : Form) where
   gateTurns w x = record {
     depot = w .depot;
     round = w .round;
-    gate = played w x .state;
-    since = sinceThen w (news (decode (f .geometry) x) (played w x .answer));
-    network = sending (reply (decode (f .geometry) x) (played w x .answer)) (w .network);
+    gate = gatewayPlays w x .state;
+    since = sinceThen w (news (decode (f .geometry) x) (gatewayPlays w x .answer));
+    network = sending (reply (decode (f .geometry) x) (gatewayPlays w x .answer)) (w .network);
     ruled = w .ruled;
-    obeyed = obeyedThen w (news (decode (f .geometry) x) (played w x .answer));
+    obeyed = obeyedThen w (news (decode (f .geometry) x) (gatewayPlays w x .answer));
   }
 
   abbrev pub loses : World → Network → World
@@ -112,8 +112,8 @@ module _ (f : Form) where
       then : {v u : World} → Reaches w v → Happens v u → Reaches w u
 
   -- at first: nothing at the depot, no message, no decision; the gateway is down over any store, also one in which a transaction is prepared
-  abbrev pub first : List ℕ → World
-  first store = record {
+  abbrev pub firstWorld : List ℕ → World
+  firstWorld store = record {
     depot = λ i. idle;
     round = λ i. 0;
     gate = down (f .medium .fromBytes store);
@@ -129,9 +129,9 @@ module _ (f : Form) where
 
   -- THE AGREEMENT, under a premise on the identities that are given
   abbrev pub Agreement : (World → ℕ → Type 0) → Type 1
-  Agreement Ok = (store : List ℕ) → length store ≡ f .medium .size → (w : World) → Reaches Ok (first store) w → Agree w
+  Agreement Ok = (store : List ℕ) → length store ≡ f .medium .size → (w : World) → Reaches Ok (firstWorld store) w → Agree w
 
 -- opens the definitions of this module: for what is proved by computing
 unfoldable pub open-agreement : Unit {0}
-unfolding preparedAt played
+unfolding preparedAt gatewayPlays
 open-agreement = tt

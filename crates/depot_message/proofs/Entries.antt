@@ -10,24 +10,24 @@ use lib.ListN.{getD}
 use Rattle.laws.specs.Tests.{same, open-tests}
 use Rattle.laws.proofs.Tests.{same-refl, ne-false}
 use Rattle.depot_agreement.specs.Depot.{Stage, idle, asked, committed, aborted, Input, start, yes, no, giveUp, Order, toPrepare, toCommit, toAbort, open-depot}
-use Rattle.depot_message.specs.Codes.{Left, stageOf, stageCode, messageOf, messageCode, replyOf, replyCode, turnOf, left, open-codes}
+use Rattle.depot_message.specs.Codes.{Left, stageOf, stageCode, messageOf, messageCode, replyOf, replyCode, turnOf, depotLeft, open-depot-codes}
 
 pub stage-code : (s : Stage) → stageOf (stageCode s) ≡ some s
-unfolding open-codes
+unfolding open-depot-codes
 stage-code idle = refl
 stage-code asked = refl
 stage-code committed = refl
 stage-code aborted = refl
 
 pub message-code : (x : Input) → messageOf (messageCode x) ≡ some x
-unfolding open-codes
+unfolding open-depot-codes
 message-code start = refl
 message-code yes = refl
 message-code no = refl
 message-code giveUp = refl
 
 pub reply-code : (q : Order) → replyOf (replyCode q) ≡ some q
-unfolding open-codes
+unfolding open-depot-codes
 reply-code toPrepare = refl
 reply-code toCommit = refl
 reply-code toAbort = refl
@@ -40,8 +40,8 @@ leaves e = (sym (ap (λ (l : Left). l .answer) e), sym (ap (λ (l : Left). l .st
 abbrev pub unwritten : ℕ → ℕ → Left
 unwritten s q = record { answer = 27; state = s; reply = q }
 
-pub no-state : (s m q : ℕ) → 4 ≤ s → left s m q ≡ unwritten s q
-unfolding open-codes
+pub no-state : (s m q : ℕ) → 4 ≤ s → depotLeft s m q ≡ unwritten s q
+unfolding open-depot-codes
 no-state zero m q h = absurd (omega arith)
 no-state (suc zero) m q h = absurd (omega arith)
 no-state (suc (suc zero)) m q h = absurd (omega arith)
@@ -53,8 +53,8 @@ unfolding turnOf
 no-turn none = refl
 no-turn (some s) = refl
 
-pub no-message : (s m q : ℕ) → 4 ≤ m → left s m q ≡ unwritten s q
-unfolding open-codes
+pub no-message : (s m q : ℕ) → 4 ≤ m → depotLeft s m q ≡ unwritten s q
+unfolding open-depot-codes
 no-message s zero q h = absurd (omega arith)
 no-message s (suc zero) q h = absurd (omega arith)
 no-message s (suc (suc zero)) q h = absurd (omega arith)
@@ -68,8 +68,8 @@ entries = 4 ∷ 0 ∷ 0 ∷ 0 ∷ 0 ∷ 9 ∷ 14 ∷ 14 ∷ 4 ∷ 9 ∷ 9 ∷ 0 
 abbrev pub madeOf : ℕ → ℕ → ℕ → Left
 madeOf s q e = cond (same e 0) (unwritten s q) (record { answer = 0; state = e / 4; reply = e % 4 })
 
-entry-is : (s m q : ℕ) → s < 4 → m < 4 → left s m q ≡ madeOf s q (getD entries (s * 4 + m) 0)
-unfolding open-codes open-depot open-tests
+entry-is : (s m q : ℕ) → s < 4 → m < 4 → depotLeft s m q ≡ madeOf s q (getD entries (s * 4 + m) 0)
+unfolding open-depot-codes open-depot open-tests
 entry-is zero zero q h k = refl
 entry-is zero (suc zero) q h k = refl
 entry-is zero (suc (suc zero)) q h k = refl
@@ -93,12 +93,12 @@ entry-is (suc (suc zero)) (suc (suc (suc (suc m)))) q h k = absurd (omega arith)
 entry-is (suc (suc (suc zero))) (suc (suc (suc (suc m)))) q h k = absurd (omega arith)
 
 -- at the place of a state and a message
-pub none-at : (s m q p : ℕ) → s < 4 → m < 4 → p ≡ s * 4 + m → getD entries p 0 ≡ 0 → left s m q ≡ unwritten s q
+pub none-at : (s m q p : ℕ) → s < 4 → m < 4 → p ≡ s * 4 + m → getD entries p 0 ≡ 0 → depotLeft s m q ≡ unwritten s q
 none-at s m q p h k z e =
     entry-is s m q h k ∙ ap (λ (n : ℕ). madeOf s q (getD entries n 0)) (sym z) ∙ ap (madeOf s q) e
     ∙ ap (λ (b : Bool). cond {A = Left} b (unwritten s q) (record { answer = 0; state = 0 / 4; reply = 0 % 4 })) (same-refl 0)
 
-pub some-at : (s m q p : ℕ) → s < 4 → m < 4 → p ≡ s * 4 + m → getD entries p 0 ≢ 0 → left s m q ≡ record { answer = 0; state = getD entries p 0 / 4; reply = getD entries p 0 % 4 }
+pub some-at : (s m q p : ℕ) → s < 4 → m < 4 → p ≡ s * 4 + m → getD entries p 0 ≢ 0 → depotLeft s m q ≡ record { answer = 0; state = getD entries p 0 / 4; reply = getD entries p 0 % 4 }
 some-at s m q p h k z e =
     entry-is s m q h k ∙ ap (λ (n : ℕ). madeOf s q (getD entries n 0)) (sym z)
     ∙ ap (λ (b : Bool). cond {A = Left} b (unwritten s q) (record { answer = 0; state = getD entries p 0 / 4; reply = getD entries p 0 % 4 })) (ne-false (getD entries p 0) 0 e)

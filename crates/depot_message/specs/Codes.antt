@@ -53,14 +53,14 @@ turnOf (some s) none = refused 27
 turnOf (some s) (some x) = table s x
 
 -- the next state and the reply are written; a refusal writes nothing
-unfoldable pub leftBy : ℕ → ℕ → Turn → Left
-leftBy state reply (goes s q) = record { answer = 0; state = stageCode s; reply = replyCode q }
-leftBy state reply (refused n) = record { answer = n; state = state; reply = reply }
+unfoldable pub depotLeftBy : ℕ → ℕ → Turn → Left
+depotLeftBy state reply (goes s q) = record { answer = 0; state = stageCode s; reply = replyCode q }
+depotLeftBy state reply (refused n) = record { answer = n; state = state; reply = reply }
 
-unfoldable pub left : ℕ → ℕ → ℕ → Left
-left state message reply = leftBy state reply (turnOf (stageOf state) (messageOf message))
+unfoldable pub depotLeft : ℕ → ℕ → ℕ → Left
+depotLeft state message reply = depotLeftBy state reply (turnOf (stageOf state) (messageOf message))
 
 -- opens the definitions of this module: for what is proved by computing
-unfoldable pub open-codes : Unit {0}
-unfolding stageOf stageCode messageOf messageCode replyOf replyCode turnOf leftBy left
-open-codes = tt
+unfoldable pub open-depot-codes : Unit {0}
+unfolding stageOf stageCode messageOf messageCode replyOf replyCode turnOf depotLeftBy depotLeft
+open-depot-codes = tt

@@ -3,7 +3,7 @@ use Prim.Native.Nat.{ℕ}
 use mathlib.Core.Bool.{Bool, true, _&&_}
 use mathlib.Core.List.{List, [], _∷_}
 use lib.Dec.{eqb}
-use Rattle.depot_message.specs.Codes.{left}
+use Rattle.depot_message.specs.Codes.{depotLeft}
 use Rattle.depot_message.specs.Votes.{voteOn}
 
 -- a state and a message; the answer, the state and the reply that they leave, where the reply was 9
@@ -12,7 +12,7 @@ Turning = ℕ × ℕ × ℕ × ℕ × ℕ
 
 abbrev pub allTurn : List Turning → Bool
 allTurn [] = true
-allTurn (x ∷ xs) = let l = left (x .0) (x .1) 9 in eqb (l .answer) (x .2) && eqb (l .state) (x .3) && eqb (l .reply) (x .4) && allTurn xs
+allTurn (x ∷ xs) = let l = depotLeft (x .0) (x .1) 9 in eqb (l .answer) (x .2) && eqb (l .state) (x .3) && eqb (l .reply) (x .4) && allTurn xs
 
 abbrev pub turnTrials : List Turning
 turnTrials =

@@ -1,7 +1,7 @@
 // What depot and gateway tell each other, for an identity: the depot's next state and its reply by a constant table, and the gateway's vote.
 ghost use mathlib.Core.Path.{_≡_};
 ghost use Prim.Native.Nat.{_+_, _*_, _<_};
-ghost use Rattle.depot_message.specs.Codes.{left};
+ghost use Rattle.depot_message.specs.Codes.{depotLeft};
 ghost use Rattle.depot_message.specs.Votes.{voteOn, said};
 
 // By state (0 idle, 1 asked, 2 committed, 3 aborted) and message (0 start, 1 yes, 2 no, 3 give-up): the next state times 4, and the reply
@@ -10,7 +10,7 @@ const TABLE: [u8; 16] = [4, 0, 0, 0, 0, 9, 14, 14, 4, 9, 9, 0, 4, 14, 14, 0];
 
 // The depot's turn for an identity: 0, with its next state and its reply; or 27 and nothing is written, also where there is no such state or message.
 pub fn depot(state: &mut u8, message: u8, reply: &mut u8) -> u8
-    ensures { λ r. let turn = left (now (state .entry)) message (now (reply .entry)) in ⌜ (r ≡ turn .answer) × (now (state .exit) ≡ turn .state) × (now (reply .exit) ≡ turn .reply) ⌝ }
+    ensures { λ r. let turn = depotLeft (now (state .entry)) message (now (reply .entry)) in ⌜ (r ≡ turn .answer) × (now (state .exit) ≡ turn .state) × (now (reply .exit) ≡ turn .reply) ⌝ }
 {
     let s = *state;
     if 4 <= s {

@@ -6,7 +6,7 @@ use Rattle.rules.specs.Store.{pagesOf}
 use Rattle.rules.specs.State.{down}
 use Rattle.rules.specs.Editions.{edition2}
 use Rattle.state_whole.specs.Whole.{Arrays, arrays, view}
-use Rattle.state_whole.specs.Portion.{Portion}
+use Rattle.state_whole.specs.Portion.{PortionPlayed}
 use Rattle.engine_edition2.specs.declared.Ended.{Ended}
 
 -- The events have been played from the start with this store, to a state of which r is left, and whose lines and locks are known to be there.
@@ -16,4 +16,4 @@ pub record Ended-as (store events answers : List ℕ) (r : Ended) (store′ work
   pub line : List ℕ
   pub held : List ℕ
   pub retained : List ℕ
-  pub leads : Portion edition2 before events answers (arrays (r .up) (r .parent) (r .depth) line held retained (r .writers) work′ store′) answers′
+  pub leads : PortionPlayed edition2 before events answers (arrays (r .up) (r .parent) (r .depth) line held retained (r .writers) work′ store′) answers′

@@ -10,7 +10,7 @@ ghost use Rattle.rules.specs.Editions.{Edition, geometryOf, formIn, InNumbers, 
 ghost use Rattle.leaf_event.specs.Flags.{flags2};
 ghost use Rattle.leaf_event.specs.Meaning.{meaning, InWord};
 ghost use Rattle.state_whole.specs.Whole.{arrays, Intact};
-ghost use Rattle.state_whole.specs.Portion.{Portion};
+ghost use Rattle.state_whole.specs.Portion.{PortionPlayed};
 ghost use Rattle.engine_list.specs.Words.{WordBytes, flagsIn};
 use leaf_event::Answer;
 use leaf_event::Event;
@@ -81,7 +81,7 @@ pub fn play(
         let before = arrays (now (up .entry)) (now (parent .entry)) (now (depth .entry)) (now (line .entry)) (now (held .entry)) (now (retained .entry)) (now (writers .entry)) (now (work .entry)) (now (store .entry)) in
         let after = arrays (now (up .exit)) (now (parent .exit)) (now (depth .exit)) (now (line .exit)) (now (held .exit)) (now (retained .exit)) (now (writers .exit)) (now (work .exit)) (now (store .exit)) in
         let form = formIn tears (geometryOf (editionOf records joint tears)) in
-        ⌜ Portion form before (now (events .entry)) (now (answers .entry)) after (now (answers .exit)) ⌝ }
+        ⌜ PortionPlayed form before (now (events .entry)) (now (answers .entry)) after (now (answers .exit)) ⌝ }
 {
     let mut live = state_tree::live_set(depth);
     let mut children = state_tree::children_of(parent, depth);

@@ -25,7 +25,7 @@ use Rattle.leaf_page.proofs.Pages.{put-at}
 use Rattle.rules.specs.State.{mem}
 use Rattle.rules.proofs.Members.{mem-head, mem-later, those-below}
 use Rattle.claim_device.specs.Plan.{writeAt}
-use Rattle.claim_device.specs.Asked.{told, spelledIn, writeSize}
+use Rattle.claim_device.specs.Asked.{writeTold, spelledIn, writeSize}
 use Rattle.claim_device.proofs.CopyWrites.{page-spelled, first-spelled, second-spelled, pages-end, copies-end}
 use Rattle.store_write.specs.Phase.{storeOf, shownIn}
 use Rattle.leaf_commit_page.specs.Heard.{prepared}
@@ -33,7 +33,7 @@ use Rattle.leaf_commit_page.specs.Layout.{Known, Layout}
 use Rattle.leaf_commit_page.proofs.Places.{layout1, layout2}
 use Rattle.store_commit.specs.Phase.{sweep, copies, topSlot}
 use Rattle.engine_page_write.specs.declared.Plan.{Plan}
-use Rattle.engine_page_write.specs.Phases.{pageNumber, bytesOf, sourceOf, when, writesOf}
+use Rattle.engine_page_write.specs.Phases.{pageNumber, spelledWrite, sourceOf, when, writesOf}
 
 -- THE RECORD WITH A NUMBER, among those below d that a test picks; d where there is none
 module _ (p : ℕ → Bool) (d : ℕ) where
@@ -144,7 +144,7 @@ halves-odd : (n : ℕ) → n % 2 ≢ 0 → n ≡ 2 * (n / 2) + 1
 halves-odd n h = omega (arith, h)
 
 module _ (ws : List PageWrite) where
-  numbered : (tears : Bool) (index n : ℕ) (page : Page) → writeAt (pageNumber tears index) ws ≡ some (sets n page) → writeAt index (spelledIn tears ws) ≡ some (bytesOf tears index n page)
+  numbered : (tears : Bool) (index n : ℕ) (page : Page) → writeAt (pageNumber tears index) ws ≡ some (sets n page) → writeAt index (spelledIn tears ws) ≡ some (spelledWrite tears index n page)
   numbered false index n page e = page-spelled index ws n page e
   numbered true index n page e = go (same? (index % 2) 0)
     where
@@ -158,14 +158,14 @@ module _ (ws : List PageWrite) where
   numbered-none false index e = pages-end index ws e
   numbered-none true index e = copies-end (index / 2) ws index e (let z : 2 * (index / 2) ≤ index = omega arith in z)
 
-  pub told-write : (tears : Bool) (index i : ℕ) → i ≡ pageNumber tears index → (write write′ : List ℕ) (n : ℕ) (page : Page) → writeAt i ws ≡ some (sets n page) → write′ ≡ bytesOf tears index n page
-      → (let said = told (writeAt index (spelledIn tears ws)) write in (0 ≡ said .answer) × (write′ ≡ said .write))
-  unfolding told
+  pub told-write : (tears : Bool) (index i : ℕ) → i ≡ pageNumber tears index → (write write′ : List ℕ) (n : ℕ) (page : Page) → writeAt i ws ≡ some (sets n page) → write′ ≡ spelledWrite tears index n page
+      → (let said = writeTold (writeAt index (spelledIn tears ws)) write in (0 ≡ said .answer) × (write′ ≡ said .write))
+  unfolding writeTold
   told-write tears index i named write write′ n page e q = rw (numbered tears index n page (ap (λ (k : ℕ). writeAt k ws) (sym named) ∙ e)) (refl, q)
 
   pub told-none : (tears : Bool) (index i : ℕ) → i ≡ pageNumber tears index → (write : List ℕ) → writeAt i ws ≡ none
-      → (let said = told (writeAt index (spelledIn tears ws)) write in (12 ≡ said .answer) × (write ≡ said .write))
-  unfolding told
+      → (let said = writeTold (writeAt index (spelledIn tears ws)) write in (12 ≡ said .answer) × (write ≡ said .write))
+  unfolding writeTold
   told-none tears index i named write e = rw (numbered-none tears index (ap (λ (k : ℕ). writeAt k ws) (sym named) ∙ e)) (refl, refl)
 
 less : (there : Bool) (n : ℕ) {k : ℕ} → n < cond there k 0 → n < k
@@ -339,15 +339,15 @@ pub at-least : (tears : Bool) (l : List ℕ) → length l ≡ writeSize tears �
 at-least true l e = omega (arith, e)
 at-least false l e = omega (arith, e)
 
-pub put-copy : (tears : Bool) (l part page : List ℕ) (index n : ℕ) → tears ≡ true → length l ≡ writeSize tears → part ≡ page → putMid 2 (34 - 2) (set (set l 0 n) 1 (index % 2)) part ≡ bytesOf tears index n page
+pub put-copy : (tears : Bool) (l part page : List ℕ) (index n : ℕ) → tears ≡ true → length l ≡ writeSize tears → part ≡ page → putMid 2 (34 - 2) (set (set l 0 n) 1 (index % 2)) part ≡ spelledWrite tears index n page
 put-copy true l part page index n q h e = spelled-copy l part page n (index % 2) h e
 put-copy false l part page index n q h e = absurd (true≢false (sym q))
 
-pub put-whole : (tears : Bool) (l part page : List ℕ) (index n : ℕ) → tears ≡ false → length l ≡ writeSize tears → part ≡ page → putMid 1 (33 - 1) (set l 0 n) part ≡ bytesOf tears index n page
+pub put-whole : (tears : Bool) (l part page : List ℕ) (index n : ℕ) → tears ≡ false → length l ≡ writeSize tears → part ≡ page → putMid 1 (33 - 1) (set l 0 n) part ≡ spelledWrite tears index n page
 put-whole true l part page index n q h e = absurd (true≢false q)
 put-whole false l part page index n q h e = spelled l part page n h e
 
-pub bytes-long : (tears : Bool) (index n : ℕ) (page : List ℕ) → length page ≡ 32 → length (bytesOf tears index n page) ≡ writeSize tears
+pub bytes-long : (tears : Bool) (index n : ℕ) (page : List ℕ) → length page ≡ 32 → length (spelledWrite tears index n page) ≡ writeSize tears
 bytes-long false index n page h = ap suc h
 bytes-long true index n page h = ap (λ (k : ℕ). suc (suc k)) h
 

@@ -24,7 +24,7 @@ use Rattle.rules.specs.Step.{done, refused, cut, StateOf, numberOf, isTop, hasC
 use Rattle.rules.proofs.Map.{mapOf-lt}
 use Rattle.leaf_set.specs.Sets.{sets as setsIn}
 use Rattle.claim_device.specs.Plan.{writeAt, linePlan, decisionPlan, pagesIn, acceptedPlan, planBy, planOf}
-use Rattle.claim_device.specs.Asked.{told, spelledIn, planFor}
+use Rattle.claim_device.specs.Asked.{writeTold, spelledIn, planFor}
 use Rattle.claim_device.proofs.Plan.{refused-plan, accepted-plan}
 use Rattle.leaf_commit_page.specs.Heard.{prepared}
 use Rattle.store_write.specs.Phase.{storeOf, shownIn}
@@ -37,7 +37,7 @@ use Rattle.state_array.proofs.View.{child-is}
 use Rattle.leaf_event.specs.Meaning.{meaning, fieldsOf}
 use Rattle.leaf_event.specs.declared.Event.{Event as Fields}
 use Rattle.engine_step.proofs.ByKind.{means-settling}
-use Rattle.state_whole.specs.Whole.{Arrays, view, Intact, saying, Stepped, Ready, Reserves}
+use Rattle.state_whole.specs.Whole.{Arrays, view, Intact, engineAnswer, Stepped, Ready, Reserves}
 use Rattle.leaf_event.specs.declared.Answer.{Answer}
 use Rattle.state_whole.proofs.Rules.{commit-down, prepare-down, decide-down, commit-unknown, prepare-unknown, recover-done}
 use Rattle.state_whole.proofs.Steps.{answer, up-is, down-is, not-live, not-live-past}
@@ -168,7 +168,7 @@ module _ (tears : Bool) (g : Geometry) (N : ℕ) (many : records g ≡ N) where
 
   -- WHAT IS REFUSED writes nothing
   refused-of : (x : Arrays) (e : Event) (n : ℕ) → n ≢ 0 → n ≢ 11 → Stepped (formIn tears g) x (some e) (answer n 0) x → planOf tears g (view (formIn tears g) x) e ≡ []
-  unfolding saying numberOf
+  unfolding engineAnswer numberOf
   refused-of x e n h k T = go (step (formIn tears g) (view (formIn tears g) x) (some e) .answer) refl (ap (λ (a : Answer). a .number) (T .says))
     where
       go : (b : rules.Answer) → step (formIn tears g) (view (formIn tears g) x) (some e) .answer ≡ b → n ≡ numberOf b → planOf tears g (view (formIn tears g) x) e ≡ []
@@ -374,7 +374,7 @@ module _ (tears : Bool) (g : Geometry) (N : ℕ) (many : records g ≡ N) where
 
 -- what is told of a plan's page writes is told of the rules' plan
 pub told-as : (tears : Bool) (index : ℕ) (before : List ℕ) {answer : ℕ} {after : List ℕ} {ws us : List PageWrite} → ws ≡ us
-    → (let said = told (writeAt index (spelledIn tears ws)) before in (answer ≡ said .answer) × (after ≡ said .write))
-    → (let said = told (writeAt index (spelledIn tears us)) before in (answer ≡ said .answer) × (after ≡ said .write))
+    → (let said = writeTold (writeAt index (spelledIn tears ws)) before in (answer ≡ said .answer) × (after ≡ said .write))
+    → (let said = writeTold (writeAt index (spelledIn tears us)) before in (answer ≡ said .answer) × (after ≡ said .write))
 told-as tears index before {answer} {after} e q =
-    subst⁻¹ (λ (ws : List PageWrite). (answer ≡ told (writeAt index (spelledIn tears ws)) before .answer) × (after ≡ told (writeAt index (spelledIn tears ws)) before .write)) (sym e) q
+    subst⁻¹ (λ (ws : List PageWrite). (answer ≡ writeTold (writeAt index (spelledIn tears ws)) before .answer) × (after ≡ writeTold (writeAt index (spelledIn tears ws)) before .write)) (sym e) q

@@ -38,9 +38,9 @@ abbrev pub pageNumber : Bool → ℕ → ℕ
 pageNumber false index = index
 pageNumber true index = index / 2
 
-abbrev pub bytesOf : Bool → ℕ → ℕ → Page → List ℕ
-bytesOf false index number page = number ∷ page
-bytesOf true index number page = number ∷ index % 2 ∷ page
+abbrev pub spelledWrite : Bool → ℕ → ℕ → Page → List ℕ
+spelledWrite false index number page = number ∷ page
+spelledWrite true index number page = number ∷ index % 2 ∷ page
 
 -- the page that is written for a record
 unfoldable pub sourceOf : Bool → Plan → List ℕ → List ℕ → ℕ → Page

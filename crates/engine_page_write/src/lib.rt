@@ -13,14 +13,14 @@ ghost use Rattle.rules.specs.Store.{named};
 ghost use Rattle.rules.specs.Event.{recover, decide};
 ghost use Rattle.rules.specs.Editions.{Edition, geometryOf, formIn, InNumbers};
 ghost use Rattle.claim_device.specs.Plan.{writeAt};
-ghost use Rattle.claim_device.specs.Asked.{told, spelledIn, writeSize, saidOf};
+ghost use Rattle.claim_device.specs.Asked.{writeTold, spelledIn, writeSize, saidOf};
 ghost use Rattle.store_write.specs.Phase.{strideOf};
 ghost use Rattle.leaf_commit_page.specs.Layout.{Known, Layout};
 ghost use Rattle.event_commit.specs.Settling.{settling};
 ghost use Rattle.leaf_number.specs.Named.{transactionOf};
 ghost use Rattle.leaf_event.specs.Meaning.{meaning};
 ghost use Rattle.state_whole.specs.Whole.{arrays, view, Intact, Reserves};
-ghost use Rattle.engine_page_write.specs.Phases.{nothing, ofTop, ofRecovery, ofDecision, pageNumber, bytesOf, sourceOf, writesOf, Plans};
+ghost use Rattle.engine_page_write.specs.Phases.{nothing, ofTop, ofRecovery, ofDecision, pageNumber, spelledWrite, sourceOf, writesOf, Plans};
 use leaf_event::Event;
 use leaf_number::TransactionNamed;
 use leaf_number::TransactionNumber;
@@ -159,7 +159,7 @@ fn page_number(tears: bool, index: u8) -> u8
 // for the second.
 fn put_write(write: &mut [u8], tears: bool, index: u8, number: u8, page: [u8; 32])
     requires { ⌜ length (now write) ≡ writeSize tears ⌝ }
-    ensures { λ _. ⌜ now (write .exit) ≡ bytesOf tears index number page ⌝ }
+    ensures { λ _. ⌜ now (write .exit) ≡ spelledWrite tears index number page ⌝ }
 {
     write[0] = number;
     if tears {
@@ -195,7 +195,7 @@ fn put_numbered(
     requires { ⌜ Known records × (p .map < 2 ^ records) × (p .prepared ≡ true → records ≡ 16) × (length (now work) ≡ 512 * records)
         × (length (now store) ≡ strideOf tears * (1 + (records + records))) × (length (now write) ≡ writeSize tears) ⌝ }
     ensures { λ r. ⌜ ((g : Geometry) →
-        let said = told (writeAt index (spelledIn tears (writesOf tears g records p (now (work .entry)) (now (store .entry))))) (now (write .entry)) in
+        let said = writeTold (writeAt index (spelledIn tears (writesOf tears g records p (now (work .entry)) (now (store .entry))))) (now (write .entry)) in
         Layout g records → (r ≡ said .answer) × (now (write .exit) ≡ said .write)) ⌝ }
 {
     let n = records as u8;

@@ -8,8 +8,8 @@ ghost use lib.ListN.{length};
 ghost use Rattle.rules.specs.State.{down};
 ghost use Rattle.rules.specs.Editions.{Edition, geometryOf, formIn, InNumbers, editionOf, workBytes};
 ghost use Rattle.state_whole.specs.Whole.{view, Intact};
-ghost use Rattle.state_whole.specs.Portion.{Portion};
-ghost use Rattle.engine_portion.specs.Portion.{whole};
+ghost use Rattle.state_whole.specs.Portion.{PortionPlayed};
+ghost use Rattle.engine_portion.specs.Portion.{arraysOf};
 
 const RECORDS: usize = 16;
 
@@ -42,13 +42,13 @@ pub fn portion(
     tears: bool,
 ) -> Engine
     requires { let edition = editionOf 16 joint tears in
-        ⌜ Intact (formIn tears (geometryOf edition)) (whole e (now work) (now store)) × InNumbers edition 16 joint tears
+        ⌜ Intact (formIn tears (geometryOf edition)) (arraysOf e (now work) (now store)) × InNumbers edition 16 joint tears
         × (length (now events) ≤ 16384) × (2 * (length (now events) / 4) ≤ length (now answers)) ⌝ }
     ensures { λ r.
-        let before = whole e (now (work .entry)) (now (store .entry)) in
-        let after = whole r (now (work .exit)) (now (store .exit)) in
+        let before = arraysOf e (now (work .entry)) (now (store .entry)) in
+        let after = arraysOf r (now (work .exit)) (now (store .exit)) in
         let form = formIn tears (geometryOf (editionOf 16 joint tears)) in
-        ⌜ Portion form before (now (events .entry)) (now (answers .entry)) after (now (answers .exit)) ⌝ }
+        ⌜ PortionPlayed form before (now (events .entry)) (now (answers .entry)) after (now (answers .exit)) ⌝ }
     ensures { λ r. ⌜ r .spare ≡ e .spare ⌝ }
 {
     let mut up = e.up;
@@ -92,7 +92,7 @@ pub fn portion(
 pub fn start() -> Engine
     ensures { λ e. ⌜ ((edition : Edition) (joint tears : Bool) → InNumbers edition 16 joint tears → (work store : List ℕ) →
         let form = formIn tears (geometryOf edition) in
-        length work ≡ workBytes → length store ≡ form .medium .size → Intact form (whole e work store) × (view form (whole e work store) ≡ down (form .medium .fromBytes store))) ⌝ }
+        length work ≡ workBytes → length store ≡ form .medium .size → Intact form (arraysOf e work store) × (view form (arraysOf e work store) ≡ down (form .medium .fromBytes store))) ⌝ }
 {
     Engine {
         line: [0; 24],

@@ -12,7 +12,7 @@ ghost use lib.ListN.{length, getD};
 ghost use Rattle.rules.specs.Editions.{Edition, geometryOf, formIn, InNumbers, editionOf};
 ghost use Rattle.leaf_number.specs.Named.{transactionOf, recordOf};
 ghost use Rattle.leaf_event.specs.Meaning.{meaning, InWord};
-ghost use Rattle.state_array.specs.Kin.{Kin};
+ghost use Rattle.state_array.specs.Kin.{DerivedSets};
 ghost use Rattle.state_version.specs.Parts.{Sources};
 ghost use Rattle.store_write.specs.Phase.{strideOf, placeOf};
 ghost use Rattle.state_whole.specs.Whole.{arrays, Intact, Stepped, ReadyLeaf, Reserves};
@@ -115,7 +115,7 @@ fn end_event(
     requires { let edition = editionOf records joint tears in
         let here = arrays (now up) (now parent) (now depth) (now line) (now held) (now retained) (now writers) (now work) (now store) in
         ⌜ (transactionOf t ≡ e .transaction) × (4 < e .kind) × (e .kind < 10) × (e .kind ≢ 7) × (e .kind ≢ 8) × (0 < getD (now depth) (transactionOf t) 0) × InWord (geometryOf edition) e
-        × Intact (formIn tears (geometryOf edition)) here × (now up ≡ 1) × Kin (now parent) (now depth) (now live) (now children)
+        × Intact (formIn tears (geometryOf edition)) here × (now up ≡ 1) × DerivedSets (now parent) (now depth) (now live) (now children)
         × Reserves tears (geometryOf edition) (now store) (now reserved) (now identity)
         × InNumbers edition records joint tears × (8 < e .kind → joint ≡ true) ⌝ }
     ensures { λ a.
@@ -123,7 +123,7 @@ fn end_event(
         let after = arrays (now (up .exit)) (now (parent .exit)) (now (depth .exit)) (now (line .exit)) (now (held .exit)) (now (retained .exit)) (now (writers .exit)) (now (work .exit)) (now (store .exit)) in
         let edition = editionOf records joint tears in
         ⌜ Stepped (formIn tears (geometryOf edition)) before (meaning e) a after ⌝ }
-    ensures { λ _. ⌜ Kin (now (parent .exit)) (now (depth .exit)) (now (live .exit)) (now (children .exit)) ⌝ }
+    ensures { λ _. ⌜ DerivedSets (now (parent .exit)) (now (depth .exit)) (now (live .exit)) (now (children .exit)) ⌝ }
     ensures { λ _. ⌜ Reserves tears (geometryOf (editionOf records joint tears)) (now (store .exit)) (now (reserved .exit)) (now (identity .exit)) ⌝ }
 {
     let kind = e.kind;
@@ -191,7 +191,7 @@ fn named_event(
     requires { let edition = editionOf records joint tears in
         let here = arrays (now up) (now parent) (now depth) (now line) (now held) (now retained) (now writers) (now work) (now store) in
         ⌜ (transactionOf t ≡ e .transaction) × (1 < e .kind) × (e .kind < 10) × (e .kind ≢ 7) × (e .kind ≢ 8) × InWord (geometryOf edition) e
-        × Intact (formIn tears (geometryOf edition)) here × (now up ≡ 1) × Kin (now parent) (now depth) (now live) (now children)
+        × Intact (formIn tears (geometryOf edition)) here × (now up ≡ 1) × DerivedSets (now parent) (now depth) (now live) (now children)
         × Reserves tears (geometryOf edition) (now store) (now reserved) (now identity)
         × InNumbers edition records joint tears × (8 < e .kind → joint ≡ true) ⌝ }
     ensures { λ a.
@@ -199,7 +199,7 @@ fn named_event(
         let after = arrays (now (up .exit)) (now (parent .exit)) (now (depth .exit)) (now (line .exit)) (now (held .exit)) (now (retained .exit)) (now (writers .exit)) (now (work .exit)) (now (store .exit)) in
         let edition = editionOf records joint tears in
         ⌜ Stepped (formIn tears (geometryOf edition)) before (meaning e) a after ⌝ }
-    ensures { λ _. ⌜ Kin (now (parent .exit)) (now (depth .exit)) (now (live .exit)) (now (children .exit)) ⌝ }
+    ensures { λ _. ⌜ DerivedSets (now (parent .exit)) (now (depth .exit)) (now (live .exit)) (now (children .exit)) ⌝ }
     ensures { λ _. ⌜ Reserves tears (geometryOf (editionOf records joint tears)) (now (store .exit)) (now (reserved .exit)) (now (identity .exit)) ⌝ }
 {
     let kind = e.kind;
@@ -284,7 +284,7 @@ pub fn step(
 ) -> Answer
     requires { let edition = editionOf records joint tears in
         let here = arrays (now up) (now parent) (now depth) (now line) (now held) (now retained) (now writers) (now work) (now store) in
-        ⌜ InWord (geometryOf edition) e × Intact (formIn tears (geometryOf edition)) here × Kin (now parent) (now depth) (now live) (now children)
+        ⌜ InWord (geometryOf edition) e × Intact (formIn tears (geometryOf edition)) here × DerivedSets (now parent) (now depth) (now live) (now children)
         × Reserves tears (geometryOf edition) (now store) (now reserved) (now identity)
         × InNumbers edition records joint tears × (8 < e .kind → joint ≡ true) ⌝ }
     ensures { λ a.
@@ -292,7 +292,7 @@ pub fn step(
         let after = arrays (now (up .exit)) (now (parent .exit)) (now (depth .exit)) (now (line .exit)) (now (held .exit)) (now (retained .exit)) (now (writers .exit)) (now (work .exit)) (now (store .exit)) in
         let edition = editionOf records joint tears in
         ⌜ Stepped (formIn tears (geometryOf edition)) before (meaning e) a after × Intact (formIn tears (geometryOf edition)) after ⌝ }
-    ensures { λ _. ⌜ Kin (now (parent .exit)) (now (depth .exit)) (now (live .exit)) (now (children .exit)) ⌝ }
+    ensures { λ _. ⌜ DerivedSets (now (parent .exit)) (now (depth .exit)) (now (live .exit)) (now (children .exit)) ⌝ }
     ensures { λ _. ⌜ Reserves tears (geometryOf (editionOf records joint tears)) (now (store .exit)) (now (reserved .exit)) (now (identity .exit)) ⌝ }
 {
     let kind = e.kind;

@@ -25,7 +25,7 @@ use Rattle.state_array.proofs.Nested.{joined-nested}
 use Rattle.state_array.proofs.Modes.{grantable-is, joined-granted}
 use Rattle.state_lock.specs.Granting.{Granting}
 use Rattle.state_version.specs.Parts.{Written}
-use Rattle.state_whole.specs.Whole.{Arrays, arrays, view, lineIn, Formed, Intact, saying, Stepped, ReadyLeaf, Reserves}
+use Rattle.state_whole.specs.Whole.{Arrays, arrays, view, lineIn, Formed, Intact, engineAnswer, Stepped, ReadyLeaf, Reserves}
 use Rattle.state_whole.proofs.Rules.{lock-done, lock-refused, read-done, read-refused, write-done, write-refused}
 use Rattle.state_whole.proofs.Reserves.{reserved-test}
 use Rattle.state_whole.proofs.Steps.{answer, stepped, finishes, unmoved, state-eq, up-is, live-is, holds-is, holds-writing-is, shallow, writer-deep, writer-alone}
@@ -81,7 +81,7 @@ module _ (f : Form) where
           refl refl refl) y-form
 
       pub lock-refuses : a ≡ false → Stepped f x (some (lock t r q)) (answer 8 0) y
-      unfolding view saying numberOf valueOf
+      unfolding view engineAnswer numberOf valueOf
       lock-refuses e =
           stepped f x y (some (lock t r q)) (view f x) (refused 8) (answer 8 0)
           (lock-refused f (view f x) t (up-is f x (R .ready .up)) (live-is f x t (R .ready .live)) (R .childless) r q open-to (sym grants ∙ e))

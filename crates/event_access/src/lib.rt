@@ -8,7 +8,7 @@ ghost use lib.ListN.{length, getD, take, drop};
 ghost use Rattle.rules.specs.Event.{lock, write, read, abort};
 ghost use Rattle.rules.specs.Editions.{Edition, geometryOf, formIn, InNumbers};
 ghost use Rattle.state_array.specs.Changes.{accessWhen};
-ghost use Rattle.state_array.specs.Kin.{Kin};
+ghost use Rattle.state_array.specs.Kin.{DerivedSets};
 ghost use Rattle.state_version.specs.Parts.{Sources};
 ghost use Rattle.leaf_number.specs.Named.{transactionOf, recordOf};
 ghost use Rattle.state_whole.specs.Whole.{arrays, Ready, ReadyLeaf, Reserves, Does};
@@ -146,22 +146,22 @@ pub fn abort_event(
 ) -> Answer
     requires { ⌜ (length (now parent) ≡ 24) × (length (now depth) ≡ 24) × (length (now line) ≡ 24) × (records ≤ 64)
         × (length (now held) ≡ 2 * records) × (length (now retained) ≡ 2 * records) × (length (now writers) ≡ records)
-        × Sources (now parent) (now depth) × Kin (now parent) (now depth) (now live) (now children) ⌝ }
+        × Sources (now parent) (now depth) × DerivedSets (now parent) (now depth) (now live) (now children) ⌝ }
     ensures { λ a. ⌜ ((k : Edition) (tears : Bool) (up : ℕ) (work store : List ℕ) →
         let before = arrays up (now (parent .entry)) (now (depth .entry)) (now (line .entry)) (now (held .entry)) (now (retained .entry)) (now (writers .entry)) work store in
         let after = arrays up (now (parent .exit)) (now (depth .exit)) (now (line .exit)) (now (held .exit)) (now (retained .exit)) (now (writers .exit)) work store in
         let form = formIn tears (geometryOf k) in
         Does form (Ready form) before (transactionOf t) (abort (transactionOf t) report) a after) ⌝ }
-    ensures { λ _. ⌜ Kin (now (parent .exit)) (now (depth .exit)) (now (live .exit)) (now (children .exit)) ⌝ }
+    ensures { λ _. ⌜ DerivedSets (now (parent .exit)) (now (depth .exit)) (now (live .exit)) (now (children .exit)) ⌝ }
 {
     let n = t.number();
     let i = n as usize;
     let told = report & (1 < depth[i]);
     let places = 2 * records;
-    state_lock::report(&held[..], retained, places, n, parent[i], told);
+    state_lock::inherit_on_abort(&held[..], retained, places, n, parent[i], told);
     let gone = state_tree::descendants(line, n);
     state_lock::discard(held, retained, writers, records, gone);
-    state_tree::end(parent, depth, line, gone);
+    state_tree::free_numbers(parent, depth, line, gone);
     *live = leaf_set::minus(*live, gone);
     state_lock::leave(&mut children[..], 32, gone);
     Answer {

@@ -28,8 +28,8 @@ use Rattle.rules.proofs.Locks.{rooted-of, version-live}
 use Rattle.leaf_set.specs.Sets.{sets}
 use Rattle.leaf_set.proofs.Sets.{sets-set}
 use Rattle.state_array.specs.View.{bearerAt, bearersOf, slot, versionsOf}
-use Rattle.state_array.specs.Changes.{Row}
-use Rattle.state_array.specs.Kin.{Kin}
+use Rattle.state_array.specs.Changes.{SetChanged}
+use Rattle.state_array.specs.Kin.{DerivedSets}
 use Rattle.state_array.proofs.Kin.{kin-begun}
 use Rattle.state_array.proofs.View.{depth-is, free-is}
 use Rattle.state_whole.specs.Whole.{Arrays, arrays, view, lineIn, Intact, Stepped}
@@ -62,7 +62,7 @@ module _ (form : Form) where
     full-steps e =
         unmoved form x (some (begin p)) 7 (I .form) (begin-full form (view form x) p (up-is form x u) named low (full 24 (live (view form x)) (sym (first-free x f first) ∙ e)))
 
-    module _ (n : f ≢ 24) (line′ : List ℕ) (L : Row f (λ k. bits above k || same k f) (x .line) line′) where
+    module _ (n : f ≢ 24) (line′ : List ℕ) (L : SetChanged f (λ k. bits above k || same k f) (x .line) line′) where
       f-small : f < 24
       unfolding firstFree
       f-small = let q = first-free x f first in let k = not-full 24 (live (view form x)) (λ e. n (q ∙ e)) .2 in omega arith
@@ -172,16 +172,16 @@ module _ (form : Form) where
       go (missing q k) = absurd (n (e ∙ q))
 
   -- who has its place is among the live ones, and among the children of its parent
-  pub begin-kin : (parent depth children parent′ depth′ children′ : List ℕ) (live live′ f p d : ℕ) → Kin parent depth live children → length parent ≡ 24 → length depth ≡ 24
+  pub begin-kin : (parent depth children parent′ depth′ children′ : List ℕ) (live live′ f p d : ℕ) → DerivedSets parent depth live children → length parent ≡ 24 → length depth ≡ 24
       → f ≡ lowest 24 (λ u. same (getD depth u 0) 0) → f ≢ 24 → p < 32 → parent′ ≡ set parent f p → depth′ ≡ set depth f (d + 1)
-      → bits live′ ≡ (λ k. bits live k || same k f) → Row p (λ k. sets children p k || same k f) children children′ → Kin parent′ depth′ live′ children′
+      → bits live′ ≡ (λ k. bits live k || same k f) → SetChanged p (λ k. sets children p k || same k f) children children′ → DerivedSets parent′ depth′ live′ children′
   begin-kin parent depth children parent′ depth′ children′ live live′ f p d K np nd first n hp P D L C =
       rw (P, D) (kin-begun parent depth children children′ live live′ f p (d + 1) K np nd (free-place f depth first n) (free-depth f depth first n) hp (omega arith) L C)
 
   -- a transaction has its place
   pub begin-placed : (x : Arrays) → Intact form x → x .up ≡ 1 → (p d f above : ℕ) → d < depths → d ≡ getD (x .depth) p 0 → (d ≡ 0 → p ≡ 31)
       → f ≡ lowest 24 (λ u. same (getD (x .depth) u 0) 0) → bits above ≡ sets (x .line) p → f ≢ 24
-      → (parent depth line : List ℕ) → parent ≡ set (x .parent) f p → depth ≡ set (x .depth) f (d + 1) → Row f (λ k. bits above k || same k f) (x .line) line
+      → (parent depth line : List ℕ) → parent ≡ set (x .parent) f p → depth ≡ set (x .depth) f (d + 1) → SetChanged f (λ k. bits above k || same k f) (x .line) line
       → Stepped form x (some (begin p)) (answer 0 f) (arrays (x .up) parent depth line (x .held) (x .retained) (x .writers) (x .work) (x .store))
   begin-placed x I u p d f above room e h first aboves n parent depth line P D L =
       subst⁻¹ (λ (l : List ℕ). Stepped form x (some (begin p)) (answer 0 f) (arrays (x .up) l depth line (x .held) (x .retained) (x .writers) (x .work) (x .store))) P

@@ -9,7 +9,7 @@ ghost use Rattle.laws.specs.Bits.{bits};
 ghost use Rattle.rules.specs.Event.{begin};
 ghost use Rattle.rules.specs.Editions.{depths, Edition, geometryOf, formIn};
 ghost use Rattle.leaf_set.specs.Sets.{sets};
-ghost use Rattle.state_array.specs.Kin.{Kin};
+ghost use Rattle.state_array.specs.Kin.{DerivedSets};
 ghost use Rattle.state_whole.specs.Whole.{arrays, Intact, Stepped};
 use leaf_event::Answer;
 
@@ -27,13 +27,13 @@ fn begin_under(
     above: u32,
 ) -> Answer
     requires { ⌜ (d < depths) × (d ≡ getD (now depth) p 0) × (bits above ≡ sets (now line) p) × ((d ≡ 0) → p ≡ 31) × (p < 32)
-        × (length (now parent) ≡ 24) × (length (now depth) ≡ 24) × Kin (now parent) (now depth) (now live) (now children) ⌝ }
+        × (length (now parent) ≡ 24) × (length (now depth) ≡ 24) × DerivedSets (now parent) (now depth) (now live) (now children) ⌝ }
     ensures { λ a. ⌜ ((k : Edition) (tears : Bool) (up : ℕ) (held retained writers work store : List ℕ) →
         let before = arrays up (now (parent .entry)) (now (depth .entry)) (now (line .entry)) held retained writers work store in
         let after = arrays up (now (parent .exit)) (now (depth .exit)) (now (line .exit)) held retained writers work store in
         let form = formIn tears (geometryOf k) in
         Intact form before → up ≡ 1 → Stepped form before (some (begin p)) a after) ⌝ }
-    ensures { λ _. ⌜ Kin (now (parent .exit)) (now (depth .exit)) (now (live .exit)) (now (children .exit)) ⌝ }
+    ensures { λ _. ⌜ DerivedSets (now (parent .exit)) (now (depth .exit)) (now (live .exit)) (now (children .exit)) ⌝ }
 {
     let f = state_tree::first_free(*live);
     if f == 24 {
@@ -42,8 +42,8 @@ fn begin_under(
             value: 0,
         };
     }
-    state_tree::place(parent, depth, line, f, p, d + 1, above);
-    state_tree::enrol(live, children, p, f);
+    state_tree::give_number(parent, depth, line, f, p, d + 1, above);
+    state_tree::add_child(live, children, p, f);
     Answer {
         number: 0,
         value: f,
@@ -60,13 +60,13 @@ pub fn begin_event(
     p: u8,
 ) -> Answer
     requires { ⌜ (p < 32) × (length (now depth) ≡ 24) × (length (now line) ≡ 24) × ((k : ℕ) → getD (now depth) k 0 ≤ depths)
-        × (length (now parent) ≡ 24) × Kin (now parent) (now depth) (now live) (now children) ⌝ }
+        × (length (now parent) ≡ 24) × DerivedSets (now parent) (now depth) (now live) (now children) ⌝ }
     ensures { λ a. ⌜ ((k : Edition) (tears : Bool) (up : ℕ) (held retained writers work store : List ℕ) →
         let before = arrays up (now (parent .entry)) (now (depth .entry)) (now (line .entry)) held retained writers work store in
         let after = arrays up (now (parent .exit)) (now (depth .exit)) (now (line .exit)) held retained writers work store in
         let form = formIn tears (geometryOf k) in
         Intact form before → up ≡ 1 → Stepped form before (some (begin p)) a after) ⌝ }
-    ensures { λ _. ⌜ Kin (now (parent .exit)) (now (depth .exit)) (now (live .exit)) (now (children .exit)) ⌝ }
+    ensures { λ _. ⌜ DerivedSets (now (parent .exit)) (now (depth .exit)) (now (live .exit)) (now (children .exit)) ⌝ }
 {
     if p == 31 {
         return begin_under(parent, depth, line, live, children, 31, 0, 0);

@@ -14,7 +14,7 @@ use Rattle.laws.proofs.Tests.{same?, Same, is, isnt, same-refl, same-eq, ne-fal
 use Rattle.laws.proofs.Booleans.{clash, or-cases, both, not-true, not-false}
 use Rattle.rules.specs.Store.{Page, pagesOf, mapOf}
 use Rattle.rules.specs.Event.{Event, commit, prepare}
-use Rattle.rules.specs.State.{Bearers, chain, lineOf, mem, live, down}
+use Rattle.rules.specs.State.{Bearers, lineFrom, lineOf, mem, live, down}
 use Rattle.rules.specs.Versions.{also, handedUp, dropped}
 use Rattle.rules.specs.Commit.{Cut, prepareAt}
 use Rattle.rules.specs.Step.{done, cut, hasChild, ended, passed, retaining, concluded, numberOf, valueOf, changes, busy, commitsTop, commitsChild, commits, step}
@@ -26,15 +26,15 @@ use Rattle.rules.proofs.Locks.{rooted-of, no-child, versions-in-line, line-apar
 use Rattle.rules.proofs.Soundness.{alone-closed}
 use Rattle.leaf_set.specs.Sets.{sets}
 use Rattle.state_array.specs.View.{Owners, bearersOf, modesOf, Nested, slot, versionsOf}
-use Rattle.state_array.specs.Changes.{leaving, heirsOf, inheriting, handed, Rows, places, cleared, Cleared}
+use Rattle.state_array.specs.Changes.{leaving, replacing, inheriting, handed, Rows, places, cleared, Cleared}
 use Rattle.state_array.proofs.View.{depth-is}
 use Rattle.state_array.proofs.Nested.{inheriting-nested}
 use Rattle.state_array.proofs.Modes.{leaving-discarded, inheriting-inherited}
 use Rattle.state_version.specs.Parts.{lifted}
 use Rattle.state_version.proofs.Lifting.{hit, miss-depth, miss-row}
-use Rattle.store_write.specs.Phase.{Leaves, strideOf}
+use Rattle.store_write.specs.Phase.{PageWritesDone, strideOf}
 use Rattle.store_commit.specs.Phase.{versionsIn}
-use Rattle.state_whole.specs.Whole.{Arrays, arrays, view, lineIn, Intact, saying, Stepped, Ready, Reserves}
+use Rattle.state_whole.specs.Whole.{Arrays, arrays, view, lineIn, Intact, engineAnswer, Stepped, Ready, Reserves}
 use Rattle.state_whole.proofs.Rules.{commit-done, commit-busy, commit-refused, prepare-children, prepare-busy, prepare-beneath, prepare-done}
 use Rattle.state_whole.proofs.Steps.{answer, stepped, finishes, unmoved, state-eq, up-is, live-is, wrote-is, depth-of, shallow, writer-deep}
 use Rattle.state_whole.proofs.Ends.{bearers-cleared, lines-cleared, tidy-cleared, nested-cleared, rest-is, rest-form}
@@ -61,16 +61,16 @@ turned : (l l′ : List ℕ) {m n : ℕ} {p q : ℕ → Bool} → m ≡ n → p 
 turned l l′ e o r = record { are = r .are ∙ ap (λ (d : ℕ → Bool). leaving d (sets l)) o; long = r .long ∙ e }
 
 -- the same page writes
-pub settled-pages : (m : Medium) (b c : Bool) (s t : m .Store) (v : ℕ → Option Page) (i k n : ℕ) (d : Bool) → c ≡ b → Leaves (settlingAt m b s v i k) t n d → Leaves (settlingAt m c s v i k) t n d
-settled-pages m b c s t v i k n d e L = subst⁻¹ (λ (b : Bool). Leaves (settlingAt m b s v i k) t n d) e L
+pub settled-pages : (m : Medium) (b c : Bool) (s t : m .Store) (v : ℕ → Option Page) (i k n : ℕ) (d : Bool) → c ≡ b → PageWritesDone (settlingAt m b s v i k) t n d → PageWritesDone (settlingAt m c s v i k) t n d
+settled-pages m b c s t v i k n d e L = subst⁻¹ (λ (b : Bool). PageWritesDone (settlingAt m b s v i k) t n d) e L
 
 -- where no page tears the medium is that of atomic pages
 pub whole-length : (tears : Bool) (l m : ℕ) → tears ≡ false → l ≡ strideOf tears * m → l ≡ 32 * m
 whole-length tears l m e h = subst (λ (b : Bool). l ≡ strideOf b * m) e h
 
-pub prepared-whole : (tears : Bool) (g : Geometry) (s t : List ℕ) (v : ℕ → Option Page) (i k n : ℕ) (d : Bool) → tears ≡ false → Leaves (prepareAt g (pagesOf s) v i k) (pagesOf t) n d
-    → Leaves (mediumOf tears g .prepare (mediumOf tears g .fromBytes s) v i k) (mediumOf tears g .fromBytes t) n d
-prepared-whole tears g s t v i k n d e L = subst⁻¹ (λ (b : Bool). Leaves (mediumOf b g .prepare (mediumOf b g .fromBytes s) v i k) (mediumOf b g .fromBytes t) n d) e L
+pub prepared-whole : (tears : Bool) (g : Geometry) (s t : List ℕ) (v : ℕ → Option Page) (i k n : ℕ) (d : Bool) → tears ≡ false → PageWritesDone (prepareAt g (pagesOf s) v i k) (pagesOf t) n d
+    → PageWritesDone (mediumOf tears g .prepare (mediumOf tears g .fromBytes s) v i k) (mediumOf tears g .fromBytes t) n d
+prepared-whole tears g s t v i k n d e L = subst⁻¹ (λ (b : Bool). PageWritesDone (mediumOf b g .prepare (mediumOf b g .fromBytes s) v i k) (mediumOf b g .fromBytes t) n d) e L
 
 module _ (tears : Bool) (g : Geometry) where
   abbrev form : Form
@@ -108,7 +108,7 @@ module _ (tears : Bool) (g : Geometry) where
 
     -- the end of a top transaction, over what its page writes left
     module _ (e : Event) (C : Cut (form .medium .Store)) (ends : step form (view form x) (some e) ≡ commitsTop form (view form x) t C) (store : List ℕ) (made : ℕ) (crashed : Bool)
-        (L : Leaves C (form .medium .fromBytes store) made crashed) (size : length store ≡ length (x .store)) where
+        (L : PageWritesDone C (form .medium .fromBytes store) made crashed) (size : length store ≡ length (x .store)) where
       outcome : (c : Bool) → crashed ≡ c → step form (view form x) (some e) ≡ concluded (ended (view form x) alone (form .medium .fromBytes store)) C c
       unfolding commitsTop
       outcome c q = ends ∙ ap₂ (λ (p : form .medium .Store) (c : Bool). concluded (ended (view form x) alone p) C c) (sym (L .store)) (sym (L .crashed) ∙ q)
@@ -118,7 +118,7 @@ module _ (tears : Bool) (g : Geometry) where
           → Cleared (λ k. same k t) (x .parent) parent → Cleared (λ k. same k t) (x .depth) depth → Cleared (λ k. same k t) (x .line) line
           → Rows (2 * n) (leaving (bits one) (sets (x .held))) held → Rows (2 * n) (leaving (bits one) (sets (x .retained))) retained → Rows n (leaving (bits one) (sets (x .writers))) writers
           → Stepped form x (some e) (answer 0 made) (arrays (x .up) parent depth line held retained writers (x .work) store)
-      unfolding concluded saying numberOf valueOf view ended retaining
+      unfolding concluded engineAnswer numberOf valueOf view ended retaining
       top-steps q n many parent depth line held retained writers one o P D N H M W =
           let same-count : n ≡ records g = sym many ∙ I .form .writerss in
           let twice : 2 * n ≡ 2 * records g = ap (λ (m : ℕ). 2 * m) same-count in
@@ -132,7 +132,7 @@ module _ (tears : Bool) (g : Geometry) where
       -- a crash came among them
       pub top-cut : crashed ≡ true → (n : ℕ) → length (x .writers) ≡ n → (up : ℕ) (parent depth line held retained writers : List ℕ) → Fallen n up parent depth line held retained writers
           → Stepped form x (some e) (answer 11 made) (arrays up parent depth line held retained writers (x .work) store)
-      unfolding concluded saying numberOf valueOf
+      unfolding concluded engineAnswer numberOf valueOf
       top-cut q n many up parent depth line held retained writers Z =
           subst⁻¹ (Stepped form x (some e) (answer 11 made)) (fallen n up parent depth line held retained writers (x .work) store Z)
           (stepped form x (zeros n (x .work) store) (some e) (down (C .store)) (cut (C .made)) (answer 11 made) (outcome true q)
@@ -160,10 +160,10 @@ module _ (tears : Bool) (g : Geometry) where
         module _ (top : d t ≡ 1) where
           -- a commit, and a prepare, of a top transaction
           commit-ends : (k : ℕ) → step form (view form x) (some (commit t k)) ≡ commitsTop form (view form x) t (form .medium .commit (form .medium .fromBytes (x .store)) (versionsIn g m (x .work)) k)
-          unfolding view lineOf chain commits
+          unfolding view lineOf lineFrom commits
           commit-ends k =
               commit-done form (view form x) t (up-is form x (R .up)) (live-is form x t (R .live)) k childless (rw (both-are ∙ q, and-false))
-              ∙ ap (λ (n : ℕ). commits form (view form x) t k (chain b n t)) (depth-is (x .parent) (x .depth) t ∙ top)
+              ∙ ap (λ (n : ℕ). commits form (view form x) t k (lineFrom b n t)) (depth-is (x .parent) (x .depth) t ∙ top)
               ∙ ap (λ (v : ℕ → Option Page). commitsTop form (view form x) t (form .medium .commit (form .medium .fromBytes (x .store)) v k)) (top-versions tears g x (I .form) t m mapped top)
 
           prepare-ends : (k j : ℕ) → step form (view form x) (some (prepare t k j)) ≡ commitsTop form (view form x) t (form .medium .prepare (form .medium .fromBytes (x .store)) (versionsIn g m (x .work)) j k)
@@ -239,8 +239,8 @@ module _ (tears : Bool) (g : Geometry) where
       v = versionsOf (x .depth) (x .writers) (x .work)
 
       version-up : (j r : ℕ) → Same j t → Same j p → Is (w r t) → Is (w r j)
-          → cond (heirsOf (w r t) (w r) t p j) (some (up (slot r (cond (same j t) 0 (d j))))) none ≡ dropped alone (handedUp t p v) j r
-      unfolding heirsOf versionsOf dropped handedUp also
+          → cond (replacing (w r t) (w r) t p j) (some (up (slot r (cond (same j t) 0 (d j))))) none ≡ dropped alone (handedUp t p v) j r
+      unfolding replacing versionsOf dropped handedUp also
       version-up j r (is e s _) k a c = rw (s, e, ne-false t p (λ q. parent-other form x I t n deep (sym q)))
       version-up j r (isnt e s _) (is f u _) (yes′ a) c =
           rw (s, u, a, or-true) (ap some (hit-up r j (ap d f ∙ parent-deep form x I t n deep) a ∙ ap (λ (m : ℕ). pagesOf (x .work) (slot r m)) (sym deep)))
@@ -260,7 +260,7 @@ module _ (tears : Bool) (g : Geometry) where
         unfolding versionsOf places cleared handed
         versions-up = fun-ext (λ j. fun-ext (λ r.
             ap₂ (λ (f : Owners) (g : ℕ → ℕ). cond (f r j) (some (pagesOf work (slot r (g j)))) none) (W .are) (D .are)
-            ∙ ap (λ (g : ℕ → Page). cond (heirsOf (w r t) (w r) t p j) (some (g (slot r (cond (same j t) 0 (d j))))) none) K
+            ∙ ap (λ (g : ℕ → Page). cond (replacing (w r t) (w r) t p j) (some (g (slot r (cond (same j t) 0 (d j))))) none) K
             ∙ version-up j r (same? j t) (same? j p) (is? (w r t)) (is? (w r j))))
 
         abbrev y : Arrays
@@ -273,11 +273,11 @@ module _ (tears : Bool) (g : Geometry) where
             (ap modesOf (M .are) ∙ inheriting-inherited (sets (x .held)) (sets (x .retained)) t p (parent-other form x I t n deep)) versions-up refl
 
         commit-is : step form (view form x) (some (commit t k)) ≡ commitsChild form (view form x) t p
-        unfolding view lineOf chain commits
+        unfolding view lineOf lineFrom commits
         commit-is =
             commit-done form (view form x) t (up-is form x (R .up)) (live-is form x t (R .live)) k childless
             (ap (λ (c : Bool). c && (changes form (view form x) t && busy form (view form x))) (top-is tears g x t (R .live) ∙ ne-false (d t) 1 (λ e. omega arith)))
-            ∙ ap (λ (m : ℕ). commits form (view form x) t k (chain b m t)) (depth-is (x .parent) (x .depth) t ∙ deep)
+            ∙ ap (λ (m : ℕ). commits form (view form x) t k (lineFrom b m t)) (depth-is (x .parent) (x .depth) t ∙ deep)
             ∙ ap (commitsChild form (view form x) t) (parent-there form x I t n deep)
 
         same-count : count ≡ records g

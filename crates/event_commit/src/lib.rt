@@ -10,10 +10,10 @@ ghost use Rattle.rules.specs.Commit.{Cut};
 ghost use Rattle.rules.specs.Step.{hasChild, commitsTop, step};
 ghost use Rattle.rules.specs.Geometry.{Geometry};
 ghost use Rattle.rules.specs.Editions.{Edition, geometryOf, mediumOf, formIn, InNumbers};
-ghost use Rattle.state_array.specs.Kin.{Kin};
+ghost use Rattle.state_array.specs.Kin.{DerivedSets};
 ghost use Rattle.state_version.specs.Parts.{Sources};
 ghost use Rattle.leaf_commit_page.specs.Layout.{Known, Layout};
-ghost use Rattle.store_write.specs.Phase.{Leaves, strideOf};
+ghost use Rattle.store_write.specs.Phase.{PageWritesDone, strideOf};
 ghost use Rattle.store_commit.specs.Phase.{versionsIn};
 ghost use Rattle.event_commit.specs.Settling.{settling, settlingAt};
 ghost use Rattle.leaf_number.specs.Named.{transactionOf};
@@ -38,18 +38,18 @@ fn end_top(
     crashed: bool,
 ) -> Answer
     requires { ⌜ (t < 24) × (records ≤ 64) × (length (now parent) ≡ 24) × (length (now depth) ≡ 24) × (length (now line) ≡ 24) × (length (now held) ≡ 2 * records)
-        × (length (now retained) ≡ 2 * records) × (length (now writers) ≡ records) × Kin (now parent) (now depth) (now live) (now children) ⌝ }
+        × (length (now retained) ≡ 2 * records) × (length (now writers) ≡ records) × DerivedSets (now parent) (now depth) (now live) (now children) ⌝ }
     ensures { λ a. ⌜ ((edition : Edition) (tears : Bool) (e : Event) (c : Cut (mediumOf tears (geometryOf edition) .Store)) (work store store′ : List ℕ) →
         let before = arrays (now (up .entry)) (now (parent .entry)) (now (depth .entry)) (now (line .entry)) (now (held .entry)) (now (retained .entry)) (now (writers .entry)) work store in
         let after = arrays (now (up .exit)) (now (parent .exit)) (now (depth .exit)) (now (line .exit)) (now (held .exit)) (now (retained .exit)) (now (writers .exit)) work store′ in
         let form = formIn tears (geometryOf edition) in
         Intact form before → Ready form before t → hasChild (view form before) t ≡ false
-        → step form (view form before) (some e) ≡ commitsTop form (view form before) t c → Leaves c (form .medium .fromBytes store′) made crashed → length store′ ≡ length store
+        → step form (view form before) (some e) ≡ commitsTop form (view form before) t c → PageWritesDone c (form .medium .fromBytes store′) made crashed → length store′ ≡ length store
         → Stepped form before (some e) a after) ⌝ }
-    ensures { λ _. ⌜ Kin (now (parent .exit)) (now (depth .exit)) (now (live .exit)) (now (children .exit)) ⌝ }
+    ensures { λ _. ⌜ DerivedSets (now (parent .exit)) (now (depth .exit)) (now (live .exit)) (now (children .exit)) ⌝ }
 {
     if crashed {
-        event_crash::fall(
+        event_crash::clear_state(
             up,
             parent,
             depth,
@@ -67,8 +67,8 @@ fn end_top(
         };
     }
     state_lock::discard(held, retained, writers, records, leaf_set::single(t));
-    state_tree::strike(live, children, parent[t as usize], t);
-    state_tree::retire(parent, depth, line, t);
+    state_tree::remove_child(live, children, parent[t as usize], t);
+    state_tree::free_number(parent, depth, line, t);
     Answer {
         number: 0,
         value: made,
@@ -93,7 +93,7 @@ fn write_pages(
         let medium = mediumOf tears g in
         let before = medium .fromBytes (now (store .entry)) in
         let after = medium .fromBytes (now (store .exit)) in
-        Layout g records → Leaves (settlingAt medium prepares before (versionsIn g map (now (work .entry))) i k) after (r .made) (r .crashed)) ⌝ }
+        Layout g records → PageWritesDone (settlingAt medium prepares before (versionsIn g map (now (work .entry))) i k) after (r .made) (r .crashed)) ⌝ }
 {
     if prepares {
         return store_commit::prepare_pages(store, work, map, records, i, k);
@@ -154,7 +154,7 @@ fn settle_top(
         × (length (now parent) ≡ 24) × (length (now depth) ≡ 24) × (length (now line) ≡ 24) × (length (now held) ≡ 2 * records)
         × (length (now retained) ≡ 2 * records) × (length (now writers) ≡ records) × (length (now work) ≡ 512 * records)
         × (length (now store) ≡ strideOf tears * (1 + (records + records)))
-        × (d ≡ getD (now depth) t 0) × (prepares ≡ false → d ≡ 1) × Kin (now parent) (now depth) (now live) (now children)
+        × (d ≡ getD (now depth) t 0) × (prepares ≡ false → d ≡ 1) × DerivedSets (now parent) (now depth) (now live) (now children)
         × (joint ≡ true → tears ≡ false) ⌝ }
     ensures { λ a. ⌜ ((edition : Edition) →
         let before = arrays (now (up .entry)) (now (parent .entry)) (now (depth .entry)) (now (line .entry)) (now (held .entry)) (now (retained .entry)) (now (writers .entry)) (now (work .entry)) (now (store .entry)) in
@@ -164,7 +164,7 @@ fn settle_top(
         → Reserves tears (geometryOf edition) (now (store .entry)) (now (reserved .entry)) (now (identity .entry))
         → Stepped form before (some (settling prepares t k i)) a after
         × Reserves tears (geometryOf edition) (now (store .exit)) (now (reserved .exit)) (now (identity .exit))) ⌝ }
-    ensures { λ _. ⌜ Kin (now (parent .exit)) (now (depth .exit)) (now (live .exit)) (now (children .exit)) ⌝ }
+    ensures { λ _. ⌜ DerivedSets (now (parent .exit)) (now (depth .exit)) (now (live .exit)) (now (children .exit)) ⌝ }
 {
     let map = leaf_commit_page::map_of(&writers[..], records, t);
     if (map != 0) & (*reserved != 0) {
@@ -225,20 +225,20 @@ fn commit_child(
 ) -> Answer
     requires { ⌜ (t < 24) × (records ≤ 64) × (length (now parent) ≡ 24) × (length (now depth) ≡ 24) × (length (now line) ≡ 24) × (length (now held) ≡ 2 * records)
         × (length (now retained) ≡ 2 * records) × (length (now writers) ≡ records) × (length (now work) ≡ 512 * records)
-        × (1 < d) × (d ≡ getD (now depth) t 0) × Sources (now parent) (now depth) × Kin (now parent) (now depth) (now live) (now children) ⌝ }
+        × (1 < d) × (d ≡ getD (now depth) t 0) × Sources (now parent) (now depth) × DerivedSets (now parent) (now depth) (now live) (now children) ⌝ }
     ensures { λ a. ⌜ ((edition : Edition) (tears : Bool) (up k : ℕ) (store : List ℕ) →
         let before = arrays up (now (parent .entry)) (now (depth .entry)) (now (line .entry)) (now (held .entry)) (now (retained .entry)) (now (writers .entry)) (now (work .entry)) store in
         let after = arrays up (now (parent .exit)) (now (depth .exit)) (now (line .exit)) (now (held .exit)) (now (retained .exit)) (now (writers .exit)) (now (work .exit)) store in
         let form = formIn tears (geometryOf edition) in
         Intact form before → Ready form before t → hasChild (view form before) t ≡ false → Stepped form before (some (commit t k)) a after) ⌝ }
-    ensures { λ _. ⌜ Kin (now (parent .exit)) (now (depth .exit)) (now (live .exit)) (now (children .exit)) ⌝ }
+    ensures { λ _. ⌜ DerivedSets (now (parent .exit)) (now (depth .exit)) (now (live .exit)) (now (children .exit)) ⌝ }
 {
     let p = parent[t as usize];
-    state_version::lift(writers, work, records, t, p, d);
+    state_version::hand_up(writers, work, records, t, p, d);
     let places = 2 * records;
-    state_lock::pass(held, retained, places, t, p);
-    state_tree::strike(live, children, p, t);
-    state_tree::retire(parent, depth, line, t);
+    state_lock::inherit_on_commit(held, retained, places, t, p);
+    state_tree::remove_child(live, children, p, t);
+    state_tree::free_number(parent, depth, line, t);
     Answer {
         number: 0,
         value: 0,
@@ -273,7 +273,7 @@ pub fn settle_event(
         × (length (now parent) ≡ 24) × (length (now depth) ≡ 24) × (length (now line) ≡ 24) × (length (now held) ≡ 2 * records)
         × (length (now retained) ≡ 2 * records) × (length (now writers) ≡ records) × (length (now work) ≡ 512 * records)
         × (length (now store) ≡ strideOf tears * (1 + (records + records)))
-        × (0 < getD (now depth) (transactionOf t) 0) × Sources (now parent) (now depth) × Kin (now parent) (now depth) (now live) (now children)
+        × (0 < getD (now depth) (transactionOf t) 0) × Sources (now parent) (now depth) × DerivedSets (now parent) (now depth) (now live) (now children)
         × (joint ≡ true → tears ≡ false) ⌝ }
     ensures { λ a. ⌜ ((edition : Edition) →
         let before = arrays (now (up .entry)) (now (parent .entry)) (now (depth .entry)) (now (line .entry)) (now (held .entry)) (now (retained .entry)) (now (writers .entry)) (now (work .entry)) (now (store .entry)) in
@@ -283,7 +283,7 @@ pub fn settle_event(
         → Reserves tears (geometryOf edition) (now (store .entry)) (now (reserved .entry)) (now (identity .entry))
         → Stepped form before (some (settling prepares (transactionOf t) k i)) a after
         × Reserves tears (geometryOf edition) (now (store .exit)) (now (reserved .exit)) (now (identity .exit))) ⌝ }
-    ensures { λ _. ⌜ Kin (now (parent .exit)) (now (depth .exit)) (now (live .exit)) (now (children .exit)) ⌝ }
+    ensures { λ _. ⌜ DerivedSets (now (parent .exit)) (now (depth .exit)) (now (live .exit)) (now (children .exit)) ⌝ }
 {
     let n = t.number();
     if state_tree::has_child(children, n) {

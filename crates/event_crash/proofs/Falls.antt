@@ -13,7 +13,7 @@ use Rattle.laws.proofs.Bits.{bits-zero}
 use Rattle.laws.proofs.Booleans.{not-false, not-true, refute, clash}
 use Rattle.rules.specs.Store.{Page, pagesOf, readCommit, mapIn, damaged}
 use Rattle.rules.specs.Event.{crash, recover}
-use Rattle.rules.specs.State.{Bearer, free, active, isActive, depthIn, chain, lineOf, mem, Mode, nothing, reading, writing, isLock, live, holds, retains, down}
+use Rattle.rules.specs.State.{Bearer, free, active, isActive, depthIn, lineFrom, lineOf, mem, Mode, nothing, reading, writing, isLock, live, holds, retains, down}
 use Rattle.rules.specs.Versions.{isSome}
 use Rattle.rules.specs.Commit.{Cut}
 use Rattle.rules.specs.Geometry.{Geometry, records}
@@ -27,9 +27,9 @@ use Rattle.leaf_set.specs.Sets.{sets}
 use Rattle.state_array.specs.View.{Owners, bearerAt, bearersOf, anyMode, writeMode, modeOf, modesOf, Nested, slot, versionsOf}
 use Rattle.leaf_commit_page.specs.Heard.{understood}
 use Rattle.leaf_commit_page.specs.declared.CommitMap.{CommitMap}
-use Rattle.store_write.specs.Phase.{Leaves, storeOf, shownIn}
+use Rattle.store_write.specs.Phase.{PageWritesDone, storeOf, shownIn}
 use Rattle.store_commit.specs.Phase.{understoodIn}
-use Rattle.state_whole.specs.Whole.{Arrays, arrays, view, lineIn, Served, Formed, Intact, saying, Stepped}
+use Rattle.state_whole.specs.Whole.{Arrays, arrays, view, lineIn, Served, Formed, Intact, engineAnswer, Stepped}
 use Rattle.state_whole.proofs.Rules.{crash-done, recover-up, recover-damaged, recover-done}
 use Rattle.state_whole.proofs.Steps.{answer, stepped, finishes, unmoved, state-eq, up-is, down-is}
 
@@ -65,7 +65,7 @@ module _ (f : Form) (n : ℕ) (work store : List ℕ) where
 
   module _ (many : records (f .geometry) ≡ n) (w : length work ≡ 512 * records (f .geometry)) (s : length store ≡ f .medium .size) where
     pub zeros-formed : Formed f (zeros n work store)
-    unfolding lineIn lineOf depthIn chain mem
+    unfolding lineIn lineOf depthIn lineFrom mem
     zeros-formed = record {
       lines = none-in 24 ∙ sym (ap lineIn bearers-free);
       flag = omega arith;
@@ -172,7 +172,7 @@ module _ (f : Form) (x : Arrays) (I : Intact f x) (k : ℕ) where
     recover-refuses-4 e = unmoved f x (some (recover k)) 4 (I .form) (recover-damaged f (view f x) k (down-is f x n) e)
 
     module _ (good : f .medium .damaged start ≡ false) (store : List ℕ) (made : ℕ) (crashed : Bool) (size : length store ≡ length (x .store))
-        (L : Leaves (f .medium .recover start k) (f .medium .fromBytes store) made crashed) where
+        (L : PageWritesDone (f .medium .recover start k) (f .medium .fromBytes store) made crashed) where
       abbrev C : Cut (f .medium .Store)
       C = f .medium .recover start k
 
@@ -194,14 +194,14 @@ module _ (f : Form) (x : Arrays) (I : Intact f x) (k : ℕ) where
       -- cut: still down, and nothing was live
       pub recover-cut : crashed ≡ true
           → Stepped f x (some (recover k)) (answer 11 made) (arrays (x .up) (x .parent) (x .depth) (x .line) (x .held) (x .retained) (x .writers) (x .work) store)
-      unfolding concluded saying numberOf valueOf view down over
+      unfolding concluded engineAnswer numberOf valueOf view down over
       recover-cut e =
           stepped f x _ (some (recover k)) (down (C .store)) (cut (C .made)) (answer 11 made) (outcome true e)
           (ap over (idle-down (I .sound) (down-is f x n)) ∙ ap down (L .store)) (ap (answer 11) (L .made)) (formed (x .up) (I .form .flag))
 
       pub recover-steps : crashed ≡ false
           → Stepped f x (some (recover k)) (answer 0 made) (arrays 1 (x .parent) (x .depth) (x .line) (x .held) (x .retained) (x .writers) (x .work) store)
-      unfolding concluded saying numberOf valueOf view raised
+      unfolding concluded engineAnswer numberOf valueOf view raised
       recover-steps e =
           stepped f x _ (some (recover k)) (raised (view f x) left) (done (C .made)) (answer 0 made) (outcome false e)
           (state-eq f (same-refl 1) refl refl refl refl refl) (ap (answer 0) (L .made)) (formed 1 (omega arith))

@@ -7,14 +7,14 @@ ghost use Prim.Native.Nat.{ℕ, _+_, _*_, _≤_};
 ghost use lib.ListN.{length, replicate};
 ghost use Rattle.rules.specs.Event.{crash, recover};
 ghost use Rattle.rules.specs.Editions.{Edition, geometryOf, formIn, InNumbers};
-ghost use Rattle.state_array.specs.Kin.{Kin};
+ghost use Rattle.state_array.specs.Kin.{DerivedSets};
 ghost use Rattle.leaf_commit_page.specs.Layout.{Known};
 ghost use Rattle.store_write.specs.Phase.{strideOf};
 ghost use Rattle.state_whole.specs.Whole.{arrays, Intact, Stepped};
 use leaf_event::Answer;
 
 // All transactions go, with their locks and versions, and the engine is down.
-pub fn fall(
+pub fn clear_state(
     up: &mut u8,
     parent: &mut [u8; 24],
     depth: &mut [u8; 24],
@@ -30,7 +30,7 @@ pub fn fall(
     ensures { λ _.
         ⌜ (now (up .exit) ≡ 0) × (now (parent .exit) ≡ replicate 24 0) × (now (depth .exit) ≡ replicate 24 0) × (now (line .exit) ≡ replicate 24 0)
         × (now (held .exit) ≡ replicate (2 * records) 0) × (now (retained .exit) ≡ replicate (2 * records) 0) × (now (writers .exit) ≡ replicate records 0) ⌝ }
-    ensures { λ _. ⌜ Kin (now (parent .exit)) (now (depth .exit)) (now (live .exit)) (now (children .exit)) ⌝ }
+    ensures { λ _. ⌜ DerivedSets (now (parent .exit)) (now (depth .exit)) (now (live .exit)) (now (children .exit)) ⌝ }
 {
     *up = 0;
     *parent = [0; 24];
@@ -63,9 +63,9 @@ pub fn crash_event(
         let after = arrays (now (up .exit)) (now (parent .exit)) (now (depth .exit)) (now (line .exit)) (now (held .exit)) (now (retained .exit)) (now (writers .exit)) work store in
         let form = formIn tears (geometryOf edition) in
         Intact form before → Stepped form before (some crash) a after) ⌝ }
-    ensures { λ _. ⌜ Kin (now (parent .exit)) (now (depth .exit)) (now (live .exit)) (now (children .exit)) ⌝ }
+    ensures { λ _. ⌜ DerivedSets (now (parent .exit)) (now (depth .exit)) (now (live .exit)) (now (children .exit)) ⌝ }
 {
-    fall(
+    clear_state(
         up,
         parent,
         depth,

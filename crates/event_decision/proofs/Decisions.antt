@@ -18,8 +18,8 @@ use Rattle.rules.specs.Form.{Form}
 use Rattle.rules.specs.Editions.{formIn}
 use Rattle.rules.proofs.PreparedPage.{prepared-is}
 use Rattle.leaf_commit_page.specs.Heard.{prepared}
-use Rattle.store_write.specs.Phase.{Leaves, storeOf, shownIn}
-use Rattle.state_whole.specs.Whole.{Arrays, arrays, view, Intact, saying, Stepped, Reserves}
+use Rattle.store_write.specs.Phase.{PageWritesDone, storeOf, shownIn}
+use Rattle.state_whole.specs.Whole.{Arrays, arrays, view, Intact, engineAnswer, Stepped, Reserves}
 use Rattle.state_whole.proofs.Rules.{decide-done, query-done}
 use Rattle.state_whole.proofs.Steps.{answer, stepped, finishes, state-eq, up-is}
 use Rattle.state_whole.proofs.Reserves.{prepared-in, isFor-is, one-prepared}
@@ -33,8 +33,8 @@ module _ (tears : Bool) (g : Geometry) where
   shownFirst store = shownIn tears (storeOf tears store) 0
 
   -- the same decision
-  pub by-decision : (s t : f .medium .Store) (k m : ℕ) (c d e : Bool) → e ≡ d → Leaves (f .medium .decide s d k) t m c → Leaves (f .medium .decide s e k) t m c
-  by-decision s t k m c d e q L = subst⁻¹ (λ (b : Bool). Leaves (f .medium .decide s b k) t m c) q L
+  pub by-decision : (s t : f .medium .Store) (k m : ℕ) (c d e : Bool) → e ≡ d → PageWritesDone (f .medium .decide s d k) t m c → PageWritesDone (f .medium .decide s e k) t m c
+  by-decision s t k m c d e q L = subst⁻¹ (λ (b : Bool). PageWritesDone (f .medium .decide s b k) t m c) q L
 
   -- what is prepared, where the test holds
   pub for-prepared : (store : List ℕ) (m n i : ℕ) (b : Bool) → Reserves tears g store m n → b ≡ (not (same m 0) && same n i) → b ≡ true → readPrepared g (shownFirst store) ≡ some (prepared m n)
@@ -70,7 +70,7 @@ module _ (tears : Bool) (g : Geometry) where
       decide-other e = finishes f x x (some (decide d k i)) (view f x) 0 (decides-is ∙ ap (decides f (view f x) d k) e) refl (I .form)
 
       -- for the prepared one, over what its page writes left
-      module _ (ours : b ≡ true) (store : List ℕ) (made : ℕ) (crashed : Bool) (L : Leaves (f .medium .decide (f .medium .fromBytes (x .store)) d k) (f .medium .fromBytes store) made crashed) (size : length store ≡ length (x .store)) where
+      module _ (ours : b ≡ true) (store : List ℕ) (made : ℕ) (crashed : Bool) (L : PageWritesDone (f .medium .decide (f .medium .fromBytes (x .store)) d k) (f .medium .fromBytes store) made crashed) (size : length store ≡ length (x .store)) where
         abbrev C : Cut (f .medium .Store)
         C = f .medium .decide (f .medium .fromBytes (x .store)) d k
 
@@ -81,7 +81,7 @@ module _ (tears : Bool) (g : Geometry) where
             ∙ ap₂ (λ (p : f .medium .Store) (c : Bool). concluded (raised (view f x) p) C c) (sym (L .store)) (sym (L .crashed) ∙ e)
 
         pub decide-steps : crashed ≡ false → Stepped f x (some (decide d k i)) (answer 0 made) (arrays (x .up) (x .parent) (x .depth) (x .line) (x .held) (x .retained) (x .writers) (x .work) store)
-        unfolding concluded saying numberOf valueOf view raised
+        unfolding concluded engineAnswer numberOf valueOf view raised
         decide-steps e =
             stepped f x _ (some (decide d k i)) (raised (view f x) (f .medium .fromBytes store)) (done (C .made)) (answer 0 made) (outcome false e)
             (state-eq f (up-is f x up) refl refl refl refl refl) (ap (answer 0) (L .made))
@@ -89,7 +89,7 @@ module _ (tears : Bool) (g : Geometry) where
 
         pub decide-cut : crashed ≡ true → (n′ : ℕ) → length (x .writers) ≡ n′ → (up′ : ℕ) (parent depth line held retained writers : List ℕ) → Fallen n′ up′ parent depth line held retained writers
             → Stepped f x (some (decide d k i)) (answer 11 made) (arrays up′ parent depth line held retained writers (x .work) store)
-        unfolding concluded saying numberOf valueOf
+        unfolding concluded engineAnswer numberOf valueOf
         decide-cut e n′ many up′ parent depth line held retained writers Z =
             subst⁻¹ (Stepped f x (some (decide d k i)) (answer 11 made)) (fallen n′ up′ parent depth line held retained writers (x .work) store Z)
             (stepped f x (zeros n′ (x .work) store) (some (decide d k i)) (down (C .store)) (cut (C .made)) (answer 11 made) (outcome true e)

@@ -11,10 +11,10 @@ ghost use Rattle.rules.specs.Event.{decide, query};
 ghost use Rattle.rules.specs.Commit.{decideAt};
 ghost use Rattle.rules.specs.Geometry.{Geometry};
 ghost use Rattle.rules.specs.Editions.{Edition, geometryOf, formIn, InNumbers};
-ghost use Rattle.state_array.specs.Kin.{Kin};
+ghost use Rattle.state_array.specs.Kin.{DerivedSets};
 ghost use Rattle.leaf_commit_page.specs.Heard.{prepared};
 ghost use Rattle.leaf_commit_page.specs.Layout.{Known, Layout};
-ghost use Rattle.store_write.specs.Phase.{Leaves};
+ghost use Rattle.store_write.specs.Phase.{PageWritesDone};
 ghost use Rattle.state_whole.specs.Whole.{Arrays, arrays, Intact, Stepped, Reserves};
 use leaf_event::Answer;
 
@@ -38,7 +38,7 @@ fn decide_pages(
     ensures { λ r. ⌜ ((g : Geometry) →
         let before = pagesOf (now (store .entry)) in
         let after = pagesOf (now (store .exit)) in
-        Layout g records → readPrepared g (before 0) ≡ some (prepared map identity) → Leaves (decideAt g before commits k) after (r .made) (r .crashed)) ⌝ }
+        Layout g records → readPrepared g (before 0) ≡ some (prepared map identity) → PageWritesDone (decideAt g before commits k) after (r .made) (r .crashed)) ⌝ }
 {
     if commits {
         return store_commit::commit_decided(store, map, records, identity, k);
@@ -67,7 +67,7 @@ pub fn decide_event(
     i: u8,
 ) -> Answer
     requires { ⌜ Known records × (joint ≡ true → records ≡ 16) × (now reserved < 2 ^ records) × (length (now held) ≡ 2 * records) × (length (now retained) ≡ 2 * records)
-        × (length (now writers) ≡ records) × (length (now store) ≡ 32 * (1 + (records + records))) × Kin (now parent) (now depth) (now live) (now children) ⌝ }
+        × (length (now writers) ≡ records) × (length (now store) ≡ 32 * (1 + (records + records))) × DerivedSets (now parent) (now depth) (now live) (now children) ⌝ }
     ensures { λ a. ⌜ ((edition : Edition) (work : List ℕ) →
         let before = arrays (now (up .entry)) (now (parent .entry)) (now (depth .entry)) (now (line .entry)) (now (held .entry)) (now (retained .entry)) (now (writers .entry)) work (now (store .entry)) in
         let after = arrays (now (up .exit)) (now (parent .exit)) (now (depth .exit)) (now (line .exit)) (now (held .exit)) (now (retained .exit)) (now (writers .exit)) work (now (store .exit)) in
@@ -76,7 +76,7 @@ pub fn decide_event(
         → Reserves false (geometryOf edition) (now (store .entry)) (now (reserved .entry)) (now (identity .entry))
         → Stepped form before (some (decide commits k i)) a after
         × Reserves false (geometryOf edition) (now (store .exit)) (now (reserved .exit)) (now (identity .exit))) ⌝ }
-    ensures { λ _. ⌜ Kin (now (parent .exit)) (now (depth .exit)) (now (live .exit)) (now (children .exit)) ⌝ }
+    ensures { λ _. ⌜ DerivedSets (now (parent .exit)) (now (depth .exit)) (now (live .exit)) (now (children .exit)) ⌝ }
 {
     let map = *reserved;
     let whose = *identity;
@@ -92,7 +92,7 @@ pub fn decide_event(
     *reserved = p.map;
     *identity = p.identity;
     if m.crashed {
-        event_crash::fall(
+        event_crash::clear_state(
             up,
             parent,
             depth,

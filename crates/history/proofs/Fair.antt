@@ -21,7 +21,7 @@ use Rattle.rules.proofs.Medium.{MediumLaws}
 use Rattle.rules.proofs.Acceptance.{CommitOk, PrepareOk, begin-ok, commit-ok, prepare-ok, Judged, acts, refuses, judge?}
 use Rattle.rules.proofs.Locks.{ChildOf, rooted-of, beneath-closed, live-line, no-child, top-line, child-line}
 use Rattle.rules.proofs.Soundness.{Reached, reached-word, alone-closed}
-use Rattle.history.specs.History.{suffices, isWhole}
+use Rattle.history.specs.History.{suffices, isWholeAnswer}
 use Rattle.history.proofs.Roots.{Root, settled, lost, waiting, at, move, lose, allLost, resolve, lost≢settled, at≢settled}
 use Rattle.history.proofs.Tells.{topTurn}
 use Rattle.history.proofs.Invariant.{commitTurn, prepareTurn, decideTurn, answered, turn, changedOf}
@@ -138,7 +138,7 @@ module _ (f : Form) {s : StateOf f} (S : Sound f s) (φ : Root → Root) where
 
   -- a prepare of x
   fair-prepare : (x k i : ℕ) (ok : PrepareOk f s x) (c : Cut (f .medium .Store)) → Keeps (prepare x k i) (commitsTop f s x c)
-  unfolding commitsTop concluded endedState down isWhole isTop
+  unfolding commitsTop concluded endedState down isWholeAnswer isTop
   fair-prepare x k i ok c F = go (c .crashed) F
     where
       C : CommitOk s x

@@ -30,7 +30,7 @@ use Rattle.rules.proofs.Acceptance.{BeginOk, WriteOk, CommitOk, PrepareOk, begi
 use Rattle.rules.proofs.Locks.{rooted-of, tree-of, live-line, own-line, member-live, beneath-closed, no-child, version-live, write-apart, top-apart, child-apart, top-line, child-line}
 use Rattle.rules.proofs.Reserved.{clear-of, for-some, pending-apart, version-apart, prepare-fits}
 use Rattle.rules.proofs.Soundness.{alone-closed}
-use Rattle.history.specs.History.{Fate, stored, ended, committed, History, isWithin, changedBy, suffices, ending, allEnding, isWhole, decided, effect, effectOf, commitFate, prepareFate, after, begins, writes as writesBy, decides as decidesBy, told}
+use Rattle.history.specs.History.{Fate, stored, ended, committed, History, isWithin, changedBy, suffices, ending, allEnding, isWholeAnswer, decided, effect, effectOf, commitFate, prepareFate, after, begins, writes as writesBy, decides as decidesBy, told}
 use Rattle.history.proofs.Roots.{Root, settled, waiting, at, move, lose, allLost, resolve}
 use Rattle.history.proofs.Data.{Data, write-data, begin-data}
 use Rattle.history.proofs.Waits.{waits-begun, waits-write}
@@ -91,7 +91,7 @@ module _ (f : Form) where
   turnBy s (abort x w) a c = lose (λ j. mem x (lineOf (s .bearer) j)) c
   turnBy s crash a c = allLost c
   turnBy s (recover k) a c = c
-  turnBy s (prepare x k i) a c = prepareTurn x (isWhole a) (same (changedOf s x) 0) c
+  turnBy s (prepare x k i) a c = prepareTurn x (isWholeAnswer a) (same (changedOf s x) 0) c
   turnBy s (decide d k i) a c = decideTurn d (same (valueOf a) 0) c
   turnBy s (query i) a c = c
 
@@ -276,10 +276,10 @@ module _ (f : Form) (M : MediumLaws (f .geometry) (f .medium)) {start : ℕ → 
             clash v (count-zero (records (f .geometry)) (λ q. isSome (s .version x q)) e r (S .ranged x r v))
 
     abbrev Prepares : ℕ → OutcomeOf f → Type 0
-    Prepares k o = After f start (o .state) h (told (records (f .geometry)) h (some (prepare x k i)) (o .answer)) root (λ c. answered (o .answer) (prepareTurn x (isWhole (o .answer)) (same (changedOf f s x) 0)) c)
+    Prepares k o = After f start (o .state) h (told (records (f .geometry)) h (some (prepare x k i)) (o .answer)) root (λ c. answered (o .answer) (prepareTurn x (isWholeAnswer (o .answer)) (same (changedOf f s x) 0)) c)
 
     act-prepare : (k : ℕ) → Prepares k (commitsTop f s x (f .medium .prepare (s .store) (s .version x) i k))
-    unfolding live commitsTop concluded endedState down told effectOf effect after isWhole prepareFate allEnding ending
+    unfolding live commitsTop concluded endedState down told effectOf effect after isWholeAnswer prepareFate allEnding ending
     act-prepare k = go (c .crashed) refl (same? (changedOf f s x) 0)
       where
         c : Cut (f .medium .Store)

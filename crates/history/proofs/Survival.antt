@@ -17,7 +17,7 @@ use Rattle.rules.specs.Commit.{Cut}
 use Rattle.rules.specs.Sound.{Sound}
 use Rattle.rules.specs.Form.{Form, atomic}
 use Rattle.rules.specs.Pairs.{shown, inPairs}
-use Rattle.rules.specs.Step.{StateOf, OutcomeOf, isTop, visible, ended, concluded, refusal, commitsTop, commits, act, judged, step}
+use Rattle.rules.specs.Step.{StateOf, OutcomeOf, isTop, visible, ended, concluded, refusal, commitsTop, commits, act, outcomeBy, step}
 use Rattle.rules.specs.Run.{play}
 use Rattle.rules.proofs.Medium.{changedIn, stored, isClear, MediumLaws}
 use Rattle.rules.proofs.Acceptance.{commit-ok, commit-clear}
@@ -60,8 +60,8 @@ module _ (f : Form) (M : MediumLaws (f .geometry) (f .medium)) (commit-told : To
     c = f .medium .commit (s .store) (s .version t) k
 
     acted : step f s (some (commit t k)) ≡ commits f s t k (lineOf (s .bearer) t)
-    unfolding step judged act
-    acted = ap (judged f s (commit t k)) q
+    unfolding step outcomeBy act
+    acted = ap (outcomeBy f s (commit t k)) q
 
     stepped : step f s (some (commit t k)) .state .store ≡ c .store
     unfolding commits commitsTop

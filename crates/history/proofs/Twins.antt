@@ -24,7 +24,7 @@ use Rattle.rules.specs.Sound.{Sound, isCalm}
 use Rattle.rules.proofs.Medium.{MediumLaws, changedIn, stored as storedBy, isClear}
 use Rattle.rules.proofs.Reserved.{for-some}
 use Rattle.rules.proofs.Owners.{is-also}
-use Rattle.history.specs.History.{suffices, isWhole}
+use Rattle.history.specs.History.{suffices, isWholeAnswer}
 use Rattle.history.proofs.Roots.{Root, settled, waiting, at, move, lose, allLost, resolve, settled?}
 use Rattle.history.proofs.Data.{lift}
 use Rattle.history.proofs.Tells.{topTurn}
@@ -255,9 +255,9 @@ module _ (f : Form) (M : MediumLaws (f .geometry) (f .medium)) {s : StateOf f} {
       → ((r : ℕ) → isSome (s .version x r) ≡ true → r < records (f .geometry))
       → f .geometry .joint ≡ true → i < 256 → φ settled ≡ settled
       → let o = commitsTop f s x (f .medium .prepare (s .store) (s .version x) i k) in
-      Twin f M (λ c. φ (answered (o .answer) (prepareTurn x (isWhole (o .answer)) (same (changedOf f s x) 0)) c)) s ver d
+      Twin f M (λ c. φ (answered (o .answer) (prepareTurn x (isWholeAnswer (o .answer)) (same (changedOf f s x) 0)) c)) s ver d
       → Next f M ψ φ (some (prepare x k i)) o (commitsTop f (swap f s ver d) x (f .medium .prepare d (ver x) i k))
-  unfolding commitsTop concluded endedState down isWhole changedIn
+  unfolding commitsTop concluded endedState down isWholeAnswer changedIn
   twin-prepare ψ x k i clear calm′ clear′ ranged on short on-settled W = go (c .crashed) refl (same? (changedOf f s x) 0) W
     where
       c : Cut (f .medium .Store)
@@ -288,7 +288,7 @@ module _ (f : Form) (M : MediumLaws (f .geometry) (f .medium)) {s : StateOf f} {
           ∙ sym (M .prepare-taken (s .store) (s .version x) i k ranged on short (omega (arith, n)) e .1 r)
 
       go : (b : Bool) → c .crashed ≡ b → Same (changedOf f s x) 0 → let o = concluded (endedState s (λ j. same j x) (c .store)) c b in
-          Twin f M (λ c. φ (answered (o .answer) (prepareTurn x (isWhole (o .answer)) (same (changedOf f s x) 0)) c)) s ver d
+          Twin f M (λ c. φ (answered (o .answer) (prepareTurn x (isWholeAnswer (o .answer)) (same (changedOf f s x) 0)) c)) s ver d
           → Next f M ψ φ (some (prepare x k i)) o (concluded (endedState (swap f s ver d) (λ j. same j x) (c′ .store)) c′ (c′ .crashed))
       go true e n W =
           subst⁻¹ (λ (b : Bool). Next f M ψ φ (some (prepare x k i)) (concluded (endedState s (λ j. same j x) (c .store)) c true) (concluded (endedState (swap f s ver d) (λ j. same j x) (c′ .store)) c′ b)) (A .2 ∙ e)

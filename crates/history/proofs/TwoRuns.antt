@@ -12,7 +12,7 @@ use Rattle.rules.specs.Event.{Event, begin, lock, write, read, commit, abort, c
 use Rattle.rules.specs.State.{lineOf, Versions, live, holds, holdsWriting, down}
 use Rattle.rules.specs.Versions.{isSome}
 use Rattle.rules.specs.Form.{Form}
-use Rattle.rules.specs.Step.{Answer, done, numberOf, valueOf, isFor, isTop, StateOf, changes, busy, reserved, hasChild, firstFree, begun, locked, finished, refusals, refusal, commitsChild, commits, act, judged, step}
+use Rattle.rules.specs.Step.{Answer, done, numberOf, valueOf, isFor, isTop, StateOf, changes, busy, reserved, hasChild, firstFree, begun, locked, finished, refusals, refusal, commitsChild, commits, act, outcomeBy, step}
 use Rattle.rules.specs.Run.{play}
 use Rattle.rules.specs.Sound.{Sound}
 use Rattle.rules.proofs.Tree.{isCons}
@@ -87,19 +87,19 @@ module _ (f : Form) (M : MediumLaws (f .geometry) (f .medium)) {s : StateOf f} (
 
   twin-step : (e e′ : Option Event) → Held (f .geometry) e → let o = step f s e in Fair (lineOf (s .bearer)) (before e (o .answer)) → Twin f M (before e (o .answer)) s ver d
       → Match f (before e (o .answer)) s e e′ → Next f M (before e (o .answer)) φ e o (step f (swap f s ver d) e′)
-  unfolding step judged act finished
+  unfolding step outcomeBy act finished
   twin-step none _ g F W same-event = record { ver = ver; store = d; stands = refl; twin = W; echo = same-answer refl }
   twin-step (some e) _ g F W same-event = rw (same-refusal e (W .stores) (W .shape)) (go (refusal f s e) refl F W)
     where
-      go : (p : Option ℕ) → refusal f s e ≡ p → let o = judged f s e p in Fair (lineOf (s .bearer)) (before (some e) (o .answer)) → Twin f M (before (some e) (o .answer)) s ver d
-          → Next f M (before (some e) (o .answer)) φ (some e) o (judged f (swap f s ver d) e p)
+      go : (p : Option ℕ) → refusal f s e ≡ p → let o = outcomeBy f s e p in Fair (lineOf (s .bearer)) (before (some e) (o .answer)) → Twin f M (before (some e) (o .answer)) s ver d
+          → Next f M (before (some e) (o .answer)) φ (some e) o (outcomeBy f (swap f s ver d) e p)
       go none q F W = twin-act e g q F W
       go (some n) q F W = record { ver = ver; store = d; stands = refl; twin = W; echo = same-answer refl }
   twin-step _ _ g F W (lost-write {t} {r} {o} {v} {w} q n) = rw (same-refusal-value t r o v w) (go (refusal f s (write t r o v)) refl n F W)
     where
-      go : (p : Option ℕ) → refusal f s (write t r o v) ≡ p → let u = judged f s (write t r o v) p in before (some (write t r o v)) (u .answer) (at t) ≢ settled
+      go : (p : Option ℕ) → refusal f s (write t r o v) ≡ p → let u = outcomeBy f s (write t r o v) p in before (some (write t r o v)) (u .answer) (at t) ≢ settled
           → Fair (lineOf (s .bearer)) (before (some (write t r o v)) (u .answer)) → Twin f M (before (some (write t r o v)) (u .answer)) s ver d
-          → Next f M (before (some (write t r o v)) (u .answer)) φ (some (write t r o v)) u (judged f (swap f s ver d) (write t r o w) p)
+          → Next f M (before (some (write t r o v)) (u .answer)) φ (some (write t r o v)) u (outcomeBy f (swap f s ver d) (write t r o w) p)
       go none q n F W = twin-write f M S F W t r o v w (write-ok f s t r o v q .up) (λ e. absurd (n e))
       go (some m) q n F W = record { ver = ver; store = d; stands = refl; twin = W; echo = same-answer refl }
 

@@ -6,45 +6,42 @@ use mathlib.Core.Option.{some}
 use Rattle.laws.specs.Bytes.{sameList}
 use Rattle.rules.specs.Geometry.{nobody}
 use Rattle.rules.specs.Event.{toRead, begin, lock, write, read, commit, abort, crash, recover, prepare, decide, query}
-use Rattle.rules.specs.Step.{Answer, done, refused, cut}
+use Rattle.rules.specs.Step.{done, refused, cut}
 use Rattle.history.specs.History.{History}
 use Rattle.history.specs.Entries.{Entry, entry}
-use Rattle.history.specs.Trials.{Line, toldAll}
+use Rattle.history.specs.Trials.{AnsweredEvent, toldAll, ok}
 
 -- a row: an event with its answer; the transaction that it belongs to and the top one above, or nothing
 abbrev pub Owned : Type 0
-Owned = Line × List ℕ
+Owned = AnsweredEvent × List ℕ
 
-abbrev pub places : List Entry → List ℕ
-places [] = []
-places (x ∷ xs) = x .transaction ∷ x .top ∷ places xs
+abbrev pub entryOwners : List Entry → List ℕ
+entryOwners [] = []
+entryOwners (x ∷ xs) = x .transaction ∷ x .top ∷ entryOwners xs
 
-abbrev pub passes : History → Owned → Bool
-passes h x = sameList (places (entry 16 h (some (x .0 .0)) (x .0 .1))) (x .1)
+abbrev pub ownedPasses : History → Owned → Bool
+ownedPasses h x = sameList (entryOwners (entry 16 h (some (x .0 .0)) (x .0 .1))) (x .1)
 
 abbrev passesAll : History → List Owned → Bool
 passesAll h [] = true
-passesAll h (x ∷ xs) = passes h x && passesAll h xs
+passesAll h (x ∷ xs) = ownedPasses h x && passesAll h xs
 
 -- rows that all come after these events
-pub record Trial : Type 0 where
-  pub lines : List Line
+pub record EntryTrial : Type 0 where
+  pub lines : List AnsweredEvent
   pub owned : List Owned
 
-abbrev pub allPass : History → List Trial → Bool
-allPass start [] = true
-allPass start (t ∷ ts) = passesAll (toldAll start (t .lines)) (t .owned) && allPass start ts
-
-abbrev ok : Answer
-ok = done 0
+abbrev pub entryTrialsPass : History → List EntryTrial → Bool
+entryTrialsPass start [] = true
+entryTrialsPass start (t ∷ ts) = passesAll (toldAll start (t .lines)) (t .owned) && entryTrialsPass start ts
 
 -- 1 and 2 are top transactions, with numbers 0 and 1; 3 is a child of 1, with number 2, and 4 a child of 3, with number 3; 5 was a child of 2
-abbrev living : List Line
+abbrev living : List AnsweredEvent
 living =
     (recover 63, ok) ∷ (begin nobody, ok) ∷ (begin nobody, done 1) ∷ (begin 0, done 2) ∷ (begin 2, done 3) ∷ (begin 1, done 4) ∷ (abort 4 false, ok) ∷ []
 
-abbrev pub trials : List Trial
-trials =
+abbrev pub entryTrials : List EntryTrial
+entryTrials =
     record {
       lines = living;
       owned =
@@ -78,8 +75,8 @@ trials =
     []
 
 -- where one is prepared in the start store, which is 0
-abbrev pub startTrials : List Trial
-startTrials =
+abbrev pub entryStartTrials : List EntryTrial
+entryStartTrials =
     record {
       lines = living;
       owned = ((decide true 63 7, done 3), 0 ∷ 0 ∷ []) ∷ ((decide false 63 7, done 1), 0 ∷ 0 ∷ []) ∷ ((decide true 0 7, cut 0), []) ∷ ((read 1 5 0, done 7), 2 ∷ 2 ∷ []) ∷ [];

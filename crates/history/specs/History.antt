@@ -187,10 +187,10 @@ suffices (refused m) n = false
 suffices (cut v) n = under n v
 
 -- a prepare is whole; a decision for the prepared transaction is stored, if a page write was made: for another it is answered 0 with value 0
-unfoldable pub isWhole : Answer → Bool
-isWhole (done v) = true
-isWhole (refused m) = false
-isWhole (cut v) = false
+unfoldable pub isWholeAnswer : Answer → Bool
+isWholeAnswer (done v) = true
+isWholeAnswer (refused m) = false
+isWholeAnswer (cut v) = false
 
 unfoldable pub decided : Bool → Bool → Effect
 decided d true = nothing
@@ -206,7 +206,7 @@ effect (commit t k) a = commits t (suffices a)
 effect (abort t w) a = aborts t
 effect crash a = crashes
 effect (recover k) a = nothing
-effect (prepare t k i) a = prepares t (isWhole a)
+effect (prepare t k i) a = prepares t (isWholeAnswer a)
 effect (decide d k i) a = decided d (same (valueOf a) 0)
 effect (query i) a = nothing
 
@@ -264,5 +264,5 @@ told records h e (cut v) = allEnding (after records (effectOf e (cut v)) h)
 
 -- opens the definitions of this module: for what is proved by computing
 unfoldable pub open-history : Unit {0}
-unfolding nothingYet pageWrite pageWrites starting accepted names bearerOf belongs climbs isWithin isCommitted isStored isBearing follows standsWith survives writesTo overlaid changedBy turned ending allEnding suffices isWhole decided effect effectOf commitFate prepareFate resolved after told
+unfolding nothingYet pageWrite pageWrites starting accepted names bearerOf belongs climbs isWithin isCommitted isStored isBearing follows standsWith survives writesTo overlaid changedBy turned ending allEnding suffices isWholeAnswer decided effect effectOf commitFate prepareFate resolved after told
 open-history = tt

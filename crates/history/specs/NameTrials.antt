@@ -11,7 +11,7 @@ use Rattle.rules.specs.Editions.{geometry1}
 use Rattle.history.specs.History.{nothingYet, names, belongs, accepted}
 use Rattle.history.specs.Demand3.{answerOf}
 use Rattle.history.specs.Claims.{restarts}
-use Rattle.history.specs.Trials.{Line, toldAll}
+use Rattle.history.specs.Trials.{AnsweredEvent, toldAll}
 
 abbrev agree : Bool → Bool → Bool
 agree true b = b
@@ -38,19 +38,19 @@ nameTrials =
 
 -- Events with their answers, then an event, and the transaction that it belongs to (0 for none). Transactions are counted from 1.
 abbrev pub Belonging : Type 0
-Belonging = List Line × Event × ℕ
+Belonging = List AnsweredEvent × Event × ℕ
 
 abbrev pub allBelong : List Belonging → Bool
 allBelong [] = true
 allBelong (x ∷ xs) = eqb (belongs (toldAll nothingYet (x .0)) (x .1)) (x .2) && allBelong xs
 
 -- 1 bears number 0; 2, a child of it, bore number 1 and has committed; 3 bears number 2, and 4, another child of 1, number 1
-abbrev four : List Line
+abbrev four : List AnsweredEvent
 four =
     (recover 63, done 0) ∷ (begin 31, done 0) ∷ (begin 0, done 1) ∷ (begin 31, done 2) ∷ (commit 1 0, done 0) ∷ (begin 0, done 1) ∷ (begin 9, refused 5) ∷ []
 
 -- and after one more event
-abbrev then : Event → Answer → List Line
+abbrev then : Event → Answer → List AnsweredEvent
 then e a =
     (recover 63, done 0) ∷ (begin 31, done 0) ∷ (begin 0, done 1) ∷ (begin 31, done 2) ∷ (commit 1 0, done 0) ∷ (begin 0, done 1) ∷ (begin 9, refused 5) ∷ (e, a) ∷ []
 

@@ -3,7 +3,7 @@ use Rattle.rules.specs.Age.{Age, ahead, live, stale}
 use Rattle.leaf_age.specs.declared.Judged.{Judged}
 
 -- the case of the enum, with its age
-unfoldable pub meaning : Judged → Age
-meaning (Judged.Ahead m) = ahead (m .0)
-meaning (Judged.Live m) = live (m .0)
-meaning (Judged.Stale m) = stale (m .0)
+unfoldable pub judgedAge : Judged → Age
+judgedAge (Judged.Ahead m) = ahead (m .0)
+judgedAge (Judged.Live m) = live (m .0)
+judgedAge (Judged.Stale m) = stale (m .0)

@@ -2,7 +2,7 @@
 ghost use mathlib.Core.Path.{_≡_};
 ghost use lib.IntN.{subℕ};
 ghost use Rattle.rules.specs.Age.{judged};
-ghost use Rattle.leaf_age.specs.Meaning.{meaning};
+ghost use Rattle.leaf_age.specs.Meaning.{judgedAge};
 
 // A clock reading in minutes: the board's, or the stamp of a record.
 pub struct Reading(u32);
@@ -28,7 +28,7 @@ fn difference(clock: u32, stamp: u32) -> i64
 
 // The sign decides between ahead and the rest, the limit between live and stale.
 fn judge(age: i64, limit: u32) -> Judged
-    ensures { λ r. ⌜ meaning r ≡ judged age limit ⌝ }
+    ensures { λ r. ⌜ judgedAge r ≡ judged age limit ⌝ }
 {
     if age < 0 {
         return Judged::Ahead(Minutes(age));
@@ -67,7 +67,7 @@ impl Limit {
 impl Minutes {
     // Ahead, live or stale under a limit.
     pub fn judged_by(self, limit: Limit) -> Judged
-        ensures { λ r. ⌜ meaning r ≡ judged (self .0) (limit .0) ⌝ }
+        ensures { λ r. ⌜ judgedAge r ≡ judged (self .0) (limit .0) ⌝ }
     {
         judge(self.0, limit.0)
     }

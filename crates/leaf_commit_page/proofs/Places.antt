@@ -25,8 +25,8 @@ use Rattle.rules.specs.Editions.{geometry1, geometry2, geometryPairs, Edition, 
 use Rattle.rules.proofs.Editions.{proper1, proper2, proper-pairs}
 use Rattle.rules.proofs.CommitPage.{read-commitPage, damaged-if}
 use Rattle.rules.proofs.PreparedPage.{read-preparedPage, prepared-is, unprepared-if}
-use Rattle.leaf_commit_page.specs.Heard.{heard, overheard, prepared, understood}
-use Rattle.leaf_commit_page.specs.Layout.{Layout, Known, headOf, placeOf, behind}
+use Rattle.leaf_commit_page.specs.Heard.{commitMap, overheard, prepared, understood}
+use Rattle.leaf_commit_page.specs.Layout.{Layout, Known, headOf, countFactor, behindFirst}
 use Rattle.leaf_commit_page.specs.declared.CommitMap.{CommitMap}
 
 pos-256 : (n : ℕ) → 0 < 256 ^ n
@@ -99,8 +99,8 @@ digits h map rest m k hh hm hr =
     bytes-append (suc m) k (h * 256 ^ m + map) rest hr ∙ ap (λ (l : List ℕ). l ++ bytes k rest) (byte-first h m map hh hm)
 
 -- what the two editions' numbers keep to
-pub known-small : (n : ℕ) → Known n → (n ≤ 64) × (n * placeOf n < 256) × (headOf n + 5 < 256)
-unfolding placeOf headOf same
+pub known-small : (n : ℕ) → Known n → (n ≤ 64) × (n * countFactor n < 256) × (headOf n + 5 < 256)
+unfolding countFactor headOf same
 known-small n (inl e) = rw e (omega arith, omega arith, omega arith)
 known-small n (inr e) = rw e (omega arith, omega arith, omega arith)
 
@@ -110,15 +110,15 @@ state-small h false k = k
 
 -- the commit page, byte by byte
 unfoldable pub laidOut : ℕ → ℕ → ℕ → List ℕ
-laidOut n map o = (headOf n + cond (same map 0) 0 5) ∷ (bytes (n / 8) map ++ (o * placeOf n ∷ replicate (30 - n / 8) 0))
+laidOut n map o = (headOf n + cond (same map 0) 0 5) ∷ (bytes (n / 8) map ++ (o * countFactor n ∷ replicate (30 - n / 8) 0))
 
 pub page-bytes : (g : Geometry) (n map : ℕ) → Layout g n → Known n → map < 2 ^ n → commitPage g map ≡ laidOut n map (count (records g) (named g map))
 unfolding commitPage laidOut
 page-bytes g n map L K h =
     ap (bytes 32) whole
-    ∙ ap (λ (j : ℕ). bytes j ((hd * 256 ^ m + map) * 256 ^ suc k + on * placeOf n * 256 ^ k)) sum
-    ∙ digits hd map (on * placeOf n * 256 ^ k) m (suc k) (state-small (headOf n) (same map 0) (S .2)) fits (zeros-lt (on * placeOf n) k few)
-    ∙ ap (λ (l : List ℕ). hd ∷ (bytes m map ++ l)) (byte-zeros (on * placeOf n) k few)
+    ∙ ap (λ (j : ℕ). bytes j ((hd * 256 ^ m + map) * 256 ^ suc k + on * countFactor n * 256 ^ k)) sum
+    ∙ digits hd map (on * countFactor n * 256 ^ k) m (suc k) (state-small (headOf n) (same map 0) (S .2)) fits (zeros-lt (on * countFactor n) k few)
+    ∙ ap (λ (l : List ℕ). hd ∷ (bytes m map ++ l)) (byte-zeros (on * countFactor n) k few)
   where
     m : ℕ
     m = n / 8
@@ -132,11 +132,11 @@ page-bytes g n map L K h =
     on : ℕ
     on = count (records g) (named g map)
 
-    S : (n ≤ 64) × (n * placeOf n < 256) × (headOf n + 5 < 256)
+    S : (n ≤ 64) × (n * countFactor n < 256) × (headOf n + 5 < 256)
     S = known-small n K
 
-    few : on * placeOf n < 256
-    few = let c : on ≤ n = subst (λ (j : ℕ). on ≤ j) (L .many) (count-le (records g) (named g map)) in lt-of-le-of-lt (mul-le-mul-right (placeOf n) c) (S .1)
+    few : on * countFactor n < 256
+    few = let c : on ≤ n = subst (λ (j : ℕ). on ≤ j) (L .many) (count-le (records g) (named g map)) in lt-of-le-of-lt (mul-le-mul-right (countFactor n) c) (S .1)
 
     sum : 32 ≡ suc (n / 8) + suc (30 - n / 8)
     sum = let z = S .0 in omega arith
@@ -148,10 +148,10 @@ page-bytes g n map L K h =
     up = let z = S .0 in omega arith
 
     whole : ((g .edition * 16 + cond (same map 0) 0 5) * 2 ^ records g + map) * 2 ^ behindMap g + on * 2 ^ (behindMap g - g .onesBits)
-        ≡ (hd * 256 ^ m + map) * 256 ^ suc k + on * placeOf n * 256 ^ k
+        ≡ (hd * 256 ^ m + map) * 256 ^ suc k + on * countFactor n * 256 ^ k
     whole =
         ap₂ (λ (x y : ℕ). ((g .edition * 16 + cond (same map 0) 0 5) * x + map) * y + on * 2 ^ (behindMap g - g .onesBits)) (L .map-bytes) (L .behind-bytes ∙ ap (λ (j : ℕ). 256 ^ j) up)
-        ∙ ap₂ (λ (x y : ℕ). ((x + cond (same map 0) 0 5) * 256 ^ m + map) * 256 ^ suc k + y) (L .edition) (ap (λ (x : ℕ). on * x) (L .count-place) ∙ sym (mul-assoc on (placeOf n) (256 ^ k)))
+        ∙ ap₂ (λ (x y : ℕ). ((x + cond (same map 0) 0 5) * 256 ^ m + map) * 256 ^ suc k + y) (L .edition) (ap (λ (x : ℕ). on * x) (L .count-place) ∙ sym (mul-assoc on (countFactor n) (256 ^ k)))
 
 -- One more byte of the map, from its end: the zero before the bytes that are laid already.
 fill : (j v : ℕ) (t : List ℕ) → set (replicate (suc j) 0 ++ t) j v ≡ replicate j 0 ++ (v ∷ t)
@@ -188,7 +188,7 @@ laying-more m map i rest page h r e =
     before : m - i ≡ suc (m - (i + 1))
     before = omega arith
 
-pub laying-all : (m map i : ℕ) (page : List ℕ) → i ≡ m → Laying m map i page → page ≡ behind m (bytes m map)
+pub laying-all : (m map i : ℕ) (page : List ℕ) → i ≡ m → Laying m map i page → page ≡ behindFirst m (bytes m map)
 unfolding Laying
 laying-all m map i page q e = e ∙ ap₂ (λ (j k : ℕ). 0 ∷ (replicate j 0 ++ (bytes k map ++ replicate (31 - m) 0))) none-left q
   where
@@ -225,7 +225,7 @@ pub bound-next : (map b i : ℕ) → map < 256 ^ i → b < 256 → map * 256 + b
 bound-next map b i h k = subst (λ (j : ℕ). map * 256 + b < j) (sym (pow-suc 256 i) ∙ ap (λ (j : ℕ). 256 ^ j) (sym (add-one i))) (digits-lt {q = map} {m = 256 ^ i} {r = b} {c = 256} h k)
 
 -- a page of zeros with the map's bytes, the first byte and the count's byte
-pub page-set : (n map hd x : ℕ) → n ≤ 64 → set (set (behind (n / 8) (bytes (n / 8) map)) 0 hd) (n / 8 + 1) x ≡ hd ∷ (bytes (n / 8) map ++ (x ∷ replicate (30 - n / 8) 0))
+pub page-set : (n map hd x : ℕ) → n ≤ 64 → set (set (behindFirst (n / 8) (bytes (n / 8) map)) 0 hd) (n / 8 + 1) x ≡ hd ∷ (bytes (n / 8) map ++ (x ∷ replicate (30 - n / 8) 0))
 page-set n map hd x h =
     ap (λ (k : ℕ). set (hd ∷ (bytes (n / 8) map ++ replicate k 0)) (n / 8 + 1) x) up
     ∙ set-at (hd ∷ bytes (n / 8) map) 0 (replicate (30 - n / 8) 0) x (n / 8 + 1) (ap suc (bytes-length (n / 8) map) ∙ sym (add-one (n / 8)))
@@ -262,13 +262,13 @@ module _ (g : Geometry) (n : ℕ) (L : Layout g n) (K : Known n) where
       true≢false (sym (sameList-refl page) ∙ ap (sameList page) (q ∙ ap (commitPage g) mk) ∙ e))
 
 -- the count fits its byte
-pub count-fits : (n o x : ℕ) → Known n → o ≤ n → x ≡ placeOf n → o * x < 256
-count-fits n o x K h e = subst (λ (k : ℕ). o * k < 256) (sym e) (lt-of-le-of-lt (mul-le-mul-right (placeOf n) h) (known-small n K .1))
+pub count-fits : (n o x : ℕ) → Known n → o ≤ n → x ≡ countFactor n → o * x < 256
+count-fits n o x K h e = subst (λ (k : ℕ). o * k < 256) (sym e) (lt-of-le-of-lt (mul-le-mul-right (countFactor n) h) (known-small n K .1))
 
 -- A prepared transaction's commit page, byte by byte.
 pub prepared-bytes : (g : Geometry) (map i : ℕ) → Layout g 16 → map < 2 ^ 16 → i < 256
     → preparedPage g (prepared map i) ≡ 19 ∷ (bytes 2 map ++ (count (records g) (named g map) * 8 ∷ i ∷ replicate 27 0))
-unfolding preparedPage headOf placeOf same
+unfolding preparedPage headOf countFactor same
 prepared-bytes g map i L h hi =
     ap (bytes 32) whole
     ∙ digits 19 map (on * 8 * 256 ^ 28 + i * 256 ^ 27) 2 29 (omega arith) h (byte-lt (on * 8) 28 (i * 256 ^ 27) few (zeros-lt i 27 hi))
@@ -287,7 +287,7 @@ prepared-bytes g map i L h hi =
         ∙ ap₂ (λ (x y : ℕ). ((x + 3) * 256 ^ 2 + map) * 256 ^ 29 + (y + i * 2 ^ 216)) (L .edition) (ap (λ (x : ℕ). on * x) (L .count-place) ∙ sym (mul-assoc on 8 (256 ^ 28)))
 
 -- a page of zeros with the map's two bytes, the first byte, the count's and the identity's
-pub prepared-set : (map hd x i : ℕ) → set (set (set (behind 2 (bytes 2 map)) 0 hd) 3 x) 4 i ≡ hd ∷ (bytes 2 map ++ (x ∷ i ∷ replicate 27 0))
+pub prepared-set : (map hd x i : ℕ) → set (set (set (behindFirst 2 (bytes 2 map)) 0 hd) 3 x) 4 i ≡ hd ∷ (bytes 2 map ++ (x ∷ i ∷ replicate 27 0))
 unfolding bytes
 prepared-set map hd x i = refl
 
@@ -329,27 +329,27 @@ unprepared g page off = unprepared-if g page (λ p S q. true≢false (sym (S .on
 
 -- a page of any kind, from what is read of it in both ways
 pub understood-is : (g : Geometry) (page : List ℕ)
-    → _≡_ {A = CommitMap} (record { good = heard (readCommit g page) .good || not (same (overheard (readPrepared g page) .map) 0); map = heard (readCommit g page) .map }) (understood g page)
-unfolding understood heard overheard mapIn isDamaged isPrepared
+    → _≡_ {A = CommitMap} (record { good = commitMap (readCommit g page) .good || not (same (overheard (readPrepared g page) .map) 0); map = commitMap (readCommit g page) .map }) (understood g page)
+unfolding understood commitMap overheard mapIn isDamaged isPrepared
 understood-is g page = go (readCommit g page) (readPrepared g page) refl
   where
     go : (o : Option ℕ) (q : Option Prepared) → readPrepared g page ≡ q
-        → _≡_ {A = CommitMap} (record { good = heard o .good || not (same (overheard q .map) 0); map = heard o .map }) (record { good = not (isDamaged o && not (isPrepared q)); map = mapIn o })
+        → _≡_ {A = CommitMap} (record { good = commitMap o .good || not (same (overheard q .map) 0); map = commitMap o .map }) (record { good = not (isDamaged o && not (isPrepared q)); map = mapIn o })
     go (some m) q e = refl
     go none none e = λ i. record { good = ap not (same-refl 0) i; map = 0 }
     go none (some p) e = λ i. record { good = ap not (ne-false (p .map) 0 (prepared-is g page p e .1 .some-record)) i; map = 0 }
 
 -- THE LAYOUTS of the editions that there are.
 pub layout1 : Layout geometry1 16
-unfolding records behindMap headOf placeOf same
+unfolding records behindMap headOf countFactor same
 layout1 = record { proper = proper1; many = refl; edition = refl; map-bytes = refl; behind-bytes = refl; count-place = refl }
 
 pub layout2 : Layout geometry2 64
-unfolding records behindMap headOf placeOf same
+unfolding records behindMap headOf countFactor same
 layout2 = record { proper = proper2; many = refl; edition = refl; map-bytes = refl; behind-bytes = refl; count-place = refl }
 
 pub layout-pairs : Layout geometryPairs 16
-unfolding records behindMap headOf placeOf same
+unfolding records behindMap headOf countFactor same
 layout-pairs = record { proper = proper-pairs; many = refl; edition = refl; map-bytes = refl; behind-bytes = refl; count-place = refl }
 
 pub laid : (k : Edition) → Layout (geometryOf k) (records (geometryOf k))

@@ -8,9 +8,9 @@ use Rattle.rules.specs.Geometry.{Geometry}
 use Rattle.leaf_commit_page.specs.declared.CommitMap.{CommitMap}
 use Rattle.leaf_commit_page.specs.declared.PreparedMap.{PreparedMap}
 
-unfoldable pub heard : Option ℕ → CommitMap
-heard none = record { good = false; map = 0 }
-heard (some map) = record { good = true; map = map }
+unfoldable pub commitMap : Option ℕ → CommitMap
+commitMap none = record { good = false; map = 0 }
+commitMap (some map) = record { good = true; map = map }
 
 abbrev pub prepared : ℕ → ℕ → Prepared
 prepared map identity = record { map = map; identity = identity }

@@ -18,12 +18,12 @@ unfoldable pub headOf : ℕ → ℕ
 headOf n = cond (same n 64) 32 16
 
 -- the place of the count's last bit in its byte, as a factor
-unfoldable pub placeOf : ℕ → ℕ
-placeOf n = cond (same n 64) 2 8
+unfoldable pub countFactor : ℕ → ℕ
+countFactor n = cond (same n 64) 2 8
 
 -- m bytes behind the first, and zeros elsewhere
-abbrev pub behind : ℕ → List ℕ → List ℕ
-behind m bs = 0 ∷ (bs ++ replicate (31 - m) 0)
+abbrev pub behindFirst : ℕ → List ℕ → List ℕ
+behindFirst m bs = 0 ∷ (bs ++ replicate (31 - m) 0)
 
 -- g has n records, and its commit page falls into whole bytes: the first, n / 8 of the map, and those behind the map, the first of which has the count
 -- at its place
@@ -33,4 +33,4 @@ pub record Layout (g : Geometry) (n : ℕ) : Type 0 where
   pub edition : g .edition * 16 ≡ headOf n
   pub map-bytes : 2 ^ records g ≡ 256 ^ (n / 8)
   pub behind-bytes : 2 ^ behindMap g ≡ 256 ^ (31 - n / 8)
-  pub count-place : 2 ^ (behindMap g - g .onesBits) ≡ placeOf n * 256 ^ (30 - n / 8)
+  pub count-place : 2 ^ (behindMap g - g .onesBits) ≡ countFactor n * 256 ^ (30 - n / 8)

@@ -13,8 +13,8 @@ ghost use Rattle.laws.specs.Bytes.{sameList, number, bytes};
 ghost use Rattle.rules.specs.Geometry.{Geometry, records};
 ghost use Rattle.rules.specs.Store.{commitPage, readCommit, preparedPage, readPrepared, named, mapOf};
 ghost use Rattle.leaf_set.specs.Sets.{sets};
-ghost use Rattle.leaf_commit_page.specs.Heard.{heard, overheard, prepared, understood};
-ghost use Rattle.leaf_commit_page.specs.Layout.{Layout, headOf, placeOf, behind, Known};
+ghost use Rattle.leaf_commit_page.specs.Heard.{commitMap, overheard, prepared, understood};
+ghost use Rattle.leaf_commit_page.specs.Layout.{Layout, headOf, countFactor, behindFirst, Known};
 
 // What a page says as a commit page. A damaged page has map 0.
 pub struct CommitMap {
@@ -78,7 +78,7 @@ pub fn commit_page(map: u64, n: usize) -> [u8; 32]
 // What a page says as a commit page of n records: its map, or that it is damaged.
 pub fn read_commit(page: [u8; 32], n: usize) -> CommitMap
     requires { ⌜ Known n ⌝ }
-    ensures { λ r. ⌜ ((g : Geometry) → Layout g n → r ≡ heard (readCommit g page)) × (r .map < 2 ^ n) ⌝ }
+    ensures { λ r. ⌜ ((g : Geometry) → Layout g n → r ≡ commitMap (readCommit g page)) × (r .map < 2 ^ n) ⌝ }
 {
     let map = map_in(page, n / 8);
     if same_page(page, commit_page(map, n)) {
@@ -159,7 +159,7 @@ pub fn read_page(page: [u8; 32], n: usize, joint: bool) -> CommitMap
 // A page of zeros, but for the m bytes behind the first: they are the map's, the most significant first.
 fn lay_map(map: u64, m: usize) -> [u8; 32]
     requires { ⌜ m ≤ 8 ⌝ }
-    ensures { λ r. ⌜ r ≡ behind m (bytes m map) ⌝ }
+    ensures { λ r. ⌜ r ≡ behindFirst m (bytes m map) ⌝ }
 {
     let mut page = [0u8; 32];
     let mut rest = map;
@@ -211,7 +211,7 @@ fn edition_of(n: usize) -> u8
 
 // The count's place in its byte, as a factor: the count has the byte's first five bits in edition 1, and its first seven in edition 2.
 fn place(n: usize) -> u8
-    ensures { λ r. ⌜ (r ≡ placeOf n) × (r ≤ 8) ⌝ }
+    ensures { λ r. ⌜ (r ≡ countFactor n) × (r ≤ 8) ⌝ }
 {
     if n == 64 { 2 } else { 8 }
 }

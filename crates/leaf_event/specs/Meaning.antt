@@ -55,7 +55,7 @@ pub record InWord (g : Geometry) (e : Event) : Type 0 where
   pub still : 8 < e .kind → g .tears ≡ false
 
 -- fields that a word can hold
-pub record Fits (e : Event) : Type 0 where
+pub record FieldsFit (e : Event) : Type 0 where
   pub kind : e .kind < 16
   pub transaction : e .transaction < 32
   pub rec : e .rec < 16

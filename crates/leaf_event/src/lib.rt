@@ -6,7 +6,7 @@ ghost use Rattle.laws.specs.Bytes.{number};
 ghost use Rattle.rules.specs.Event.{decode, word};
 ghost use Rattle.rules.specs.Editions.{geometry1};
 ghost use Rattle.leaf_event.specs.Flags.{flags};
-ghost use Rattle.leaf_event.specs.Meaning.{meaning, apart, InRange, Fits};
+ghost use Rattle.leaf_event.specs.Meaning.{meaning, apart, InRange, FieldsFit};
 
 pub mod edition2;
 pub mod pairs;
@@ -169,7 +169,7 @@ impl Event {
 
     // The word of an event whose fields fit.
     pub fn to_word(e: Event) -> u32
-        requires { ⌜ Fits e ⌝ }
+        requires { ⌜ FieldsFit e ⌝ }
         ensures { λ r. ⌜ r ≡ word geometry1 (e .kind) (e .transaction) (e .rec) (e .offset) (e .count) (e .value) ⌝ }
     {
         let kind = e.kind as u32;

@@ -13,7 +13,7 @@ ghost use Rattle.open_lent.specs.Portions.{kept, Portioned-as};
 ghost use Rattle.open_lent.specs.PageWrites.{Told-as};
 ghost use Rattle.audit_rules.specs.Audit.{audit1};
 ghost use Rattle.audit_verdict.specs.Codes.{numberIn, placeIn};
-ghost use Rattle.depot_message.specs.Codes.{left};
+ghost use Rattle.depot_message.specs.Codes.{depotLeft};
 ghost use Rattle.depot_message.specs.Votes.{voteOn};
 ghost use Rattle.wait_report.specs.Reported.{Reported};
 ghost use Rattle.sheet_text.specs.Made.{Made};
@@ -157,7 +157,7 @@ pub extern "C" fn nekahuiro_page_write(
 // next state and the reply (0 prepare, 1 commit, 2 abort); or 27 and nothing is written, also where there is no such state or message.
 #[no_mangle]
 pub extern "C" fn nekahuiro_depot(state: &mut u8, message: u8, reply: &mut u8) -> u8
-    ensures { λ r. let turn = left (now (state .entry)) message (now (reply .entry)) in ⌜ (r ≡ turn .answer) × (now (state .exit) ≡ turn .state) × (now (reply .exit) ≡ turn .reply) ⌝ }
+    ensures { λ r. let turn = depotLeft (now (state .entry)) message (now (reply .entry)) in ⌜ (r ≡ turn .answer) × (now (state .exit) ≡ turn .state) × (now (reply .exit) ≡ turn .reply) ⌝ }
 {
     depot_message::depot(state, message, reply)
 }

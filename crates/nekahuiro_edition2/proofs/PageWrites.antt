@@ -18,9 +18,9 @@ use Rattle.rules.specs.Editions.{geometry2, edition2}
 use Rattle.leaf_commit_page.proofs.Places.{layout2}
 use Rattle.leaf_event.proofs.Words.{bytes2}
 use Rattle.claim_device.specs.Asked.{Asked, saidOf, askLengths}
-use Rattle.claim_device.specs.After.{orElse, after, refusedAfter, askedAfterBy, askedAfter, Told-after}
+use Rattle.claim_device.specs.After.{orElse, stateAfterBytes, refusedAfter, askedAfterBy, askedAfter, Told-after}
 use Rattle.state_whole.specs.Whole.{Arrays, view}
-use Rattle.state_whole.specs.Portion.{played, Portion}
+use Rattle.state_whole.specs.Portion.{played, PortionPlayed}
 use Rattle.store_length.specs.Lengths.{lengthsRefused, questionRefused, refusalNumber}
 use Rattle.store_length.proofs.Lengths.{by-lengths, lengths-of, question-of}
 use Rattle.open_run.proofs.Running.{from-start}
@@ -80,15 +80,15 @@ module _ (store events work answers event : List ℕ) (index : ℕ) (write : Lis
       passes = ap (λ (o : Option ℕ). orElse o asks) runs-none ∙ asks-by ∙ question-of false 64 8 _ _ _ _ asked .none-is
 
       -- answered: from the start x the list led to y, and of the event on y this is said
-      pub list-asked : (x y : Arrays) (answers′ : List ℕ) → view edition2 x ≡ down (pagesOf store) → Portion edition2 x events answers y answers′ → length (y .work) ≡ length work
+      pub list-asked : (x y : Arrays) (answers′ : List ℕ) → view edition2 x ≡ down (pagesOf store) → PortionPlayed edition2 x events answers y answers′ → length (y .work) ≡ length work
           → (o : Option Event) → decode geometry2 (number event) ≡ o → (answer : ℕ) (write′ : List ℕ)
           → (let said = saidOf false geometry2 (view edition2 y) o index write in (answer ≡ said .answer) × (write′ ≡ said .write))
           → Told-after geometry2 store events work answers event index write answer (y .store) (y .work) answers′ write′
-      unfolding askedAfter askedAfterBy refusedAfter after played
+      unfolding askedAfter askedAfterBy refusedAfter stateAfterBytes played
       list-asked x y answers′ begun P l o means answer write′ W =
           let left = from-start edition2 store events answers x y answers′ begun P in
-          let there : view edition2 y ≡ after geometry2 store events = P .state ∙ ap (λ (s : StateOf edition2). played-from s) begun in
-          let say : saidOf false geometry2 (view edition2 y) o index write ≡ saidOf false geometry2 (after geometry2 store events) (decode geometry2 (number event)) index write =
+          let there : view edition2 y ≡ stateAfterBytes geometry2 store events = P .state ∙ ap (λ (s : StateOf edition2). played-from s) begun in
+          let say : saidOf false geometry2 (view edition2 y) o index write ≡ saidOf false geometry2 (stateAfterBytes geometry2 store events) (decode geometry2 (number event)) index write =
           (λ i. saidOf false geometry2 (there i) (sym means i) index write) in
           record {
             answered = W .0 ∙ ap (λ (a : Asked). a .answer) say ∙ sym (ap (λ (o : Option ℕ). askedAfterBy geometry2 store events answers event index write o .answer) passes);

@@ -12,7 +12,7 @@ use Rattle.rules.specs.Geometry.{Geometry, records}
 use Rattle.rules.specs.Form.{Form}
 use Rattle.rules.specs.Event.{Event, decode}
 use Rattle.rules.specs.Step.{firstOf}
-use Rattle.rules.specs.Portion.{Finds}
+use Rattle.rules.specs.Portion.{VerdictRight}
 use Rattle.rules.specs.Sound.{Sound}
 use Rattle.rules.specs.Editions.{Edition, geometryOf, formIn}
 use Rattle.rules.proofs.Portions.{finds-one}
@@ -20,13 +20,13 @@ use Rattle.claim_device.specs.Asked.{Asked, writeSize, saidOf, askLengths, askR
 use Rattle.event_crash.proofs.Editions.{served-of}
 use Rattle.state_whole.specs.Whole as state
 use Rattle.state_whole.specs.Whole.{Arrays, Intact}
-use Rattle.engine_portion.specs.Portion.{whole}
+use Rattle.engine_portion.specs.Portion.{arraysOf}
 use Rattle.sound_clause.specs.Decides.{Decides}
 use Rattle.engine_list.proofs.Words.{four-of}
 use Rattle.store_length.specs.Lengths.{writeBytes, questionRefused, refusalNumber}
 use Rattle.store_length.proofs.Lengths.{question-of}
 use Rattle.store_length.proofs.Sizes.{store-size, work-size}
-use Rattle.open_lent.specs.Portions.{Kept, view, Proper}
+use Rattle.open_lent.specs.Portions.{LentState, stateIn, Encoded}
 use Rattle.open_lent.specs.PageWrites.{Told-as, Told-one}
 
 -- refusals, then one more
@@ -47,26 +47,26 @@ pub write-size : (tears : Bool) → writeSize tears ≡ writeBytes tears
 write-size false = refl
 write-size true = refl
 
-module _ (tears : Bool) (g : Geometry) (x : Kept) (event write : List ℕ) (index : ℕ) where
+module _ (tears : Bool) (g : Geometry) (x : LentState) (event write : List ℕ) (index : ℕ) where
   abbrev f : Form
   f = formIn tears g
 
   abbrev Found : Bool → Type 0
-  Found sound = Finds f (λ s. (view f x ≡ s) × Proper f x) sound
+  Found sound = VerdictRight f (λ s. (stateIn f x ≡ s) × Encoded f x) sound
 
   abbrev lengths : List (ℕ × Bool)
   lengths = askLengths tears g (x .store) event (x .work) write
 
   -- what is asked depends on what is found of the state only where the lengths pass
   same-said : (s t : Bool) → (firstOf lengths ≡ none → Found s) → (firstOf lengths ≡ none → Found t)
-      → asked tears g s (view f x) (x .store) event (x .work) index write ≡ asked tears g t (view f x) (x .store) event (x .work) index write
+      → asked tears g s (stateIn f x) (x .store) event (x .work) index write ≡ asked tears g t (stateIn f x) (x .store) event (x .work) index write
   unfolding asked askRefusals
   same-said s t F G = go (firstOf lengths) refl
     where
       go : (o : Option ℕ) → firstOf lengths ≡ o
-          → askedBy tears g (view f x) event index write (firstOf (lengths ++ ((25, not s) ∷ []))) ≡ askedBy tears g (view f x) event index write (firstOf (lengths ++ ((25, not t) ∷ [])))
-      go (some n) q = ap (askedBy tears g (view f x) event index write) (first-more lengths 25 (not s) n q ∙ sym (first-more lengths 25 (not t) n q))
-      go none q = ap (λ (b : Bool). askedBy tears g (view f x) event index write (firstOf (lengths ++ ((25, not b) ∷ [])))) (finds-one f (λ s. (view f x ≡ s) × Proper f x) s t (F q) (G q))
+          → askedBy tears g (stateIn f x) event index write (firstOf (lengths ++ ((25, not s) ∷ []))) ≡ askedBy tears g (stateIn f x) event index write (firstOf (lengths ++ ((25, not t) ∷ [])))
+      go (some n) q = ap (askedBy tears g (stateIn f x) event index write) (first-more lengths 25 (not s) n q ∙ sym (first-more lengths 25 (not t) n q))
+      go none q = ap (λ (b : Bool). askedBy tears g (stateIn f x) event index write (firstOf (lengths ++ ((25, not b) ∷ [])))) (finds-one f (λ s. (stateIn f x ≡ s) × Encoded f x) s t (F q) (G q))
 
   refused-with : (n : ℕ) (sound : Bool) → (firstOf lengths ≡ none → Found sound) → firstOf (askRefusals tears g sound (x .store) event (x .work) write) ≡ some n → Told-as tears g x event write index n write
   unfolding asked askedBy
@@ -74,13 +74,13 @@ module _ (tears : Bool) (g : Geometry) (x : Kept) (event write : List ℕ) (inde
     sound,
     record {
       found = F;
-      answered = sym (ap (λ (o : Option ℕ). askedBy tears g (view f x) event index write o .answer) q);
-      written = sym (ap (λ (o : Option ℕ). askedBy tears g (view f x) event index write o .write) q);
+      answered = sym (ap (λ (o : Option ℕ). askedBy tears g (stateIn f x) event index write o .answer) q);
+      written = sym (ap (λ (o : Option ℕ). askedBy tears g (stateIn f x) event index write o .write) q);
     },
   )
 
 -- of an edition with sixteen records
-module _ (tears : Bool) (edition : Edition) (many : records (geometryOf edition) ≡ 16) (x : Kept) (event write : List ℕ) (index : ℕ) where
+module _ (tears : Bool) (edition : Edition) (many : records (geometryOf edition) ≡ 16) (x : LentState) (event write : List ℕ) (index : ℕ) where
   abbrev form : Form
   form = formIn tears (geometryOf edition)
 
@@ -108,13 +108,13 @@ module _ (tears : Bool) (edition : Edition) (many : records (geometryOf edition)
       go (some m) q z = refused-with tears (geometryOf edition) x event write index n false (λ p. let k : some m ≡ none = sym q ∙ p in let c : true ≡ false = cc in absurd (true≢false c))
           (first-more asks 25 true m q ∙ ap some (sym z))
 
-  module _ (fits : refusalNumber refusal ≡ 0) (b : Bool) (D : Decides b (Intact form (whole (x .engine) (x .work) (x .store)) × (x .engine .spare ≡ replicate 3 0))) where
+  module _ (fits : refusalNumber refusal ≡ 0) (b : Bool) (D : Decides b (Intact form (arraysOf (x .engine) (x .work) (x .store)) × (x .engine .spare ≡ replicate 3 0))) where
     passes : firstOf asks ≡ none
     passes = by-lengths ∙ question-of tears 16 4 _ _ _ _ fits .none-is
 
     -- as no sound state
     pub state-refused : b ≡ false → Told-as tears (geometryOf edition) x event write index 25 write
-    unfolding view askRefusals
+    unfolding stateIn askRefusals
     state-refused e = refused-with tears (geometryOf edition) x event write index 25 false
         (λ p. record {
           only-sound = λ t. absurd (true≢false (sym t));
@@ -124,18 +124,18 @@ module _ (tears : Bool) (edition : Edition) (many : records (geometryOf edition)
 
     -- answered
     pub question-answered : b ≡ true → (o : Option Event) → decode (geometryOf edition) (number event) ≡ o → (answer : ℕ) (write′ : List ℕ)
-        → (let said = saidOf tears (geometryOf edition) (state.view form (whole (x .engine) (x .work) (x .store))) o index write in (answer ≡ said .answer) × (write′ ≡ said .write))
+        → (let said = saidOf tears (geometryOf edition) (state.view form (arraysOf (x .engine) (x .work) (x .store))) o index write in (answer ≡ said .answer) × (write′ ≡ said .write))
         → Told-as tears (geometryOf edition) x event write index answer write′
-    unfolding view asked askedBy askRefusals
+    unfolding stateIn asked askedBy askRefusals
     question-answered e o means answer write′ W =
         let I = D .yes e in
         let taken : firstOf (askRefusals tears (geometryOf edition) true (x .store) event (x .work) write) ≡ none = first-last asks 25 false passes in
-        let say : saidOf tears (geometryOf edition) (state.view form (whole (x .engine) (x .work) (x .store))) o index write ≡ asked tears (geometryOf edition) true (view form x) (x .store) event (x .work) index write =
-        ap (λ (o : Option Event). saidOf tears (geometryOf edition) (state.view form (whole (x .engine) (x .work) (x .store))) o index write) (sym means)
-        ∙ sym (ap (askedBy tears (geometryOf edition) (view form x) event index write) taken) in (
+        let say : saidOf tears (geometryOf edition) (state.view form (arraysOf (x .engine) (x .work) (x .store))) o index write ≡ asked tears (geometryOf edition) true (stateIn form x) (x .store) event (x .work) index write =
+        ap (λ (o : Option Event). saidOf tears (geometryOf edition) (state.view form (arraysOf (x .engine) (x .work) (x .store))) o index write) (sym means)
+        ∙ sym (ap (askedBy tears (geometryOf edition) (stateIn form x) event index write) taken) in (
           true,
           record {
-            found = λ q. record { only-sound = λ t. (view form x, (refl, record { form = I .0 .form; bare = I .1 }), I .0 .sound); every-sound = λ s c S. refl };
+            found = λ q. record { only-sound = λ t. (stateIn form x, (refl, record { form = I .0 .form; bare = I .1 }), I .0 .sound); every-sound = λ s c S. refl };
             answered = W .0 ∙ ap (λ (a : Asked). a .answer) say;
             written = W .1 ∙ ap (λ (a : Asked). a .write) say;
           },

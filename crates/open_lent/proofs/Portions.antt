@@ -12,7 +12,7 @@ use Rattle.laws.specs.Tests.{same}
 use Rattle.rules.specs.Step.{firstOf}
 use Rattle.rules.specs.Run.{runRefusals}
 use Rattle.rules.specs.Sound.{Sound}
-use Rattle.rules.specs.Portion.{Finds, Portion, portionAll, portion, wordsIn}
+use Rattle.rules.specs.Portion.{VerdictRight, Portion, portionAll, portion, wordsIn}
 use Rattle.rules.specs.Geometry.{records}
 use Rattle.rules.specs.Form.{Form}
 use Rattle.rules.specs.Editions.{Edition, first, paired, geometryOf, formIn, InNumbers}
@@ -22,13 +22,13 @@ use Rattle.state_whole.specs.Whole as state
 use Rattle.state_whole.specs.Whole.{Intact}
 use Rattle.state_whole.specs.Portion as portions
 use Rattle.state_whole.specs.Portion.{played}
-use Rattle.engine_portion.specs.Portion.{whole}
+use Rattle.engine_portion.specs.Portion.{arraysOf}
 use Rattle.engine_portion.specs.declared.Engine.{Engine}
 use Rattle.engine_list.proofs.Words.{four-of}
 use Rattle.sound_clause.specs.Decides.{Decides}
 use Rattle.sound_clause.proofs.Decides.{decides-as, decides-and, decides-same}
 use Rattle.store_length.specs.Lengths.{lengthsRefused, refusalNumber}
-use Rattle.open_lent.specs.Portions.{Kept, kept, view, Proper, Portioned-as}
+use Rattle.open_lent.specs.Portions.{LentState, kept, stateIn, Encoded, Portioned-as}
 use Rattle.open_lent.specs.declared.Portioned.{Portioned}
 use Rattle.store_length.proofs.Lengths.{by-lengths, lengths-of}
 
@@ -63,25 +63,25 @@ refused-as f e work store events answers r n q P =
     (subst⁻¹ (λ (d : Engine). Portioned-as f (kept e work store) events answers n (kept d work store) answers) (q .0) P)
 
 -- of an edition with sixteen records
-module _ (tears : Bool) (edition : Edition) (many : records (geometryOf edition) ≡ 16) (x : Kept) (events answers : List ℕ) where
+module _ (tears : Bool) (edition : Edition) (many : records (geometryOf edition) ≡ 16) (x : LentState) (events answers : List ℕ) where
   abbrev f : Form
   f = formIn tears (geometryOf edition)
 
   abbrev by : Bool → Portion f
-  by sound = portion f sound (view f x) (x .store) events (x .work) answers
+  by sound = portion f sound (stateIn f x) (x .store) events (x .work) answers
 
   abbrev Passes : Type 0
   Passes = firstOf (runRefusals f (x .store) events (x .work) answers) ≡ none
 
   abbrev Found : Bool → Type 0
-  Found sound = Finds f (λ s. (view f x ≡ s) × Proper f x) sound
+  Found sound = VerdictRight f (λ s. (stateIn f x ≡ s) × Encoded f x) sound
 
   -- refused: all is as it was
   as-it-was : (n : ℕ) (sound : Bool) → (Passes → Found sound) → n ≡ by sound .answer → n ≢ 0 → Portioned-as f x events answers n x answers
   unfolding portionAll
-  as-it-was n sound F e h = go (case? f sound (view f x) (x .store) events (x .work) answers)
+  as-it-was n sound F e h = go (case? f sound (stateIn f x) (x .store) events (x .work) answers)
     where
-      go : Case f sound (view f x) (x .store) events (x .work) answers → Portioned-as f x events answers n x answers
+      go : Case f sound (stateIn f x) (x .store) events (x .work) answers → Portioned-as f x events answers n x answers
       go (plays q p) = absurd (h (e ∙ ap (λ (y : Portion f). y .answer) p))
       go (refuses m q z p) = (
         sound,
@@ -105,35 +105,35 @@ module _ (tears : Bool) (edition : Edition) (many : records (geometryOf edition)
       go : (o : Option ℕ) → firstOf (runRefusals f (x .store) events (x .work) answers) ≡ o → n ≡ refusalNumber o → Portioned-as f x events answers n x answers
       go none q z = absurd (h z)
       go (some m) q z = as-it-was n false (λ p. let k : some m ≡ none = sym q ∙ p in let c : true ≡ false = cc in absurd (true≢false c))
-          (z ∙ sym (lengths-first f false (view f x) (x .store) events (x .work) answers m q)) h
+          (z ∙ sym (lengths-first f false (stateIn f x) (x .store) events (x .work) answers m q)) h
 
   module _ (fits : refusalNumber (lengthsRefused tears 16 4 (length (x .store)) (length events) (length (x .work)) (length answers)) ≡ 0) where
     passes : Passes
     passes = by-lengths tears 16 4 (geometryOf edition) many (four-of edition many) (served-of edition .deep) (x .store) events (x .work) answers ∙ lengths-of tears 16 4 _ _ _ _ fits .none-is
 
     -- as no sound state
-    pub state-refused : (b : Bool) → Decides b (Intact f (whole (x .engine) (x .work) (x .store)) × (x .engine .spare ≡ replicate 3 0)) → b ≡ false
+    pub state-refused : (b : Bool) → Decides b (Intact f (arraysOf (x .engine) (x .work) (x .store)) × (x .engine .spare ≡ replicate 3 0)) → b ≡ false
         → Portioned-as f x events answers 25 x answers
-    unfolding view
+    unfolding stateIn
     state-refused b D e = as-it-was 25 false
         (λ p. record {
           only-sound = λ t. absurd (true≢false (sym t));
           every-sound = λ s c S. absurd (D .no e (record { sound = subst⁻¹ (Sound f) (c .0) S; served = record { few = served-of edition .few; deep = served-of edition .deep }; form = c .1 .form }, c .1 .bare));
         })
-        (sym (unsound-refused f (view f x) (x .store) events (x .work) answers passes)) (λ z. omega arith)
+        (sym (unsound-refused f (stateIn f x) (x .store) events (x .work) answers passes)) (λ z. omega arith)
 
     -- played
-    pub state-played : (b : Bool) → Decides b (Intact f (whole (x .engine) (x .work) (x .store)) × (x .engine .spare ≡ replicate 3 0)) → b ≡ true
-        → (y : Kept) (answers′ : List ℕ) → portions.Portion f (whole (x .engine) (x .work) (x .store)) events answers (whole (y .engine) (y .work) (y .store)) answers′
+    pub state-played : (b : Bool) → Decides b (Intact f (arraysOf (x .engine) (x .work) (x .store)) × (x .engine .spare ≡ replicate 3 0)) → b ≡ true
+        → (y : LentState) (answers′ : List ℕ) → portions.PortionPlayed f (arraysOf (x .engine) (x .work) (x .store)) events answers (arraysOf (y .engine) (y .work) (y .store)) answers′
         → y .engine .spare ≡ x .engine .spare → Portioned-as f x events answers 0 y answers′
-    unfolding view portionAll wordsIn played
+    unfolding stateIn portionAll wordsIn played
     state-played b D e y answers′ P s =
         let I = D .yes e in
-        let p = sound-played f (view f x) (x .store) events (x .work) answers passes in
-        let proper : Proper f x = record { form = I .0 .form; bare = I .1 } in (
+        let p = sound-played f (stateIn f x) (x .store) events (x .work) answers passes in
+        let proper : Encoded f x = record { form = I .0 .form; bare = I .1 } in (
           true,
           record {
-            found = λ q. record { only-sound = λ t. (view f x, (refl, proper), I .0 .sound); every-sound = λ s c S. refl };
+            found = λ q. record { only-sound = λ t. (stateIn f x, (refl, proper), I .0 .sound); every-sound = λ s c S. refl };
             answered = sym (ap (λ (y : Portion f). y .answer) p);
             state = P .state ∙ sym (ap (λ (y : Portion f). y .state) p);
             stored = P .store ∙ sym (ap (λ (y : Portion f). y .store) p);

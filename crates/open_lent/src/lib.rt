@@ -10,7 +10,7 @@ ghost use Rattle.rules.specs.Event.{decode};
 ghost use Rattle.rules.specs.Editions.{Edition, geometryOf, formIn, InNumbers, editionOf, workBytes};
 ghost use Rattle.leaf_event.specs.Meaning.{meaning, InWord};
 ghost use Rattle.state_whole.specs.Whole.{Intact};
-ghost use Rattle.engine_portion.specs.Portion.{whole};
+ghost use Rattle.engine_portion.specs.Portion.{arraysOf};
 ghost use Rattle.sound_clause.specs.Decides.{Decides};
 ghost use Rattle.open_run.specs.Running.{Ran};
 ghost use Rattle.wait_report.specs.Reported.{Sound-aside, Reported-copied};
@@ -51,7 +51,7 @@ fn is_bare(spare: [u8; 3]) -> bool
 fn is_state(e: Engine, store: &[u8], joint: bool, tears: bool) -> bool
     requires { ⌜ length (now store) ≡ storeBytes tears 16 ⌝ }
     ensures { λ r. ⌜ ((edition : Edition) (work : List ℕ) → InNumbers edition 16 joint tears → length work ≡ workBytes
-        → Decides r (Intact (formIn tears (geometryOf edition)) (whole e work (now (store .entry))) × (e .spare ≡ replicate 3 0))) ⌝ }
+        → Decides r (Intact (formIn tears (geometryOf edition)) (arraysOf e work (now (store .entry))) × (e .spare ≡ replicate 3 0))) ⌝ }
 {
     let parent = e.parent;
     let depth = e.depth;

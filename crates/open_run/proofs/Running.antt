@@ -15,7 +15,7 @@ use Rattle.rules.specs.Editions.{depths, formIn}
 use Rattle.history.specs.Demand3.{Demand-3, Demand-3-holds, Plays}
 use Rattle.claim_serial.specs.OneAtATime.{One-run-at-a-time, One-run-at-a-time-holds}
 use Rattle.state_whole.specs.Whole.{Arrays, view}
-use Rattle.state_whole.specs.Portion.{played, Portion}
+use Rattle.state_whole.specs.Portion.{played, PortionPlayed}
 use Rattle.store_length.specs.Lengths.{lengthsRefused, refusalNumber}
 use Rattle.store_length.proofs.Lengths.{by-lengths, lengths-of}
 use Rattle.open_run.specs.Running.{Ran}
@@ -57,7 +57,7 @@ module _ (tears : Bool) (n s : ℕ) (g : Geometry) (many : records g ≡ n) (wid
 
 -- a portion from the start is the whole run
 pub from-start : (f : Form) (store events answers : List ℕ) (x y : Arrays) (answers′ : List ℕ) → view f x ≡ down (f .medium .fromBytes store)
-    → Portion f x events answers y answers′ → (y .store ≡ runAll f store events answers .store) × (answers′ ≡ runAll f store events answers .answers)
+    → PortionPlayed f x events answers y answers′ → (y .store ≡ runAll f store events answers .store) × (answers′ ≡ runAll f store events answers .answers)
 unfolding runAll played
 from-start f store events answers x y answers′ v P = (
   P .store ∙ ap (λ (s : StateOf f). f .medium .toBytes (play f s (words (f .geometry) (eventsIn f events) events) .state .store)) v,

@@ -18,7 +18,7 @@ use Rattle.rules.specs.State.{depthIn, lineOf, State, live, holds, holds
 use Rattle.rules.specs.Locks.{grantable}
 use Rattle.rules.specs.Commit.{Cut}
 use Rattle.rules.specs.Form.{Form}
-use Rattle.rules.specs.Step.{done, refused, firstOf, hasChild, firstFree, isFor, isTop, StateOf, OutcomeOf, changes, busy, reserved, refusals, refusal, ended, raised, concluded, finished, visible, commitsTop, commitsChild, commits, recovers, decides, act, judged, step}
+use Rattle.rules.specs.Step.{done, refused, firstOf, hasChild, firstFree, isFor, isTop, StateOf, OutcomeOf, changes, busy, reserved, refusals, refusal, ended, raised, concluded, finished, visible, commitsTop, commitsChild, commits, recovers, decides, act, outcomeBy, step}
 use Rattle.rules.proofs.Grades.{writeMode, graded-lock}
 use Rattle.rules.proofs.Joint.{for-another}
 
@@ -247,12 +247,12 @@ module _ (f : Form) (s : StateOf f) where
     refuses : (n : ℕ) → refusal f s e ≡ some n → step f s (some e) ≡ record { state = s; answer = refused n } → Judged e
 
   pub judge? : (e : Event) → Judged e
-  unfolding step judged
+  unfolding step outcomeBy
   judge? e = go (refusal f s e) refl
     where
       go : (o : Option ℕ) → refusal f s e ≡ o → Judged e
-      go none q = acts q (ap (judged f s e) q)
-      go (some n) q = refuses n q (ap (judged f s e) q)
+      go none q = acts q (ap (outcomeBy f s e) q)
+      go (some n) q = refuses n q (ap (outcomeBy f s e) q)
 
   -- an answer that is not a refusal comes of acting
   pub accepted-acts : (e : Event) → ((n : ℕ) → step f s (some e) .answer ≢ refused n) → (refusal f s e ≡ none) × (step f s (some e) ≡ act f s e)
@@ -264,11 +264,11 @@ module _ (f : Form) (s : StateOf f) where
 
   -- a refusal changes nothing
   pub refused-keeps : (e : Option Event) (n : ℕ) → step f s e .answer ≡ refused n → step f s e .state ≡ s
-  unfolding step judged
+  unfolding step outcomeBy
   refused-keeps none n q = refl
   refused-keeps (some e) n q = go (refusal f s e) q
     where
-      go : (o : Option ℕ) → judged f s e o .answer ≡ refused n → judged f s e o .state ≡ s
+      go : (o : Option ℕ) → outcomeBy f s e o .answer ≡ refused n → outcomeBy f s e o .state ≡ s
       go none q = absurd (act-answer e n q)
       go (some m) q = refl
 
@@ -288,11 +288,11 @@ module _ (f : Form) (s : StateOf f) where
 
   -- the number of a refusal
   pub refused-number : (e : Option Event) (n : ℕ) → step f s e .answer ≡ refused n → (1 ≤ n) × (n ≤ 27) × (n ≢ 11)
-  unfolding step judged refusal
+  unfolding step outcomeBy refusal
   refused-number none n q = let k : 1 ≡ n = cc in (omega arith, omega arith, λ e. omega arith)
   refused-number (some e) n q = said (go (firstOf (refusals f s e)) refl q)
     where
-      go : (o : Option ℕ) → firstOf (refusals f s e) ≡ o → judged f s e o .answer ≡ refused n → numbers n ≡ true
+      go : (o : Option ℕ) → firstOf (refusals f s e) ≡ o → outcomeBy f s e o .answer ≡ refused n → numbers n ≡ true
       go none h q = absurd (act-answer e n q)
       go (some m) h q = let k : m ≡ n = cc in rw (← k) (first-number (refusals f s e) m (tabled e) h)
 

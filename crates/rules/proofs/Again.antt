@@ -15,7 +15,7 @@ use Rattle.rules.specs.State.{Mode, nothing, reading, writing, isLock, i
 use Rattle.rules.specs.Locks.{modeFor, bars, holdersAllow, retainersAllow, grantable, granted}
 use Rattle.rules.specs.Versions.{isSome}
 use Rattle.rules.specs.Form.{Form}
-use Rattle.rules.specs.Step.{done, firstOf, hasChild, StateOf, reserved, locked, finished, refusals, refusal, act, judged, step}
+use Rattle.rules.specs.Step.{done, firstOf, hasChild, StateOf, reserved, locked, finished, refusals, refusal, act, outcomeBy, step}
 use Rattle.rules.specs.Sound.{Sound}
 use Rattle.rules.proofs.Grades.{allows, allowing, graded-lock}
 use Rattle.rules.proofs.Locks.{owned-of}
@@ -80,7 +80,7 @@ module _ {f : Form} {s : StateOf f} (S : Sound f s) (t r : ℕ) (a : Access) (he
   not-refused childless = rw (unreserved, alive, childless, grants-again, up)
 
   pub locks-again : hasChild s t ≡ false → step f s (some (lock t r a)) ≡ finished s 0
-  unfolding step judged act finished locked
+  unfolding step outcomeBy act finished locked
   locks-again childless =
-      ap (judged f s (lock t r a)) (not-refused childless)
+      ap (outcomeBy f s (lock t r a)) (not-refused childless)
       ∙ λ i. record { state = record { up = s .up; bearer = s .bearer; held = granted-again i; retained = s .retained; version = s .version; store = s .store }; answer = done 0 }

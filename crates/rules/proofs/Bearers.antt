@@ -10,7 +10,7 @@ use Rattle.laws.specs.Tests.{same}
 use Rattle.laws.specs.Functions.{updated}
 use Rattle.laws.proofs.Tests.{same?, Same, is, isnt, same-eq, same-refl, ne-false, Is, is?, yes′, no′}
 use Rattle.laws.proofs.Booleans.{or-cases}
-use Rattle.rules.specs.State.{Bearer, Bearers, free, active, isActive, parentIn, depthIn, chain, lineOf, mem, open-state}
+use Rattle.rules.specs.State.{Bearer, Bearers, free, active, isActive, parentIn, depthIn, lineFrom, lineOf, mem, open-state}
 use Rattle.rules.proofs.Tree.{Good, Lines, Tree, isCons, own}
 
 -- what makes the bearers a tree
@@ -29,7 +29,7 @@ module _ {limit nobody : ℕ} {b : Bearers} (S : Rooted limit nobody b) where
       go free q h = absurd (omega arith)
       go (active p d) q h = let k : d ≡ suc (depthIn (b p)) = S .level t p d q in omega arith
 
-  chain-good : (n t : ℕ) → depthIn (b t) ≡ n → Good (lineOf b) (chain b n t)
+  chain-good : (n t : ℕ) → depthIn (b t) ≡ n → Good (lineOf b) (lineFrom b n t)
   unfolding open-state updated
   chain-good zero t e = tt
   chain-good (suc n) t e = (rw e, chain-good n (parentIn (b t)) (up-one t n e))
@@ -38,7 +38,7 @@ module _ {limit nobody : ℕ} {b : Bearers} (S : Rooted limit nobody b) where
   unfolding open-state updated
   active-line t = go (b t) refl
     where
-      go : (c : Bearer) → b t ≡ c → isActive c ≡ isCons (chain b (depthIn c) t)
+      go : (c : Bearer) → b t ≡ c → isActive c ≡ isCons (lineFrom b (depthIn c) t)
       go free q = refl
       go (active p d) q = rw (S .level t p d q)
 
@@ -50,7 +50,7 @@ module _ {limit nobody : ℕ} {b : Bearers} (S : Rooted limit nobody b) where
     small = λ j e. go j (b j) refl (sym (active-line j)) e;
   }
     where
-      head : (n j a : ℕ) (l : List ℕ) → chain b n j ≡ a ∷ l → a ≡ j
+      head : (n j a : ℕ) (l : List ℕ) → lineFrom b n j ≡ a ∷ l → a ≡ j
       head zero j a l e = cc
       head (suc n) j a l e = cc
 
@@ -59,7 +59,7 @@ module _ {limit nobody : ℕ} {b : Bearers} (S : Rooted limit nobody b) where
       go j (active p d) q h e = S .bounded j p d q
 
   -- the parent of a child, and a transaction with a live descendant has a live child
-  pub child-of : (n z x : ℕ) → depthIn (b z) ≡ n → mem x (chain b n z) ≡ true → z ≢ x → (u : ℕ) × (isActive (b u) ≡ true) × (parentIn (b u) ≡ x)
+  pub child-of : (n z x : ℕ) → depthIn (b z) ≡ n → mem x (lineFrom b n z) ≡ true → z ≢ x → (u : ℕ) × (isActive (b u) ≡ true) × (parentIn (b u) ≡ x)
   unfolding open-state updated
   child-of zero z x e h k = absurd (false≢true h)
   child-of (suc n) z x e h k = go (same? (parentIn (b z)) x) (rw (ne-false x z (λ q. k (sym q))) at h) (λ m. child-of n (parentIn (b z)) x (up-one z n e) m)
@@ -68,14 +68,14 @@ module _ {limit nobody : ℕ} {b : Bearers} (S : Rooted limit nobody b) where
       live free q = absurd (omega arith)
       live (active p d) q = refl
 
-      go : Same (parentIn (b z)) x → mem x (chain b n (parentIn (b z))) ≡ true
-          → (mem x (chain b n (parentIn (b z))) ≡ true → parentIn (b z) ≢ x → (u : ℕ) × (isActive (b u) ≡ true) × (parentIn (b u) ≡ x))
+      go : Same (parentIn (b z)) x → mem x (lineFrom b n (parentIn (b z))) ≡ true
+          → (mem x (lineFrom b n (parentIn (b z))) ≡ true → parentIn (b z) ≢ x → (u : ℕ) × (isActive (b u) ≡ true) × (parentIn (b u) ≡ x))
           → (u : ℕ) × (isActive (b u) ≡ true) × (parentIn (b u) ≡ x)
       go (is q s _) m ih = (z, live (b z) e, q)
       go (isnt q s _) m ih = ih m q
 
 -- a line is as long as its transaction is deep
-chain-length : (b : Bearers) (n t : ℕ) → length (chain b n t) ≡ n
+chain-length : (b : Bearers) (n t : ℕ) → length (lineFrom b n t) ≡ n
 unfolding open-state
 chain-length b zero t = refl
 chain-length b (suc n) t = ap suc (chain-length b n (parentIn (b t)))
@@ -85,7 +85,7 @@ unfolding open-state
 line-length b t = chain-length b (depthIn (b t)) t
 
 -- two states that agree on a line
-pub chain-same : (b c : Bearers) (n t : ℕ) → ((a : ℕ) → mem a (chain b n t) ≡ true → c a ≡ b a) → chain c n t ≡ chain b n t
+pub chain-same : (b c : Bearers) (n t : ℕ) → ((a : ℕ) → mem a (lineFrom b n t) ≡ true → c a ≡ b a) → lineFrom c n t ≡ lineFrom b n t
 unfolding open-state updated
 chain-same b c zero t h = refl
 chain-same b c (suc n) t h =
@@ -111,7 +111,7 @@ module _ {limit nobody : ℕ} {b : Bearers} (S : Rooted limit nobody b) where
   unfolding open-state updated
   line-of-member z a e = active-line S a ∙ good-live (lineOf b) (lineOf b z) a (chain-good S (depthIn (b z)) z refl) e
 
-  begun-same : (t p z : ℕ) → isActive (b t) ≡ false → chain (begunIn b t p) (depthIn (b z)) z ≡ lineOf b z
+  begun-same : (t p z : ℕ) → isActive (b t) ≡ false → lineFrom (begunIn b t p) (depthIn (b z)) z ≡ lineOf b z
   unfolding open-state updated
   begun-same t p z f = chain-same b (begunIn b t p) (depthIn (b z)) z (λ a e. go a (line-of-member z a e) (same? a t))
     where

@@ -12,7 +12,7 @@ use Rattle.rules.specs.Event.{Event, Access, lock, commit, prepare, deci
 use Rattle.rules.specs.State.{lineOf, live}
 use Rattle.rules.specs.Locks.{grantable}
 use Rattle.rules.specs.Form.{Form}
-use Rattle.rules.specs.Step.{done, firstOf, hasChild, isFor, isTop, StateOf, changes, busy, reserved, refusals, refusal, finished, decides, act, judged, step}
+use Rattle.rules.specs.Step.{done, firstOf, hasChild, isFor, isTop, StateOf, changes, busy, reserved, refusals, refusal, finished, decides, act, outcomeBy, step}
 use Rattle.rules.proofs.Waiting.{Refused, refuse}
 
 -- a test that refuses; one that does not, before one that does
@@ -110,8 +110,8 @@ module _ (f : Form) (s : StateOf f) where
 
   module _ (up : s .up ≡ true) where
     unrefused : (e : Event) → refusal f s e ≡ none → step f s (some e) ≡ act f s e
-    unfolding step judged
-    unrefused e q = ap (judged f s e) q
+    unfolding step outcomeBy
+    unrefused e q = ap (outcomeBy f s e) q
 
     -- so is a decision on another identity, whatever it is and whatever its count
     pub decide-another : (d : Bool) (k i : ℕ) → f .medium .prepared (s .store) ≢ some i → step f s (some (decide d k i)) ≡ record { state = s; answer = done 0 }

@@ -17,7 +17,7 @@ use Rattle.rules.specs.State.{mem, down}
 use Rattle.rules.specs.Form.{Form}
 use Rattle.rules.specs.Step.{Answer, numberOf, valueOf, StateOf, firstOf, step}
 use Rattle.rules.specs.Run.{Played, words, answerBytes, play, eventsIn, runRefusals, runAll, runBy, run}
-use Rattle.rules.specs.Portion.{Lent, Finds, wordsIn, Portion, portionRefusals, portionAll, portionBy, portion, added, addedAnswers, next, chain, chainFrom, Takes}
+use Rattle.rules.specs.Portion.{Lent, VerdictRight, wordsIn, Portion, portionRefusals, portionAll, portionBy, portion, added, addedAnswers, next, chain, chainFrom, Takes}
 use Rattle.rules.proofs.Medium.{MediumLaws}
 use Rattle.rules.proofs.Soundness.{Reached, reached-start, reached-play}
 
@@ -85,7 +85,7 @@ bytes-append (x ∷ xs) ys = ap (λ (l : List ℕ). numberOf x ∷ valueOf x ∷
 
 module _ (f : Form) where
   -- two findings that are right are the same
-  pub finds-one : (content : StateOf f → Type 0) (a b : Bool) → Finds f content a → Finds f content b → a ≡ b
+  pub finds-one : (content : StateOf f → Type 0) (a b : Bool) → VerdictRight f content a → VerdictRight f content b → a ≡ b
   finds-one content true b A B = let k = A .only-sound refl in sym (B .every-sound (k .0) (k .1) (k .2))
   finds-one content false true A B = let k = B .only-sound refl in A .every-sound (k .0) (k .1) (k .2)
   finds-one content false false A B = refl

@@ -8,7 +8,7 @@ use Prim.Native.Nat.{ℕ}
 use Rattle.rules.specs.Event.{Access, Event, lock, write, read, abort}
 use Rattle.rules.specs.State.{live}
 use Rattle.rules.specs.Form.{Form}
-use Rattle.rules.specs.Step.{refused, firstOf, hasChild, StateOf, refusals, refusal, act, judged, step}
+use Rattle.rules.specs.Step.{refused, firstOf, hasChild, StateOf, refusals, refusal, act, outcomeBy, step}
 
 module _ (f : Form) (s : StateOf f) where
   -- the event is refused with a number, and nothing changes
@@ -16,8 +16,8 @@ module _ (f : Form) (s : StateOf f) where
   Refused e n = step f s (some e) ≡ record { state = s; answer = refused n }
 
   pub refuse : (e : Event) (n : ℕ) → refusal f s e ≡ some n → Refused e n
-  unfolding step judged
-  refuse e n q = ap (judged f s e) q
+  unfolding step outcomeBy
+  refuse e n q = ap (outcomeBy f s e) q
 
 module _ (f : Form) (s : StateOf f) (t : ℕ) (up : s .up ≡ true) (alive : live s t ≡ true) where
   -- the tests of all three begin alike, whatever comes after 14
@@ -43,5 +43,5 @@ module _ (f : Form) (s : StateOf f) (t : ℕ) (up : s .up ≡ true) (alive : liv
 
   -- with a live child or without
   pub abort-open : (w : Bool) → step f s (some (abort t w)) ≡ act f s (abort t w)
-  unfolding step judged
-  abort-open w = ap (judged f s (abort t w)) (passes w)
+  unfolding step outcomeBy
+  abort-open w = ap (outcomeBy f s (abort t w)) (passes w)

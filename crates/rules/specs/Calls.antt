@@ -11,7 +11,7 @@ use Rattle.laws.specs.Tests.{same}
 use Rattle.rules.specs.Form.{Form}
 use Rattle.rules.specs.Step.{StateOf, firstOf}
 use Rattle.rules.specs.Run.{eventsIn, runRefusals}
-use Rattle.rules.specs.Portion.{Lent, Finds, Portion, portion, wordsIn}
+use Rattle.rules.specs.Portion.{Lent, VerdictRight, Portion, portion, wordsIn}
 
 -- X is what the caller keeps between two calls: what is lent as a state, the working buffer and the store. A call: the buffers lent, its answer,
 -- what it left of X and of the answer buffer.
@@ -49,8 +49,8 @@ module _ (f : Form) {X : Type 0} where
   module _ (view : X → StateOf f) (bytes : X → List ℕ) (proper : X → Type 0) where
     -- what a call on x promises: where no length is refused x is found sound or not; the portion's answer, state, store and answers; a refused call
     -- changes nothing
-    pub record Keeps (x : X) (sound : Bool) (p : Portion f) (c : Call X) : Type 0 where
-      pub found : firstOf (runRefusals f (bytes x) (c .lent .events) (c .lent .work) (c .lent .answers)) ≡ none → Finds f (λ s. (view x ≡ s) × proper x) sound
+    pub record CallPromise (x : X) (sound : Bool) (p : Portion f) (c : Call X) : Type 0 where
+      pub found : firstOf (runRefusals f (bytes x) (c .lent .events) (c .lent .work) (c .lent .answers)) ≡ none → VerdictRight f (λ s. (view x ≡ s) × proper x) sound
       pub answered : c .answer ≡ p .answer
       pub state : view (c .after) ≡ p .state
       pub stored : bytes (c .after) ≡ p .store
@@ -59,7 +59,7 @@ module _ (f : Form) {X : Type 0} where
       pub untouched : c .answer ≢ 0 → c .after ≡ x
 
     abbrev pub Promised : X → Call X → Type 0
-    Promised x c = (sound : Bool) × Keeps x sound (portion f sound (view x) (bytes x) (c .lent .events) (c .lent .work) (c .lent .answers)) c
+    Promised x c = (sound : Bool) × CallPromise x sound (portion f sound (view x) (bytes x) (c .lent .events) (c .lent .work) (c .lent .answers)) c
 
     -- each call on what the last one left
     abbrev pub AllPromised : X → List (Call X) → Type 0

@@ -54,7 +54,7 @@ module _ (f : Form) where
 
   -- The caller lends bytes that may or may not encode a state. `sound` is the verdict on them, and it is right both ways: true only if they encode a sound
   -- state, and true whenever they do.
-  pub record Finds (content : StateOf f → Type 0) (sound : Bool) : Type 0 where
+  pub record VerdictRight (content : StateOf f → Type 0) (sound : Bool) : Type 0 where
     pub only-sound : sound ≡ true → (s : StateOf f) × content s × Sound f s
     pub every-sound : (s : StateOf f) → content s → Sound f s → sound ≡ true
 

@@ -27,13 +27,13 @@ depthIn free = 0
 depthIn (active p d) = d
 
 -- t and the parents above it, n in all
-unfoldable pub chain : Bearers → ℕ → ℕ → List ℕ
-chain b zero t = []
-chain b (suc n) t = t ∷ chain b n (parentIn (b t))
+unfoldable pub lineFrom : Bearers → ℕ → ℕ → List ℕ
+lineFrom b zero t = []
+lineFrom b (suc n) t = t ∷ lineFrom b n (parentIn (b t))
 
 -- The line of a transaction: itself and its ancestors, nearest first; [] where the number is free. (An ancestor is never oneself.)
 unfoldable pub lineOf : Bearers → ℕ → List ℕ
-lineOf b t = chain b (depthIn (b t)) t
+lineOf b t = lineFrom b (depthIn (b t)) t
 
 unfoldable pub mem : ℕ → List ℕ → Bool
 mem a [] = false
@@ -113,5 +113,5 @@ module _ {S : Type 0} where
 
 -- opens the definitions of this module: for what is proved by computing
 unfoldable pub open-state : Unit {0}
-unfolding isActive parentIn depthIn chain lineOf mem isLock isWriting stronger live holds retains holdsWriting retainsWriting down
+unfolding isActive parentIn depthIn lineFrom lineOf mem isLock isWriting stronger live holds retains holdsWriting retainsWriting down
 open-state = tt

@@ -201,16 +201,16 @@ module _ (f : Form) where
   act s (decide d k i) = decides s d k (isFor i (f .medium .prepared (s .store)))
   act s (query i) = finished s (cond (isFor i (f .medium .prepared (s .store))) 1 0)
 
-  unfoldable pub judged : StateOf → Event → Option ℕ → OutcomeOf
-  judged s e none = act s e
-  judged s e (some n) = record { state = s; answer = refused n }
+  unfoldable pub outcomeBy : StateOf → Event → Option ℕ → OutcomeOf
+  outcomeBy s e none = act s e
+  outcomeBy s e (some n) = record { state = s; answer = refused n }
 
   -- one event, or a bad one
   unfoldable pub step : StateOf → Option Event → OutcomeOf
   step s none = record { state = s; answer = refused 1 }
-  step s (some e) = judged s e (refusal s e)
+  step s (some e) = outcomeBy s e (refusal s e)
 
 -- opens the definitions of this module: for what is proved by computing
 unfoldable pub open-step : Unit {0}
-unfolding numberOf valueOf firstOf isBusy isFor isTop hasChild firstFree begun locked wrote ended passed retaining aborted raised concluded finished visible changes busy reserved refusals refusal commitsTop commitsChild commits recovers decides act judged step
+unfolding numberOf valueOf firstOf isBusy isFor isTop hasChild firstFree begun locked wrote ended passed retaining aborted raised concluded finished visible changes busy reserved refusals refusal commitsTop commitsChild commits recovers decides act outcomeBy step
 open-step = tt

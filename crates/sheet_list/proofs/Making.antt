@@ -8,7 +8,7 @@ use native.Mathlib.Omega.{arith}
 use lib.ListN.{length, take, drop, take-append-drop}
 use lib.Seq.{take-take}
 use Rattle.rules.specs.Event.{Event}
-use Rattle.sheet_text.specs.Sheet.{Sheet, events, wordsOf, listOf, Taken, Follows, Fault}
+use Rattle.sheet_text.specs.Sheet.{Sheet, events, eventBytes, sheetList, Taken, Follows, Fault}
 use Rattle.sheet_text.specs.Emit.{emits}
 use Rattle.sheet_reader.specs.Reads.{Whole, Checks}
 use Rattle.sheet_text.specs.Made.{over, Made, listed}
@@ -30,15 +30,15 @@ whole-ends s n w = taken-ends s (w .sheet) (w .taken)
 pub whole-most : (s : List ℕ) (n : ℕ) → Whole s n → n ≤ 4096
 whole-most s n w = omega (arith, w .long, w .taken .good .short)
 
-list-filled : (s l l′ : List ℕ) (k : Sheet) → l′ ≡ over (wordsOf (emits s (length s) .events)) l → Taken s k → l′ ≡ over (listOf k) l
-unfolding listOf
-list-filled s l l′ k e t = e ∙ ap (λ (x : List Event). over (wordsOf x) l) (taken-events s k t)
+list-filled : (s l l′ : List ℕ) (k : Sheet) → l′ ≡ over (eventBytes (emits s (length s) .events)) l → Taken s k → l′ ≡ over (sheetList k) l
+unfolding sheetList
+list-filled s l l′ k e t = e ∙ ap (λ (x : List Event). over (eventBytes x) l) (taken-events s k t)
 
-list-length : (h : Sheet) → length (listOf h) ≡ 4 * length (events h)
-unfolding listOf
+list-length : (h : Sheet) → length (sheetList h) ≡ 4 * length (events h)
+unfolding sheetList
 list-length h = words-length (events h)
 
-pub made-list : (s l l′ : List ℕ) (t n : ℕ) → 16384 ≤ length l → Whole s n → l′ ≡ over (wordsOf (emits s (length s) .events)) l → Made s l t 0 l′ (4 * n)
+pub made-list : (s l l′ : List ℕ) (t n : ℕ) → 16384 ≤ length l → Whole s n → l′ ≡ over (eventBytes (emits s (length s) .events)) l → Made s l t 0 l′ (4 * n)
 made-list s l l′ t n h w e = listed h (w .sheet) (w .taken) refl (λ k g. (list-filled s l l′ k e g, ap (λ (x : ℕ). 4 * x) (sym (w .long)) ∙ sym (list-length (w .sheet)) ∙ ap length (one-list s (w .sheet) k (w .taken) g)))
 
 -- What follows a text follows its beginnings.

@@ -7,7 +7,7 @@ ghost use lib.Seq.{sets};
 ghost use Rattle.laws.specs.Bytes.{bytes};
 ghost use Rattle.rules.specs.Event.{word};
 ghost use Rattle.rules.specs.Editions.{geometry1};
-ghost use Rattle.sheet_text.specs.Sheet.{wordsOf};
+ghost use Rattle.sheet_text.specs.Sheet.{eventBytes};
 ghost use Rattle.sheet_text.specs.Made.{over, Made};
 ghost use Rattle.sheet_text.specs.Emit.{value, pairOf, offsetOf, emits};
 ghost use Rattle.sheet_text.specs.Places.{Ends, Place, Turns};
@@ -146,7 +146,7 @@ fn next_turn(s: &[u8], at: usize, levels: u8) -> Turn
 // The list of a sheet, over the beginning of what was there.
 fn fill(s: &[u8], list: &mut [u8])
     requires { ⌜ Ends (now s) × (16384 ≤ length (now list)) ⌝ }
-    ensures { λ _. ⌜ now (list .exit) ≡ over (wordsOf (emits (now (s .entry)) (length (now (s .entry))) .events)) (now (list .entry)) ⌝ }
+    ensures { λ _. ⌜ now (list .exit) ≡ over (eventBytes (emits (now (s .entry)) (length (now (s .entry))) .events)) (now (list .entry)) ⌝ }
 {
     put_word(list, 0, event_word(1, 31, 0, 0, 0, 0));
     let mut i = 1;

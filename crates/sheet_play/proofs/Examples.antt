@@ -19,7 +19,7 @@ use Rattle.rules.specs.Step.{Answer, done, refused, StateOf, open-step}
 use Rattle.rules.specs.Run.{play, open-run}
 use Rattle.rules.specs.Portion.{wordsIn, open-portion}
 use Rattle.rules.specs.Editions.{edition1}
-use Rattle.sheet_text.specs.Sheet.{Sheet, none, locking, writing, reading, inner, listOf, open-sheet}
+use Rattle.sheet_text.specs.Sheet.{Sheet, none, locking, writing, reading, inner, sheetList, open-sheet}
 
 -- a fresh store whose commit page begins so, recovered
 abbrev recovered : List ℕ → StateOf edition1
@@ -28,7 +28,7 @@ recovered head =
     play edition1 (down (edition1 .medium .fromBytes (head ++ drop (length head) fresh))) (0x80003F00 ∷ []) .state
 
 abbrev answersTo : List ℕ → Sheet → List Answer
-answersTo head h = play edition1 (recovered head) (wordsIn edition1 (listOf h)) .answers
+answersTo head h = play edition1 (recovered head) (wordsIn edition1 (sheetList h)) .answers
 
 -- {{L3W302A5}{L3!L3R302}: the first inner transaction gets 1 and leaves what it wrote; the second gets 1 again
 nested-answers :

@@ -34,7 +34,7 @@ use Rattle.rules.proofs.AtomicCommits.{commit-crashed}
 use Rattle.rules.proofs.Portions.{sound-played}
 use Rattle.rules.proofs.CutLists.{fits-passes}
 use Rattle.sheet_text.specs.Sheet as sheet
-use Rattle.sheet_text.specs.Sheet.{Steps, locking, writing, reading, inner, Sheet, proper, depthOf, ending, eventsOf, events, wordsOf, listOf, Good}
+use Rattle.sheet_text.specs.Sheet.{Steps, locking, writing, reading, inner, Sheet, proper, stepsDepth, endEvent, stepEvents, events, eventBytes, sheetList, Good}
 use Rattle.sheet_play.specs.Plays.{InStep, AllInStep, InStep-throughout}
 use Rattle.sheet_text.proofs.Texts.{greater-left, greater-right}
 use Rattle.sheet_text.proofs.Turning.{words-length}
@@ -61,8 +61,8 @@ read-coded : (t r o : ℕ) → t < 32 → r < 16 → o < 32 → Coded (read t r 
 unfolding open-event open-geometry
 read-coded t r o h k l = let a = lt-under t 32 h in let b = lt-under r 16 k in let c = lt-under o 32 l in record { fit = λ i. a i && b i && c i; low = omega arith }
 
-end-coded : (t : ℕ) (c : Bool) → t < 32 → Coded (ending t c)
-unfolding open-event ending
+end-coded : (t : ℕ) (c : Bool) → t < 32 → Coded (endEvent t c)
+unfolding open-event endEvent
 end-coded t true h = let a = lt-under t 32 h in let b = lt-under 63 64 (omega arith) in record { fit = λ i. a i && b i; low = omega arith }
 end-coded t false h = record { fit = lt-under t 32 h; low = omega arith }
 
@@ -87,46 +87,46 @@ coded-one : (e : Event) → Coded e → AllCoded (e ∷ [])
 unfolding AllCoded
 coded-one e a = (a, tt)
 
-steps-coded : (t : Steps) (d : ℕ) → proper t ≡ true → d + depthOf t ≤ 15 → AllCoded (eventsOf d t)
-unfolding eventsOf depthOf proper
+steps-coded : (t : Steps) (d : ℕ) → proper t ≡ true → d + stepsDepth t ≤ 15 → AllCoded (stepEvents d t)
+unfolding stepEvents stepsDepth proper
 steps-coded sheet.none d p h = none-coded
-steps-coded (locking t r) d p h = coded-append (eventsOf d t) _ (steps-coded t d (and-left (proper t) _ p) h) (coded-one _ (lock-coded d r (omega arith) (under-lt r 16 (and-right (proper t) _ p))))
+steps-coded (locking t r) d p h = coded-append (stepEvents d t) _ (steps-coded t d (and-left (proper t) _ p) h) (coded-one _ (lock-coded d r (omega arith) (under-lt r 16 (and-right (proper t) _ p))))
 steps-coded (writing t r o v) d p h =
     let g = and-right (proper t) _ p in
-    coded-append (eventsOf d t) _ (steps-coded t d (and-left (proper t) _ p) h)
+    coded-append (stepEvents d t) _ (steps-coded t d (and-left (proper t) _ p) h)
     (coded-one _ (write-coded d r o v (omega arith) (under-lt r 16 (and-left (under r 16) _ g)) (under-lt o 32 (and-left (under o 32) _ (and-right (under r 16) _ g))) (under-lt v 256 (and-right (under o 32) _ (and-right (under r 16) _ g)))))
 steps-coded (reading t r o) d p h =
     let g = and-right (proper t) _ p in
-    coded-append (eventsOf d t) _ (steps-coded t d (and-left (proper t) _ p) h) (coded-one _ (read-coded d r o (omega arith) (under-lt r 16 (and-left (under r 16) _ g)) (under-lt o 32 (and-right (under r 16) _ g))))
+    coded-append (stepEvents d t) _ (steps-coded t d (and-left (proper t) _ p) h) (coded-one _ (read-coded d r o (omega arith) (under-lt r 16 (and-left (under r 16) _ g)) (under-lt o 32 (and-right (under r 16) _ g))))
 steps-coded (inner t i c) d p h =
-    let a = greater-left (depthOf t) (suc (depthOf i)) (15 - d) (omega arith) in
-    let b = greater-right (depthOf t) (suc (depthOf i)) (15 - d) (omega arith) in
+    let a = greater-left (stepsDepth t) (suc (stepsDepth i)) (15 - d) (omega arith) in
+    let b = greater-right (stepsDepth t) (suc (stepsDepth i)) (15 - d) (omega arith) in
     let k : d ≤ 15 = omega (arith, h) in
-    coded-append (eventsOf d t) _ (steps-coded t d (and-left (proper t) _ p) (omega (arith, a, k)))
-    (coded-cons (begin d) _ (begin-coded d (omega (arith, k))) (coded-append (eventsOf (suc d) i) _ (steps-coded i (suc d) (and-right (proper t) _ p) (omega (arith, b, k))) (coded-one _ (end-coded (suc d) c (omega (arith, k))))))
+    coded-append (stepEvents d t) _ (steps-coded t d (and-left (proper t) _ p) (omega (arith, a, k)))
+    (coded-cons (begin d) _ (begin-coded d (omega (arith, k))) (coded-append (stepEvents (suc d) i) _ (steps-coded i (suc d) (and-right (proper t) _ p) (omega (arith, b, k))) (coded-one _ (end-coded (suc d) c (omega (arith, k))))))
 
 sheet-coded : (h : Sheet) → Good h → AllCoded (events h)
 unfolding events
-sheet-coded h g = coded-cons (begin nobody) _ (begin-coded nobody (omega arith)) (coded-append (eventsOf 0 (h .steps)) _ (steps-coded (h .steps) 0 (g .fits) (omega (arith, g .shallow))) (coded-one _ (end-coded 0 (h .commits) (omega arith))))
+sheet-coded h g = coded-cons (begin nobody) _ (begin-coded nobody (omega arith)) (coded-append (stepEvents 0 (h .steps)) _ (steps-coded (h .steps) 0 (g .fits) (omega (arith, g .shallow))) (coded-one _ (end-coded 0 (h .commits) (omega arith))))
 
 -- the words of a list of events
 unfoldable codes : List Event → List ℕ
 codes [] = []
 codes (e ∷ es) = encode geometry1 e ∷ codes es
 
-words-codes : (es : List Event) → AllCoded es → words geometry1 (length es) (wordsOf es) ≡ codes es
-unfolding AllCoded codes wordsOf words wordSize
+words-codes : (es : List Event) → AllCoded es → words geometry1 (length es) (eventBytes es) ≡ codes es
+unfolding AllCoded codes eventBytes words wordSize
 words-codes [] a = refl
 words-codes (e ∷ es) a =
     let n = bytes-length 4 (encode geometry1 e) in
-    ap₂ (λ (x y : List ℕ). number x ∷ words geometry1 (length es) y) (take-at (bytes 4 (encode geometry1 e)) (wordsOf es) 4 n) (drop-at (bytes 4 (encode geometry1 e)) (wordsOf es) 4 n)
+    ap₂ (λ (x y : List ℕ). number x ∷ words geometry1 (length es) y) (take-at (bytes 4 (encode geometry1 e)) (eventBytes es) 4 n) (drop-at (bytes 4 (encode geometry1 e)) (eventBytes es) 4 n)
     ∙ ap₂ (λ (x : ℕ) (y : List ℕ). x ∷ y) (number-bytes 4 (encode geometry1 e) (a .0 .low)) (words-codes es (a .1))
 
-list-words : (h : Sheet) → Good h → wordsIn edition1 (listOf h) ≡ codes (events h)
-unfolding wordsIn eventsIn listOf wordSize
+list-words : (h : Sheet) → Good h → wordsIn edition1 (sheetList h) ≡ codes (events h)
+unfolding wordsIn eventsIn sheetList wordSize
 list-words h g =
-    let n : length (wordsOf (events h)) / 4 ≡ length (events h) = ap (λ (k : ℕ). k / 4) (words-length (events h)) ∙ omega arith in
-    ap (λ (k : ℕ). words geometry1 k (wordsOf (events h))) n ∙ words-codes (events h) (sheet-coded h g)
+    let n : length (eventBytes (events h)) / 4 ≡ length (events h) = ap (λ (k : ℕ). k / 4) (words-length (events h)) ∙ omega arith in
+    ap (λ (k : ℕ). words geometry1 k (eventBytes (events h))) n ∙ words-codes (events h) (sheet-coded h g)
 
 due-most : (n : ℕ) → commitDue n ≤ 2 * n + 2
 unfolding commitDue
@@ -162,18 +162,18 @@ unfolding live
 none-live s u n = record { up = u; bearer = fun-ext (λ j. is-free (s .bearer j) (n j) ∙ sym (nest-out 0 j (omega arith))); store = refl }
 
 -- The list of a taken sheet, its bytes read as a portion reads them.
-pub sheet-in-step : (h : Sheet) → Good h → (s : StateOf edition1) → s .up ≡ true → ((t : ℕ) → live s t ≡ false) → AllInStep (busy edition1 s) (events h) (play edition1 s (wordsIn edition1 (listOf h)) .answers)
+pub sheet-in-step : (h : Sheet) → Good h → (s : StateOf edition1) → s .up ≡ true → ((t : ℕ) → live s t ≡ false) → AllInStep (busy edition1 s) (events h) (play edition1 s (wordsIn edition1 (sheetList h)) .answers)
 unfolding busy
 sheet-in-step h g s u n =
     subst (λ (ws : List ℕ). AllInStep (busy edition1 s) (events h) (play edition1 s ws .answers)) (sym (list-words h g))
     (keep-play (s .store) (events h) s (sheet-coded h g) (keep-sheet edition1 refl enough (s .store) h s (none-live s u n) (omega (arith, g .shallow))))
 
-list-events : (h : Sheet) → eventsIn edition1 (listOf h) ≡ length (events h)
-unfolding eventsIn listOf wordSize
+list-events : (h : Sheet) → eventsIn edition1 (sheetList h) ≡ length (events h)
+unfolding eventsIn sheetList wordSize
 list-events h = ap (λ (k : ℕ). k / 4) (words-length (events h)) ∙ omega arith
 
-list-fits : (h : Sheet) (work answers : List ℕ) → Good h → length work ≡ workSize geometry1 → 2 * length (events h) ≤ length answers → Fits edition1 (record { events = listOf h; work = work; answers = answers })
-unfolding listOf wordSize
+list-fits : (h : Sheet) (work answers : List ℕ) → Good h → length work ≡ workSize geometry1 → 2 * length (events h) ≤ length answers → Fits edition1 (record { events = sheetList h; work = work; answers = answers })
+unfolding sheetList wordSize
 list-fits h work answers g w a =
     let n = words-length (events h) in
     record {
@@ -190,10 +190,10 @@ pub sheet-portion :
     InStep-throughout h s store work answers
 unfolding portionAll
 sheet-portion h g s z u n store work answers sized slots room =
-    let e = sound-played edition1 s store (listOf h) work answers (fits-passes edition1 store (record { events = listOf h; work = work; answers = answers }) sized (list-fits h work answers g slots room)) in
+    let e = sound-played edition1 s store (sheetList h) work answers (fits-passes edition1 store (record { events = sheetList h; work = work; answers = answers }) sized (list-fits h work answers g slots room)) in
     record {
       played = ap (λ (p : Portion edition1). p .answer) e;
-      given = play edition1 s (wordsIn edition1 (listOf h)) .answers;
-      told = ap (λ (p : Portion edition1). p .answers) e ∙ ap (λ (k : ℕ). answerBytes (play edition1 s (wordsIn edition1 (listOf h)) .answers) ++ drop (2 * k) answers) (list-events h);
+      given = play edition1 s (wordsIn edition1 (sheetList h)) .answers;
+      told = ap (λ (p : Portion edition1). p .answers) e ∙ ap (λ (k : ℕ). answerBytes (play edition1 s (wordsIn edition1 (sheetList h)) .answers) ++ drop (2 * k) answers) (list-events h);
       in-step = sheet-in-step h g s u (λ t. dite (decLt t 24) (λ l. n t l) (λ l. refute (live s t) (λ e. l (z .numbered t e))));
     }

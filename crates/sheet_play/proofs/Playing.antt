@@ -16,11 +16,11 @@ use Rattle.laws.proofs.Booleans.{refute, or-right, and-right}
 use Rattle.laws.proofs.Counting.{all-true, any-of, Lowest, found, missing, lowest-is}
 use Rattle.rules.specs.Geometry.{nobody}
 use Rattle.rules.specs.Event.{Event, begin, lock, write, read, commit, abort, toWrite}
-use Rattle.rules.specs.State.{Bearer, Bearers, free, active, isActive, parentIn, depthIn, chain, lineOf, mem, live}
+use Rattle.rules.specs.State.{Bearer, Bearers, free, active, isActive, parentIn, depthIn, lineFrom, lineOf, mem, live}
 use Rattle.rules.specs.Form.{Form}
 use Rattle.rules.specs.Store.{Page}
-use Rattle.rules.specs.Step.{done, refused, firstOf, isBusy, isTop, hasChild, firstFree, begun, ended, concluded, StateOf, OutcomeOf, changes, busy, refusals, refusal, act, judged, step, commits, commitsTop, open-step}
-use Rattle.sheet_text.specs.Sheet.{Steps, locking, writing, reading, inner, Sheet, depthOf, ending, eventsOf, events}
+use Rattle.rules.specs.Step.{done, refused, firstOf, isBusy, isTop, hasChild, firstFree, begun, ended, concluded, StateOf, OutcomeOf, changes, busy, refusals, refusal, act, outcomeBy, step, commits, commitsTop, open-step}
+use Rattle.sheet_text.specs.Sheet.{Steps, locking, writing, reading, inner, Sheet, stepsDepth, endEvent, stepEvents, events}
 use Rattle.sheet_text.specs.Sheet as sheet
 use Rattle.sheet_play.specs.Plays.{TopCommit, whole, meets, Commits, InStep}
 use Rattle.sheet_text.proofs.Texts.{greater-left, greater-right}
@@ -70,14 +70,14 @@ nest-fewer d dead p q = fun-ext (λ j. dite (decLt j d)
     same-both false = refl
 
 -- a line goes down from its number
-chain-below : (d n j x : ℕ) → j < x → j < d → n ≤ suc j → mem x (chain (nest d) n j) ≡ false
-unfolding mem chain parentIn parentNo
+chain-below : (d n j x : ℕ) → j < x → j < d → n ≤ suc j → mem x (lineFrom (nest d) n j) ≡ false
+unfolding mem lineFrom parentIn parentNo
 chain-below d zero j x h k l = refl
 chain-below d (suc n) zero x h k l =
     let z : n ≡ 0 = omega arith in
-    ap₂ _||_ (ne-false x 0 (λ e. omega arith)) (ap (λ (m : ℕ). mem x (chain (nest d) m (parentIn (nest d 0)))) z)
+    ap₂ _||_ (ne-false x 0 (λ e. omega arith)) (ap (λ (m : ℕ). mem x (lineFrom (nest d) m (parentIn (nest d 0)))) z)
 chain-below d (suc n) (suc j) x h k l =
-    ap₂ _||_ (ne-false x (suc j) (λ e. omega arith)) (ap (λ (c : Bearer). mem x (chain (nest d) n (parentIn c))) (nest-in d (suc j) k) ∙ chain-below d n j x (omega arith) (omega arith) (omega arith))
+    ap₂ _||_ (ne-false x (suc j) (λ e. omega arith)) (ap (λ (c : Bearer). mem x (lineFrom (nest d) n (parentIn c))) (nest-in d (suc j) k) ∙ chain-below d n j x (omega arith) (omega arith) (omega arith))
 
 -- no other's parent is the last
 parent-other : (u d : ℕ) → d < 16 → u < suc d → same (parentIn (active (parentNo u) (suc u))) d ≡ false
@@ -91,12 +91,12 @@ known-parent zero p h = refl
 known-parent (suc j) p h = or-right (same j nobody) (p j) (h j (omega arith))
 
 last-dies : (d : ℕ) → mem d (lineOf (nest (suc d)) d) ≡ true
-unfolding lineOf mem chain depthIn
-last-dies d = ap (λ (c : Bearer). mem d (chain (nest (suc d)) (depthIn c) d)) (nest-in (suc d) d (omega arith)) ∙ ap (λ (b : Bool). b || mem d (chain (nest (suc d)) d (parentIn (nest (suc d) d)))) (same-refl d)
+unfolding lineOf mem lineFrom depthIn
+last-dies d = ap (λ (c : Bearer). mem d (lineFrom (nest (suc d)) (depthIn c) d)) (nest-in (suc d) d (omega arith)) ∙ ap (λ (b : Bool). b || mem d (lineFrom (nest (suc d)) d (parentIn (nest (suc d) d)))) (same-refl d)
 
 others-live : (d j : ℕ) → j < d → mem d (lineOf (nest (suc d)) j) ≡ false
 unfolding lineOf depthIn
-others-live d j h = ap (λ (c : Bearer). mem d (chain (nest (suc d)) (depthIn c) j)) (nest-in (suc d) j (omega arith)) ∙ chain-below (suc d) (suc j) j d h (omega arith) (omega arith)
+others-live d j h = ap (λ (c : Bearer). mem d (lineFrom (nest (suc d)) (depthIn c) j)) (nest-in (suc d) j (omega arith)) ∙ chain-below (suc d) (suc j) j d h (omega arith) (omega arith)
 
 -- A form in which 16 transactions nest and a commit with count 63 isn't cut, and a store.
 module _ (f : Form) (limit : f .geometry .depthLimit ≡ 16) (enough : (o : f .medium .Store) (v : ℕ → Option Page) → f .medium .commit o v 63 .crashed ≡ false) (base : f .medium .Store) where
@@ -148,8 +148,8 @@ module _ (f : Form) (limit : f .geometry .depthLimit ≡ 16) (enough : (o : f .m
 
   -- what is not refused is done
   taken-on : (s : StateOf f) (e : Event) → refusal f s e ≡ none → step f s (some e) ≡ act f s e
-  unfolding step judged
-  taken-on s e r = ap (judged f s e) r
+  unfolding step outcomeBy
+  taken-on s e r = ap (outcomeBy f s e) r
 
   begin-accepted : (d : ℕ) (s : StateOf f) → Nested d s → d < 16 → refusal f s (begin (parentNo d)) ≡ none
   unfolding refusal refusals firstOf
@@ -185,11 +185,11 @@ module _ (f : Form) (limit : f .geometry .depthLimit ≡ 16) (enough : (o : f .m
       let b = live-in (suc d) d s n (omega arith) in
       λ i. firstOf ((2, not (a i)) ∷ (5, not (b i)) ∷ [])
 
-  last-line : (d : ℕ) (s : StateOf f) → Nested (suc d) s → lineOf (s .bearer) d ≡ d ∷ chain (nest (suc d)) d (parentNo d)
-  unfolding lineOf chain depthIn parentIn
+  last-line : (d : ℕ) (s : StateOf f) → Nested (suc d) s → lineOf (s .bearer) d ≡ d ∷ lineFrom (nest (suc d)) d (parentNo d)
+  unfolding lineOf lineFrom depthIn parentIn
   last-line d s n =
       let a = nest-in (suc d) d (omega arith) in
-      ap (λ (b : Bearers). chain b (depthIn (b d)) d) (n .bearer) ∙ ap (λ (c : Bearer). chain (nest (suc d)) (depthIn c) d) a ∙ ap (λ (c : Bearer). d ∷ chain (nest (suc d)) d (parentIn c)) a
+      ap (λ (b : Bearers). lineFrom b (depthIn (b d)) d) (n .bearer) ∙ ap (λ (c : Bearer). lineFrom (nest (suc d)) (depthIn c) d) a ∙ ap (λ (c : Bearer). d ∷ lineFrom (nest (suc d)) d (parentIn c)) a
 
   -- an abort
   pub aborts : (d : ℕ) (w : Bool) (s : StateOf f) → Nested (suc d) s → (step f s (some (abort d w)) .answer ≡ done 0) × Nested d (step f s (some (abort d w)) .state)
@@ -208,7 +208,7 @@ module _ (f : Form) (limit : f .geometry .depthLimit ≡ 16) (enough : (o : f .m
 
   -- a commit of an inner transaction
   not-top : (d : ℕ) (s : StateOf f) → Nested (suc (suc d)) s → isTop (lineOf (s .bearer) (suc d)) ≡ false
-  unfolding isTop chain parentNo
+  unfolding isTop lineFrom parentNo
   not-top d s n = ap isTop (last-line (suc d) s n)
 
   inner-accepted : (d k : ℕ) (s : StateOf f) → Nested (suc (suc d)) s → suc d < 16 → refusal f s (commit (suc d) k) ≡ none
@@ -221,7 +221,7 @@ module _ (f : Form) (limit : f .geometry .depthLimit ≡ 16) (enough : (o : f .m
       λ i. firstOf ((2, not (a i)) ∷ (5, not (b i)) ∷ (10, c i) ∷ (13, t i && (changes f s (suc d) && busy f s)) ∷ [])
 
   pub commits-inner : (d k : ℕ) (s : StateOf f) → Nested (suc (suc d)) s → suc d < 16 → (step f s (some (commit (suc d) k)) .answer ≡ done 0) × Nested (suc d) (step f s (some (commit (suc d) k)) .state)
-  unfolding open-step chain parentNo
+  unfolding open-step lineFrom parentNo
   commits-inner d k s n h =
       let e = taken-on s (commit (suc d) k) (inner-accepted d k s n h) ∙ ap (commits f s (suc d) k) (last-line (suc d) s n) in (
         ap (λ (o : OutcomeOf f). o .answer) e,
@@ -236,7 +236,7 @@ module _ (f : Form) (limit : f .geometry .depthLimit ≡ 16) (enough : (o : f .m
 
   -- and of the top one: refused with 13 exactly where it changed a record and another is prepared
   top-refusal : (s : StateOf f) (b : Bool) → Nested 1 s → (changes f s 0 && busy f s) ≡ b → refusal f s (commit 0 63) ≡ cond b (some 13) none
-  unfolding refusal refusals firstOf isTop chain
+  unfolding refusal refusals firstOf isTop lineFrom
   top-refusal s b n e =
       let a = n .up in
       let l = live-in 1 0 s n (omega arith) in
@@ -245,15 +245,15 @@ module _ (f : Form) (limit : f .geometry .depthLimit ≡ 16) (enough : (o : f .m
       λ i. firstOf ((2, not (a i)) ∷ (5, not (l i)) ∷ (10, c i) ∷ (13, t i && e i) ∷ [])
 
   top-whole : (s : StateOf f) → Nested 1 s → refusal f s (commit 0 63) ≡ none → step f s (some (commit 0 63)) .answer ≡ done (f .medium .commit (s .store) (s .version 0) 63 .made)
-  unfolding act commits commitsTop concluded chain
+  unfolding act commits commitsTop concluded lineFrom
   top-whole s n r =
       let c = f .medium .commit (s .store) (s .version 0) 63 in
       ap (λ (o : OutcomeOf f). o .answer) (taken-on s (commit 0 63) r ∙ ap (commits f s 0 63) (last-line 0 s n))
       ∙ ap (λ (b : Bool). concluded (ended s (λ j. same j 0) (c .store)) c b .answer) (enough (s .store) (s .version 0))
 
   top-refused : (s : StateOf f) → refusal f s (commit 0 63) ≡ some 13 → step f s (some (commit 0 63)) .answer ≡ refused 13
-  unfolding step judged
-  top-refused s r = ap (λ (o : Option ℕ). judged f s (commit 0 63) o .answer) r
+  unfolding step outcomeBy
+  top-refused s r = ap (λ (o : Option ℕ). outcomeBy f s (commit 0 63) o .answer) r
 
   is-beside : (s : StateOf f) → Nested 1 s → busy f s ≡ true → beside ≡ true
   unfolding busy
@@ -268,10 +268,10 @@ module _ (f : Form) (limit : f .geometry .depthLimit ≡ 16) (enough : (o : f .m
 
   -- an event that leaves the bearers and the store
   keeps : (d : ℕ) (s : StateOf f) (e : Event) → Nested d s → (act f s e .state .up ≡ s .up) → (act f s e .state .bearer ≡ s .bearer) → (act f s e .state .store ≡ s .store) → Nested d (step f s (some e) .state)
-  unfolding step judged act
+  unfolding step outcomeBy act
   keeps d s e n p q u = go (refusal f s e)
     where
-      go : (o : Option ℕ) → Nested d (judged f s e o .state)
+      go : (o : Option ℕ) → Nested d (outcomeBy f s e o .state)
       go none = record { up = p ∙ n .up; bearer = q ∙ n .bearer; store = u ∙ n .store }
       go (some m) = n
 
@@ -325,8 +325,8 @@ module _ (f : Form) (limit : f .geometry .depthLimit ≡ 16) (enough : (o : f .m
   unfolding InStep open-step
   went-read d r o s n = went-one _ s tt (keeps (suc d) s (read d r o) n refl refl refl)
 
-  went-end : (d : ℕ) (c : Bool) (s : StateOf f) → Nested (suc (suc d)) s → suc d < 16 → Went s (ending (suc d) c ∷ []) (suc d)
-  unfolding InStep Commits ending
+  went-end : (d : ℕ) (c : Bool) (s : StateOf f) → Nested (suc (suc d)) s → suc d < 16 → Went s (endEvent (suc d) c ∷ []) (suc d)
+  unfolding InStep Commits endEvent
   went-end d true s n h = let a = commits-inner d 63 s n h in went-one _ s (a .0) (a .1)
   went-end d false s n h = let a = aborts (suc d) false s n in went-one _ s (a .0) (a .1)
 
@@ -334,23 +334,23 @@ module _ (f : Form) (limit : f .geometry .depthLimit ≡ 16) (enough : (o : f .m
   unfolding InStep parentNo
   begin-inner d s n h = let a = begins (suc d) s n h in (a .0 ∙ sym (ap (λ (b : Bool). done (cond b 0 (suc d))) (ne-false d nobody (λ e. omega arith))), a .1)
 
-  went-steps : (t : Steps) (d : ℕ) (s : StateOf f) → Nested (suc d) s → d + depthOf t ≤ 15 → Went s (eventsOf d t) (suc d)
-  unfolding eventsOf depthOf
+  went-steps : (t : Steps) (d : ℕ) (s : StateOf f) → Nested (suc d) s → d + stepsDepth t ≤ 15 → Went s (stepEvents d t) (suc d)
+  unfolding stepEvents stepsDepth
   went-steps sheet.none d s n h = went-none s (suc d) n
-  went-steps (locking t r) d s n h = let a = went-steps t d s n h in went-append (eventsOf d t) _ s a (went-lock d r _ (a .nested))
-  went-steps (writing t r o v) d s n h = let a = went-steps t d s n h in went-append (eventsOf d t) _ s a (went-write d r o v _ (a .nested))
-  went-steps (reading t r o) d s n h = let a = went-steps t d s n h in went-append (eventsOf d t) _ s a (went-read d r o _ (a .nested))
+  went-steps (locking t r) d s n h = let a = went-steps t d s n h in went-append (stepEvents d t) _ s a (went-lock d r _ (a .nested))
+  went-steps (writing t r o v) d s n h = let a = went-steps t d s n h in went-append (stepEvents d t) _ s a (went-write d r o v _ (a .nested))
+  went-steps (reading t r o) d s n h = let a = went-steps t d s n h in went-append (stepEvents d t) _ s a (went-read d r o _ (a .nested))
   went-steps (inner t i c) d s n h =
-      let p = greater-left (depthOf t) (suc (depthOf i)) (15 - d) (omega arith) in
-      let q = greater-right (depthOf t) (suc (depthOf i)) (15 - d) (omega arith) in
+      let p = greater-left (stepsDepth t) (suc (stepsDepth i)) (15 - d) (omega arith) in
+      let q = greater-right (stepsDepth t) (suc (stepsDepth i)) (15 - d) (omega arith) in
       let k : d ≤ 15 = omega (arith, h) in
       let a = went-steps t d s n (omega (arith, p, k)) in
-      let b = begin-inner d (leaves s (eventsOf d t)) (a .nested) (omega (arith, q)) in
+      let b = begin-inner d (leaves s (stepEvents d t)) (a .nested) (omega (arith, q)) in
       let e = went-steps i (suc d) _ (b .1) (omega (arith, q, k)) in
-      went-append (eventsOf d t) _ s a (went-cons (begin d) _ _ (b .0) (went-append (eventsOf (suc d) i) _ _ e (went-end d c _ (e .nested) (omega (arith, q)))))
+      went-append (stepEvents d t) _ s a (went-cons (begin d) _ _ (b .0) (went-append (stepEvents (suc d) i) _ _ e (went-end d c _ (e .nested) (omega (arith, q)))))
 
-  keep-top : (c : Bool) (s : StateOf f) → Nested 1 s → AllKeep s (ending 0 c ∷ [])
-  unfolding AllKeep InStep Commits ending
+  keep-top : (c : Bool) (s : StateOf f) → Nested 1 s → AllKeep s (endEvent 0 c ∷ [])
+  unfolding AllKeep InStep Commits endEvent
   keep-top true s n = (commits-top s n, tt)
   keep-top false s n = (aborts 0 false s n .0, tt)
 
@@ -358,9 +358,9 @@ module _ (f : Form) (limit : f .geometry .depthLimit ≡ 16) (enough : (o : f .m
   unfolding InStep parentNo same
   begin-top s n = begins 0 s n (omega arith)
 
-  pub keep-sheet : (h : Sheet) (s : StateOf f) → Nested 0 s → depthOf (h .steps) ≤ 15 → AllKeep s (events h)
+  pub keep-sheet : (h : Sheet) (s : StateOf f) → Nested 0 s → stepsDepth (h .steps) ≤ 15 → AllKeep s (events h)
   unfolding AllKeep events
   keep-sheet h s n d =
       let b = begin-top s n in
       let a = went-steps (h .steps) 0 _ (b .1) (omega (arith, d)) in
-      (b .0, keep-append (eventsOf 0 (h .steps)) _ _ (a .keep) (keep-top (h .commits) _ (a .nested)))
+      (b .0, keep-append (stepEvents 0 (h .steps)) _ _ (a .keep) (keep-top (h .commits) _ (a .nested)))

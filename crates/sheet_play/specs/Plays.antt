@@ -12,7 +12,7 @@ use Rattle.rules.specs.Step.{Answer, done, refused, StateOf, busy}
 use Rattle.rules.specs.Run.{answerBytes}
 use Rattle.rules.specs.Portion.{portion}
 use Rattle.rules.specs.Editions.{edition1}
-use Rattle.sheet_text.specs.Sheet.{Sheet, events, listOf}
+use Rattle.sheet_text.specs.Sheet.{Sheet, events, sheetList}
 
 -- how the top transaction's commit is answered: done, with all its page writes, never cut; or with 13, only where another transaction is prepared
 pub data TopCommit (beside : Bool) (a : Answer) : Type 0 where
@@ -47,7 +47,7 @@ AllInStep beside (e ∷ es) (a ∷ l) = InStep beside e a × AllInStep beside es
 
 -- A SHEET'S LIST, PLAYED AS A PORTION on the state s, with these bytes of its store and these buffers: it isn't refused, and its answers are as is due.
 pub record InStep-throughout (h : Sheet) (s : StateOf edition1) (store work answers : List ℕ) : Type 0 where
-  pub played : portion edition1 true s store (listOf h) work answers .answer ≡ 0
+  pub played : portion edition1 true s store (sheetList h) work answers .answer ≡ 0
   pub given : List Answer
-  pub told : portion edition1 true s store (listOf h) work answers .answers ≡ answerBytes given ++ drop (2 * length (events h)) answers
+  pub told : portion edition1 true s store (sheetList h) work answers .answers ≡ answerBytes given ++ drop (2 * length (events h)) answers
   pub in-step : AllInStep (busy edition1 s) (events h) given

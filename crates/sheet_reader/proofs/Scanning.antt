@@ -9,7 +9,7 @@ use native.Mathlib.Omega.{arith}
 use lib.ListN.{length, getD}
 use Rattle.laws.specs.Tests.{same, open-tests}
 use Rattle.laws.proofs.Tests.{Same, is, isnt, same?}
-use Rattle.sheet_text.specs.Scan.{Scan, between, within, ended, dead, Letter, closing, plain, letterOf, isDigit, toCome, opened, left, stepped, begun, next, after, Stands, Stuck, isDead, isEnded, open-scan}
+use Rattle.sheet_text.specs.Scan.{Scan, between, within, ended, dead, Letter, closing, plain, letterOf, isDigit, toCome, opened, levelClosed, stepped, scanOpened, scanNext, scanAfter, Stands, Stuck, isDead, isEnded, open-scan}
 use Rattle.sheet_text.proofs.Letters.{is-opening, is-lock, is-write, is-read, is-unknown, opening-is, begun-not, no-letter, no-room, no-level, too-few, has-both, level-up}
 use Rattle.sheet_reader.specs.Reads.{Read, Reads}
 use Rattle.sheet_reader.specs.declared.Cursor.{Cursor}
@@ -17,15 +17,15 @@ use Rattle.sheet_reader.specs.declared.Found.{Found}
 use Rattle.sheet_reader.specs.declared.Found.the-variants.{Next, Bad}
 
 -- one byte further
-on : (s : List ℕ) (i : ℕ) (q : Scan) → after s i ≡ q → after s (i + 1) ≡ next q (getD s i 0)
+on : (s : List ℕ) (i : ℕ) (q : Scan) → scanAfter s i ≡ q → scanAfter s (i + 1) ≡ scanNext q (getD s i 0)
 unfolding open-scan
-on s i q e = ap (after s) (add-one i) ∙ ap (λ (p : Scan). next p (getD s i 0)) e
+on s i q e = ap (scanAfter s) (add-one i) ∙ ap (λ (p : Scan). scanNext p (getD s i 0)) e
 
-stuck : {s : List ℕ} {i : ℕ} {q : Scan} → i ≤ length s → Stands s i q → isDead q ≡ false → isEnded q ≡ false → (i < length s → next q (getD s i 0) ≡ dead) → Stuck s i
+stuck : {s : List ℕ} {i : ℕ} {q : Scan} → i ≤ length s → Stands s i q → isDead q ≡ false → isEnded q ≡ false → (i < length s → scanNext q (getD s i 0) ≡ dead) → Stuck s i
 stuck {s} {i} {q} w e a n stops = record {
   within = w;
   alive = ap isDead (e .is) ∙ a;
-  stops = λ l. ap (after s) (sym (add-one i)) ∙ on s i q (e .is) ∙ stops l;
+  stops = λ l. ap (scanAfter s) (sym (add-one i)) ∙ on s i q (e .is) ∙ stops l;
   short = λ _. ap isEnded (e .is) ∙ n;
 }
 
@@ -101,7 +101,7 @@ pub opened-on : {s : List ℕ} {i : ℕ} (l r : ℕ) → Stands s i (between l r
 unfolding stepped
 opened-on l r e x p q = record { is = letter-on e (is-opening x) .is ∙ has-both l r p q }
 
-pub left-on : {s : List ℕ} {i l r : ℕ} → Stands s i (between l r) → letterOf (getD s i 0) ≡ closing → Stands s (i + 1) (left l r)
+pub left-on : {s : List ℕ} {i l r : ℕ} → Stands s i (between l r) → letterOf (getD s i 0) ≡ closing → Stands s (i + 1) (levelClosed l r)
 unfolding stepped
 left-on e x = record { is = letter-on e x .is }
 
@@ -113,7 +113,7 @@ pub too-few-on : {s : List ℕ} {i l r : ℕ} → i < length s → Stands s i (b
 unfolding stepped
 too-few-on {s} {i} {l} {r} w e x z = letter-bad w e (is-opening x) (too-few l r z)
 
-pub inner-left : (s : List ℕ) (at l : ℕ) (f : Found) → 0 < l → l < 16 → Reads s at (left (l - 1)) f → Reads s at (between l) f
+pub inner-left : (s : List ℕ) (at l : ℕ) (f : Found) → 0 < l → l < 16 → Reads s at (levelClosed (l - 1)) f → Reads s at (between l) f
 inner-left s at l (Next c) p q h = record { further = h .further; within = h .within; stands = record { is = h .stands .is ∙ level-up l (c .room) p q } }
 inner-left s at l (Bad x) p q h = h
 
@@ -127,7 +127,7 @@ found-bad s at q f p e h = subst (Reads s at q) e h
 -- the beginning of a text
 pub opened-text : {s : List ℕ} → getD s 0 0 ≡ 123 → Stands s 1 (between 15 4094)
 unfolding open-scan
-opened-text {s} e = record { is = ap (λ (x : Letter). begun x) (is-opening e) }
+opened-text {s} e = record { is = ap (λ (x : Letter). scanOpened x) (is-opening e) }
 
 pub unopened-text : {s : List ℕ} → getD s 0 0 ≢ 123 → Stuck s 0
 unfolding open-scan
@@ -148,10 +148,10 @@ unfolding open-scan
 trailing {s} {i} {r} l e = record {
   within = omega arith;
   alive = ap isDead (e .is);
-  stops = λ _. ap (λ (q : Scan). next q (getD s i 0)) (e .is);
+  stops = λ _. ap (λ (q : Scan). scanNext q (getD s i 0)) (e .is);
   short = λ z. absurd (omega arith);
 }
 
-pub top-left : {s : List ℕ} {i r : ℕ} → Stands s i (left 15 r) → Stands s i (ended r)
+pub top-left : {s : List ℕ} {i r : ℕ} → Stands s i (levelClosed 15 r) → Stands s i (ended r)
 unfolding open-scan open-tests
 top-left e = record { is = e .is }

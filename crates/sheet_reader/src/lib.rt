@@ -4,7 +4,7 @@
 ghost use mathlib.Core.Path.{_≡_};
 ghost use Prim.Native.Nat.{_<_, _≤_};
 ghost use lib.ListN.{length, getD};
-ghost use Rattle.sheet_text.specs.Scan.{Stands, between, within, left, isDigit};
+ghost use Rattle.sheet_text.specs.Scan.{Stands, between, within, levelClosed, isDigit};
 ghost use Rattle.sheet_reader.specs.Reads.{Reads, Checks};
 
 // A place in the text, and how many events are free there.
@@ -90,7 +90,7 @@ fn read_step(s: &[u8], at: usize, levels: usize, room: usize) -> Found
 // A transaction whose opening brace is read: its steps, up to its end.
 fn read_transaction(s: &[u8], at: usize, levels: usize, room: usize) -> Found
     requires { ⌜ (at ≤ length (now s)) × Stands (now s) at (between levels room) × (levels < 16) ⌝ }
-    ensures { λ r. ⌜ Reads (now (s .entry)) at (left levels) r ⌝ }
+    ensures { λ r. ⌜ Reads (now (s .entry)) at (levelClosed levels) r ⌝ }
 {
     let mut i = at;
     let mut free = room;

@@ -2,7 +2,7 @@
 use mathlib.Core.List.{List, [], _∷_}
 use Prim.Native.Nat.{ℕ, _+_}
 use Rattle.sheet_text.specs.Sheet.{Steps, none, locking, writing, reading, inner}
-use Rattle.sheet_text.specs.Scan.{Scan, next}
+use Rattle.sheet_text.specs.Scan.{Scan, scanNext}
 
 unfoldable pub countOf : Steps → ℕ
 countOf none = 0
@@ -13,7 +13,7 @@ countOf (inner s i c) = countOf s + (countOf i + 2)
 
 unfoldable pub run : Scan → List ℕ → Scan
 run q [] = q
-run q (b ∷ l) = run (next q b) l
+run q (b ∷ l) = run (scanNext q b) l
 
 unfoldable pub open-count : Unit {0}
 unfolding countOf run

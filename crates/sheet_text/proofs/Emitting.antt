@@ -10,8 +10,8 @@ use Rattle.laws.proofs.Booleans.{and-left, and-right}
 use Rattle.rules.specs.Geometry.{nobody}
 use Rattle.rules.specs.Event.{Event, begin, lock, write, read, toWrite}
 use Rattle.sheet_text.specs.Sheet as sheet
-use Rattle.sheet_text.specs.Sheet.{Steps, none, locking, writing, reading, inner, Sheet, digit, digits, stepsText, text, proper, depthOf, ending, eventsOf, events, listOf, Good, Taken, open-sheet}
-use Rattle.sheet_text.specs.Scan.{between, within, dead, closing, isDigit, left, open-scan}
+use Rattle.sheet_text.specs.Sheet.{Steps, none, locking, writing, reading, inner, Sheet, digit, digits, stepsText, text, proper, stepsDepth, endEvent, stepEvents, events, sheetList, Good, Taken, open-sheet}
+use Rattle.sheet_text.specs.Scan.{between, within, dead, closing, isDigit, levelClosed, open-scan}
 use Rattle.sheet_text.proofs.Count.{countOf, open-count}
 use Rattle.sheet_text.specs.Emit.{value, pairOf, offsetOf, tokenOf, Reading, given, emit, emitAll, unread, open-emit}
 use Rattle.sheet_text.proofs.Letters.{has-both, level-up}
@@ -105,7 +105,7 @@ pub open-one : (l r : ℕ) (es : List Event) → 0 < l → 2 ≤ r → emit (at 
 unfolding open-emit open-scan open-tests
 open-one l r es p q = λ i. record { scan = has-both l r p q i; part = []; events = es ++ (begin (15 - l) ∷ []) }
 
-pub close-one : (l r : ℕ) (c : Bool) (es : List Event) → emit (at l r es) (sheet.closing c) ≡ record { scan = left l r; part = []; events = es ++ (ending (15 - l) c ∷ []) }
+pub close-one : (l r : ℕ) (c : Bool) (es : List Event) → emit (at l r es) (sheet.closing c) ≡ record { scan = levelClosed l r; part = []; events = es ++ (endEvent (15 - l) c ∷ []) }
 unfolding open-emit open-scan open-tests sheet.closing
 close-one l r true es = refl
 close-one l r false es = refl
@@ -113,13 +113,13 @@ close-one l r false es = refl
 piece : (l r r′ m : ℕ) (es fs gs : List Event) (a b : List ℕ) → emitAll (at l r es) a ≡ at l r′ (es ++ fs) → emitAll (at l r′ (es ++ fs)) b ≡ at l m ((es ++ fs) ++ gs) → emitAll (at l r es) (a ++ b) ≡ at l m (es ++ (fs ++ gs))
 piece l r r′ m es fs gs a b e f = emit-append (at l r es) a b ∙ ap (λ (q : Reading). emitAll q b) e ∙ f ∙ ap (at l m) (append-assoc es fs gs)
 
-pub steps-emit : (t : Steps) (l r : ℕ) (es : List Event) → proper t ≡ true → depthOf t ≤ l → l < 16 → emitAll (at l (countOf t + r) es) (stepsText t) ≡ at l r (es ++ eventsOf (15 - l) t)
+pub steps-emit : (t : Steps) (l r : ℕ) (es : List Event) → proper t ≡ true → stepsDepth t ≤ l → l < 16 → emitAll (at l (countOf t + r) es) (stepsText t) ≡ at l r (es ++ stepEvents (15 - l) t)
 unfolding open-sheet open-count emitAll
 steps-emit none l r es p d h = let z : 0 + r ≡ r = omega arith in ap (λ (m : ℕ). at l m es) z ∙ ap (at l r) (sym (append-nil es))
 steps-emit (locking t x) l r es p d h =
     let e : (countOf t + 1) + r ≡ countOf t + suc r = omega arith in
     ap (λ (n : ℕ). emitAll (at l n es) (stepsText t ++ (76 ∷ digit x ∷ []))) e
-    ∙ piece l _ (suc r) r es (eventsOf (15 - l) t) (lock (15 - l) x toWrite ∷ []) (stepsText t) _ (steps-emit t l (suc r) es (and-left (proper t) _ p) d h) (lock-emit l r x (es ++ eventsOf (15 - l) t) (under-lt x 16 (and-right (proper t) _ p)))
+    ∙ piece l _ (suc r) r es (stepEvents (15 - l) t) (lock (15 - l) x toWrite ∷ []) (stepsText t) _ (steps-emit t l (suc r) es (and-left (proper t) _ p) d h) (lock-emit l r x (es ++ stepEvents (15 - l) t) (under-lt x 16 (and-right (proper t) _ p)))
 steps-emit (writing t x o v) l r es p d h =
     let e : (countOf t + 1) + r ≡ countOf t + suc r = omega arith in
     let g = and-right (proper t) _ p in
@@ -127,34 +127,34 @@ steps-emit (writing t x o v) l r es p d h =
     let ho = under-lt o 32 (and-left (under o 32) _ (and-right (under x 16) _ g)) in
     let hv = under-lt v 256 (and-right (under o 32) _ (and-right (under x 16) _ g)) in
     ap (λ (n : ℕ). emitAll (at l n es) (stepsText t ++ (87 ∷ digit x ∷ (digits o ++ digits v)))) e
-    ∙ piece l _ (suc r) r es (eventsOf (15 - l) t) (write (15 - l) x o v ∷ []) (stepsText t) _ (steps-emit t l (suc r) es (and-left (proper t) _ p) d h) (write-emit l r x o v (es ++ eventsOf (15 - l) t) hx ho hv)
+    ∙ piece l _ (suc r) r es (stepEvents (15 - l) t) (write (15 - l) x o v ∷ []) (stepsText t) _ (steps-emit t l (suc r) es (and-left (proper t) _ p) d h) (write-emit l r x o v (es ++ stepEvents (15 - l) t) hx ho hv)
 steps-emit (reading t x o) l r es p d h =
     let e : (countOf t + 1) + r ≡ countOf t + suc r = omega arith in
     let g = and-right (proper t) _ p in
     let hx = under-lt x 16 (and-left (under x 16) _ g) in
     let ho = under-lt o 32 (and-right (under x 16) _ g) in
     ap (λ (n : ℕ). emitAll (at l n es) (stepsText t ++ (82 ∷ digit x ∷ digits o))) e
-    ∙ piece l _ (suc r) r es (eventsOf (15 - l) t) (read (15 - l) x o ∷ []) (stepsText t) _ (steps-emit t l (suc r) es (and-left (proper t) _ p) d h) (read-emit l r x o (es ++ eventsOf (15 - l) t) hx ho)
+    ∙ piece l _ (suc r) r es (stepEvents (15 - l) t) (read (15 - l) x o ∷ []) (stepsText t) _ (steps-emit t l (suc r) es (and-left (proper t) _ p) d h) (read-emit l r x o (es ++ stepEvents (15 - l) t) hx ho)
 steps-emit (inner t i c) l r es p d h =
     let e : (countOf t + (countOf i + 2)) + r ≡ countOf t + ((countOf i + r) + 2) = omega arith in
-    let deep : suc (depthOf i) ≤ l = greater-right (depthOf t) (suc (depthOf i)) l d in
+    let deep : suc (stepsDepth i) ≤ l = greater-right (stepsDepth t) (suc (stepsDepth i)) l d in
     ap (λ (n : ℕ). emitAll (at l n es) (stepsText t ++ (123 ∷ (stepsText i ++ (sheet.closing c ∷ []))))) e
-    ∙ piece l _ ((countOf i + r) + 2) r es (eventsOf (15 - l) t) (begin (15 - l) ∷ (eventsOf (suc (15 - l)) i ++ (ending (suc (15 - l)) c ∷ []))) (stepsText t) _
-    (steps-emit t l ((countOf i + r) + 2) es (and-left (proper t) _ p) (greater-left (depthOf t) (suc (depthOf i)) l d) h)
-    (inner-emit l r i c (es ++ eventsOf (15 - l) t) deep h (steps-emit i (l - 1) r ((es ++ eventsOf (15 - l) t) ++ (begin (15 - l) ∷ [])) (and-right (proper t) _ p) (omega arith) (omega arith)))
+    ∙ piece l _ ((countOf i + r) + 2) r es (stepEvents (15 - l) t) (begin (15 - l) ∷ (stepEvents (suc (15 - l)) i ++ (endEvent (suc (15 - l)) c ∷ []))) (stepsText t) _
+    (steps-emit t l ((countOf i + r) + 2) es (and-left (proper t) _ p) (greater-left (stepsDepth t) (suc (stepsDepth i)) l d) h)
+    (inner-emit l r i c (es ++ stepEvents (15 - l) t) deep h (steps-emit i (l - 1) r ((es ++ stepEvents (15 - l) t) ++ (begin (15 - l) ∷ [])) (and-right (proper t) _ p) (omega arith) (omega arith)))
   where
-    inner-emit : (l r : ℕ) (i : Steps) (c : Bool) (es : List Event) → suc (depthOf i) ≤ l → l < 16
-        → emitAll (at (l - 1) (countOf i + r) (es ++ (begin (15 - l) ∷ []))) (stepsText i) ≡ at (l - 1) r ((es ++ (begin (15 - l) ∷ [])) ++ eventsOf (15 - (l - 1)) i)
-        → emitAll (at l ((countOf i + r) + 2) es) (123 ∷ (stepsText i ++ (sheet.closing c ∷ []))) ≡ at l r (es ++ (begin (15 - l) ∷ (eventsOf (suc (15 - l)) i ++ (ending (suc (15 - l)) c ∷ []))))
+    inner-emit : (l r : ℕ) (i : Steps) (c : Bool) (es : List Event) → suc (stepsDepth i) ≤ l → l < 16
+        → emitAll (at (l - 1) (countOf i + r) (es ++ (begin (15 - l) ∷ []))) (stepsText i) ≡ at (l - 1) r ((es ++ (begin (15 - l) ∷ [])) ++ stepEvents (15 - (l - 1)) i)
+        → emitAll (at l ((countOf i + r) + 2) es) (123 ∷ (stepsText i ++ (sheet.closing c ∷ []))) ≡ at l r (es ++ (begin (15 - l) ∷ (stepEvents (suc (15 - l)) i ++ (endEvent (suc (15 - l)) c ∷ []))))
     inner-emit l r i c es deep h e =
         let back : ((countOf i + r) + 2) - 2 ≡ countOf i + r = omega arith in
         let n : 15 - (l - 1) ≡ suc (15 - l) = omega arith in
         ap (λ (q : Reading). emitAll q (stepsText i ++ (sheet.closing c ∷ []))) (open-one l ((countOf i + r) + 2) es (omega arith) (omega arith) ∙ ap (λ (m : ℕ). at (l - 1) m (es ++ (begin (15 - l) ∷ []))) back)
         ∙ emit-append (at (l - 1) (countOf i + r) (es ++ (begin (15 - l) ∷ []))) (stepsText i) (sheet.closing c ∷ [])
         ∙ ap (λ (q : Reading). emitAll q (sheet.closing c ∷ [])) e
-        ∙ close-one (l - 1) r c ((es ++ (begin (15 - l) ∷ [])) ++ eventsOf (15 - (l - 1)) i)
-        ∙ (λ k. record { scan = level-up l r (omega arith) h k; part = []; events = ((es ++ (begin (15 - l) ∷ [])) ++ eventsOf (n k) i) ++ (ending (n k) c ∷ []) })
-        ∙ ap (at l r) (append-assoc (es ++ (begin (15 - l) ∷ [])) (eventsOf (suc (15 - l)) i) (ending (suc (15 - l)) c ∷ []) ∙ append-assoc es (begin (15 - l) ∷ []) (eventsOf (suc (15 - l)) i ++ (ending (suc (15 - l)) c ∷ [])))
+        ∙ close-one (l - 1) r c ((es ++ (begin (15 - l) ∷ [])) ++ stepEvents (15 - (l - 1)) i)
+        ∙ (λ k. record { scan = level-up l r (omega arith) h k; part = []; events = ((es ++ (begin (15 - l) ∷ [])) ++ stepEvents (n k) i) ++ (endEvent (n k) c ∷ []) })
+        ∙ ap (at l r) (append-assoc (es ++ (begin (15 - l) ∷ [])) (stepEvents (suc (15 - l)) i) (endEvent (suc (15 - l)) c ∷ []) ∙ append-assoc es (begin (15 - l) ∷ []) (stepEvents (suc (15 - l)) i ++ (endEvent (suc (15 - l)) c ∷ [])))
 
 pub first-emit : emit unread 123 ≡ at 15 4094 (begin nobody ∷ [])
 unfolding open-emit open-scan open-tests
@@ -169,9 +169,9 @@ sheet-emits h g =
     (ap (λ (q : Reading). emitAll q (stepsText (h .steps) ++ (sheet.closing (h .commits) ∷ []))) (first-emit ∙ ap (λ (m : ℕ). at 15 m (begin nobody ∷ [])) e)
     ∙ emit-append (at 15 (countOf (h .steps) + (4094 - countOf (h .steps))) (begin nobody ∷ [])) (stepsText (h .steps)) (sheet.closing (h .commits) ∷ [])
     ∙ ap (λ (q : Reading). emitAll q (sheet.closing (h .commits) ∷ [])) (steps-emit (h .steps) 15 (4094 - countOf (h .steps)) (begin nobody ∷ []) (g .fits) (omega (arith, g .shallow)) (omega arith))
-    ∙ close-one 15 (4094 - countOf (h .steps)) (h .commits) ((begin nobody ∷ []) ++ eventsOf (15 - 15) (h .steps)))
+    ∙ close-one 15 (4094 - countOf (h .steps)) (h .commits) ((begin nobody ∷ []) ++ stepEvents (15 - 15) (h .steps)))
 
 -- the text alone says which events, so which list
-pub one-list : (s : List ℕ) (h k : Sheet) → Taken s h → Taken s k → listOf h ≡ listOf k
-unfolding listOf
-one-list s h k a b = ap sheet.wordsOf (sym (sheet-emits h (a .good)) ∙ ap (λ (l : List ℕ). emitAll unread l .events) (a .reads ∙ sym (b .reads)) ∙ sheet-emits k (b .good))
+pub one-list : (s : List ℕ) (h k : Sheet) → Taken s h → Taken s k → sheetList h ≡ sheetList k
+unfolding sheetList
+one-list s h k a b = ap sheet.eventBytes (sym (sheet-emits h (a .good)) ∙ ap (λ (l : List ℕ). emitAll unread l .events) (a .reads ∙ sym (b .reads)) ∙ sheet-emits k (b .good))

@@ -12,21 +12,21 @@ use Rattle.laws.specs.Tests.{same, open-tests}
 use Rattle.laws.proofs.Tests.{ne-false}
 use Rattle.sheet_text.specs.Sheet as sheet
 use Rattle.sheet_text.specs.Sheet.{Sheet, events, Taken, Follows, Fault}
-use Rattle.sheet_text.specs.Scan.{Scan, start, between, within, ended, dead, isDigit, left, next, after, Stuck, isDead, isEnded, open-scan}
+use Rattle.sheet_text.specs.Scan.{Scan, start, between, within, ended, dead, isDigit, levelClosed, scanNext, scanAfter, Stuck, isDead, isEnded, open-scan}
 use Rattle.sheet_text.proofs.Count.{countOf, run}
 use Rattle.sheet_text.proofs.Texts.{run-append, sheet-read, sheet-count}
 use Rattle.sheet_text.proofs.Parsing.{AtEnd, Means, means-all, between-low, within-low}
 
 -- nothing follows what is dead
 dead-run : (l : List ℕ) → run dead l ≡ dead
-unfolding run next
+unfolding run scanNext
 dead-run [] = refl
 dead-run (b ∷ l) = dead-run l
 
 -- open transactions are closed one by one
 close-all : (n l r : ℕ) → l + n ≡ 15 → run (between l r) (replicate (suc n) 125) ≡ ended r
 unfolding run open-scan open-tests
-close-all zero l r e = let q : l ≡ 15 = omega arith in ap (λ (k : ℕ). left k r) q
+close-all zero l r e = let q : l ≡ 15 = omega arith in ap (λ (k : ℕ). levelClosed k r) q
 close-all (suc n) l r e = ap (λ (x : Bool). run (cond x (ended r) (between (suc l) r)) (replicate (suc n) 125)) (ne-false l 15 (λ q. omega arith)) ∙ close-all n (suc l) r (omega arith)
 
 zero-digit : (t : Bool) → isDigit t 48 ≡ true
@@ -94,11 +94,11 @@ pub dead-follows : (s : List ℕ) → run start s ≡ dead → Follows s → ⊥
 dead-follows s e f = not-ended (sym (dead-run (f .rest)) ∙ ap (λ (q : Scan). run q (f .rest)) (sym e) ∙ sym (run-append start s (f .rest)) ∙ taken-ended (s ++ f .rest) (f .sheet) (f .taken))
 
 -- the reading after i bytes is that of the first i bytes
-pub after-run : (s : List ℕ) (i : ℕ) → i ≤ length s → after s i ≡ run start (take i s)
-unfolding after run
+pub after-run : (s : List ℕ) (i : ℕ) → i ≤ length s → scanAfter s i ≡ run start (take i s)
+unfolding scanAfter run
 after-run s zero h = refl
 after-run s (suc i) h =
-    ap (λ (q : Scan). next q (getD s i 0)) (after-run s i (omega arith)) ∙ sym (run-append start (take i s) (getD s i 0 ∷ [])) ∙ ap (run start) (sym (take-suc s i 0 (omega arith)))
+    ap (λ (q : Scan). scanNext q (getD s i 0)) (after-run s i (omega arith)) ∙ sym (run-append start (take i s) (getD s i 0 ∷ [])) ∙ ap (run start) (sym (take-suc s i 0 (omega arith)))
 
 ended-is : (r : ℕ) → isEnded (ended r) ≡ true
 unfolding isEnded
@@ -117,14 +117,14 @@ stuck-fault s p k = record {
   where
     whole-clash : (h : Sheet) → Taken s h → p ≡ length s → ⊥
     whole-clash h t e =
-        let a : after s (length s) ≡ ended (4094 - countOf (h .steps)) = after-run s (length s) (omega arith) ∙ ap (run start) (take-length s) ∙ taken-ended s h t in
-        let b : isEnded (after s (length s)) ≡ false = subst (λ (n : ℕ). isEnded (after s n) ≡ false) e (k .short e) in
+        let a : scanAfter s (length s) ≡ ended (4094 - countOf (h .steps)) = after-run s (length s) (omega arith) ∙ ap (run start) (take-length s) ∙ taken-ended s h t in
+        let b : isEnded (scanAfter s (length s)) ≡ false = subst (λ (n : ℕ). isEnded (scanAfter s n) ≡ false) e (k .short e) in
         true≢false (sym (ended-is (4094 - countOf (h .steps))) ∙ ap isEnded (sym a) ∙ b)
 
-pub whole-taken : (s : List ℕ) (r : ℕ) → after s (length s) ≡ ended r → Reached s r
+pub whole-taken : (s : List ℕ) (r : ℕ) → scanAfter s (length s) ≡ ended r → Reached s r
 whole-taken s r e = ended-taken s r (sym (ap (run start) (take-length s)) ∙ sym (after-run s (length s) (omega arith)) ∙ e)
 
 -- a reading has at most 4,094 events to spare
-pub room-most : (s : List ℕ) (i r : ℕ) → i ≤ length s → after s i ≡ ended r → r ≤ 4094
+pub room-most : (s : List ℕ) (i r : ℕ) → i ≤ length s → scanAfter s i ≡ ended r → r ≤ 4094
 unfolding Means
 room-most s i r h e = let m = subst (λ (q : Scan). Means q (take i s)) (sym (after-run s i h) ∙ e) (means-all (take i s)) in omega (arith, m .counts)

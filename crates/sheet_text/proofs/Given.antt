@@ -12,16 +12,16 @@ use lib.Seq.{take-suc, take-length}
 use Rattle.laws.specs.Tests.{same}
 use Rattle.laws.proofs.Tests.{Is, is?, yes′, no′}
 use Rattle.rules.specs.Event.{Event, begin}
-use Rattle.sheet_text.specs.Scan.{Scan, start, between, within, ended, dead, Letter, plain, letterOf, isDigit, toCome, opened, stepped, next, after, isDead, isEnded}
+use Rattle.sheet_text.specs.Scan.{Scan, start, between, within, ended, dead, Letter, plain, letterOf, isDigit, toCome, opened, stepped, scanNext, scanAfter, isDead, isEnded}
 use Rattle.sheet_text.specs.Emit.{tokenOf, Reading, emit, emitAll, emits, unread}
 use Rattle.sheet_text.specs.Places.{Ends}
 use Rattle.sheet_text.proofs.Letters.{is-opening, too-few, no-level, no-room}
 use Rattle.sheet_text.proofs.Emitting.{at, inside, digit-emit, last-emit, lock-begin, write-begin, read-begin, open-one, emit-append}
 
-pub scan-is : (s : List ℕ) (i : ℕ) → emits s i .scan ≡ after s i
-unfolding emits emit after
+pub scan-is : (s : List ℕ) (i : ℕ) → emits s i .scan ≡ scanAfter s i
+unfolding emits emit scanAfter
 scan-is s zero = refl
-scan-is s (suc i) = ap (λ (q : Scan). next q (getD s i 0)) (scan-is s i)
+scan-is s (suc i) = ap (λ (q : Scan). scanNext q (getD s i 0)) (scan-is s i)
 
 emits-take : (s : List ℕ) (i : ℕ) → i ≤ length s → emits s i ≡ emitAll unread (take i s)
 unfolding emits emitAll
@@ -33,10 +33,10 @@ pub emits-all : (s : List ℕ) → emits s (length s) ≡ emitAll unread s
 emits-all s = emits-take s (length s) (omega arith) ∙ ap (emitAll unread) (take-length s)
 
 -- what is dead stays so
-dead-stays : (s : List ℕ) (i k : ℕ) → after s i ≡ dead → after s (i + k) ≡ dead
-unfolding after next
-dead-stays s i zero e = ap (after s) (add-zero i) ∙ e
-dead-stays s i (suc k) e = ap (after s) (add-suc i k) ∙ ap (λ (q : Scan). next q (getD s (i + k) 0)) (dead-stays s i k e)
+dead-stays : (s : List ℕ) (i k : ℕ) → scanAfter s i ≡ dead → scanAfter s (i + k) ≡ dead
+unfolding scanAfter scanNext
+dead-stays s i zero e = ap (scanAfter s) (add-zero i) ∙ e
+dead-stays s i (suc k) e = ap (scanAfter s) (add-suc i k) ∙ ap (λ (q : Scan). scanNext q (getD s (i + k) 0)) (dead-stays s i k e)
 
 pub is-dead : (q : Scan) → isDead q ≡ true → q ≡ dead
 unfolding isDead
@@ -46,27 +46,27 @@ is-dead (within k low l r) e = absurd (false≢true e)
 is-dead (ended r) e = absurd (false≢true e)
 is-dead dead e = refl
 
-dead-digit : (s : List ℕ) (j k low l r : ℕ) → after s j ≡ within k low l r → isDigit (same k low) (getD s j 0) ≡ false → after s (suc j) ≡ dead
-unfolding after next
-dead-digit s j k low l r e d = ap (λ (q : Scan). next q (getD s j 0)) e ∙ ap (λ (x : Bool). cond x (toCome k low l r) dead) d
+dead-digit : (s : List ℕ) (j k low l r : ℕ) → scanAfter s j ≡ within k low l r → isDigit (same k low) (getD s j 0) ≡ false → scanAfter s (suc j) ≡ dead
+unfolding scanAfter scanNext
+dead-digit s j k low l r e d = ap (λ (q : Scan). scanNext q (getD s j 0)) e ∙ ap (λ (x : Bool). cond x (toCome k low l r) dead) d
 
-pub dead-letter : (s : List ℕ) (j l r : ℕ) → after s j ≡ between l r → stepped (letterOf (getD s j 0)) l r ≡ dead → after s (suc j) ≡ dead
-unfolding after next
-dead-letter s j l r e d = ap (λ (q : Scan). next q (getD s j 0)) e ∙ d
+pub dead-letter : (s : List ℕ) (j l r : ℕ) → scanAfter s j ≡ between l r → stepped (letterOf (getD s j 0)) l r ≡ dead → scanAfter s (suc j) ≡ dead
+unfolding scanAfter scanNext
+dead-letter s j l r e d = ap (λ (q : Scan). scanNext q (getD s j 0)) e ∙ d
 
 module _ (s : List ℕ) (E : Ends s) where
-  pub alive : (i : ℕ) → i ≤ length s → after s i ≡ dead → ⊥
+  pub alive : (i : ℕ) → i ≤ length s → scanAfter s i ≡ dead → ⊥
   unfolding isDead
   alive i h e =
       let n : i + (length s - i) ≡ length s = omega arith in
-      true≢false (ap isDead (sym (dead-stays s i (length s - i) e) ∙ ap (after s) n ∙ E .is-so))
+      true≢false (ap isDead (sym (dead-stays s i (length s - i) e) ∙ ap (scanAfter s) n ∙ E .is-so))
 
   -- what has not ended goes on
-  pub on : (i : ℕ) (q : Scan) → i ≤ length s → after s i ≡ q → isEnded q ≡ false → i < length s
+  pub on : (i : ℕ) (q : Scan) → i ≤ length s → scanAfter s i ≡ q → isEnded q ≡ false → i < length s
   unfolding isEnded
-  on i q h e n = dite (decLt i (length s)) (λ l. l) (λ x. absurd (let z : i ≡ length s = omega arith in true≢false (ap isEnded (sym (E .is-so) ∙ ap (after s) (sym z) ∙ e) ∙ n)))
+  on i q h e n = dite (decLt i (length s)) (λ l. l) (λ x. absurd (let z : i ≡ length s = omega arith in true≢false (ap isEnded (sym (E .is-so) ∙ ap (scanAfter s) (sym z) ∙ e) ∙ n)))
 
-  scan-of : (i : ℕ) (q : Reading) → emits s i ≡ q → after s i ≡ q .scan
+  scan-of : (i : ℕ) (q : Reading) → emits s i ≡ q → scanAfter s i ≡ q .scan
   scan-of i q e = sym (scan-is s i) ∙ ap (λ (p : Reading). p .scan) e
 
   -- a digit, and the last one

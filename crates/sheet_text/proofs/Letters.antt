@@ -6,7 +6,7 @@ use Prim.Native.Nat.{ℕ, zero, suc, _-_, _≤_, _<_}
 use native.Mathlib.Omega.{arith}
 use Rattle.laws.specs.Tests.{same}
 use Rattle.laws.proofs.Tests.{ne-false, Same, is, isnt, same?}
-use Rattle.sheet_text.specs.Scan.{between, ended, dead, Letter, opening, closing, unknown, plain, letterOf, opened, left, stepped, begun, pick, open-scan}
+use Rattle.sheet_text.specs.Scan.{between, ended, dead, Letter, opening, closing, unknown, plain, letterOf, opened, levelClosed, stepped, scanOpened, pick, open-scan}
 
 -- which letter a byte is
 pub is-opening : {b : ℕ} → b ≡ 123 → letterOf b ≡ opening
@@ -64,7 +64,7 @@ opening-is b e = go (same? b 123)
     go (is p t t′) = p
     go (isnt n t t′) = absurd (other (same b 125) (same b 33) (same b 76) (same b 87) (same b 82) (sym (ap (λ (x : Bool). pick x opening (pick (same b 125) closing (pick (same b 33) closing (pick (same b 76) (plain 0 9) (pick (same b 87) (plain 4 3) (pick (same b 82) (plain 2 1) unknown)))))) t) ∙ e))
 
-pub begun-not : (x : Letter) → (x ≡ opening → ⊥) → begun x ≡ dead
+pub begun-not : (x : Letter) → (x ≡ opening → ⊥) → scanOpened x ≡ dead
 unfolding open-scan
 begun-not opening n = absurd (n refl)
 begun-not closing n = refl
@@ -99,7 +99,7 @@ has-both (suc l) (suc zero) p q = absurd (omega arith)
 has-both (suc l) (suc (suc r)) p q = let a : l ≡ suc l - 1 = omega arith in let b : r ≡ suc (suc r) - 2 = omega arith in λ i. between (a i) (b i)
 
 -- an inner transaction has ended: its level is free again
-pub level-up : (l r : ℕ) → 0 < l → l < 16 → left (l - 1) r ≡ between l r
+pub level-up : (l r : ℕ) → 0 < l → l < 16 → levelClosed (l - 1) r ≡ between l r
 unfolding open-scan
 level-up l r p q =
     let n : same (l - 1) 15 ≡ false = ne-false (l - 1) 15 (λ e. omega arith) in

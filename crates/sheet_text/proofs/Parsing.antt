@@ -8,8 +8,8 @@ use Rattle.laws.specs.Tests.{same, under, open-tests}
 use Rattle.laws.proofs.Tests.{under-lt, lt-under, ne-false, Same, is, isnt, same?, Is, yes′, no′, is?}
 use Rattle.laws.proofs.Booleans.{and-left, and-right, or-cases}
 use Rattle.sheet_text.specs.Sheet as sheet
-use Rattle.sheet_text.specs.Sheet.{Steps, none, locking, writing, reading, inner, Sheet, digit, digits, stepsText, text, proper, greater, depthOf, open-sheet}
-use Rattle.sheet_text.specs.Scan.{Scan, start, between, within, ended, dead, Letter, opening, closing, unknown, plain, letterOf, isDigit, toCome, opened, left, stepped, begun, next, open-scan}
+use Rattle.sheet_text.specs.Sheet.{Steps, none, locking, writing, reading, inner, Sheet, digit, digits, stepsText, text, proper, greater, stepsDepth, open-sheet}
+use Rattle.sheet_text.specs.Scan.{Scan, start, between, within, ended, dead, Letter, opening, closing, unknown, plain, letterOf, isDigit, toCome, opened, levelClosed, stepped, scanOpened, scanNext, open-scan}
 use Rattle.sheet_text.proofs.Count.{countOf, run, open-count}
 use Rattle.sheet_text.proofs.Letters.{is-opening, is-closing, is-closing-too, is-lock, is-write, is-read, is-unknown}
 
@@ -84,8 +84,8 @@ frameText (below f t) = frameText f ++ (123 ∷ stepsText t)
 
 -- they fit, with l levels and r events to spare
 data Fits : Frames → ℕ → ℕ → Type 0 where
-  fits-top : {t : Steps} {r : ℕ} → proper t ≡ true → depthOf t ≤ 15 → countOf t + r ≡ 4094 → Fits (top t) 15 r
-  fits-below : {f : Frames} {t : Steps} {l r n : ℕ} → Fits f (suc l) n → proper t ≡ true → depthOf t ≤ l → (countOf t + r) + 2 ≡ n → Fits (below f t) l r
+  fits-top : {t : Steps} {r : ℕ} → proper t ≡ true → stepsDepth t ≤ 15 → countOf t + r ≡ 4094 → Fits (top t) 15 r
+  fits-below : {f : Frames} {t : Steps} {l r n : ℕ} → Fits f (suc l) n → proper t ≡ true → stepsDepth t ≤ l → (countOf t + r) + 2 ≡ n → Fits (below f t) l r
 
 fits-low : {f : Frames} {l r : ℕ} → Fits f l r → l ≤ 15
 fits-low (fits-top p d e) = omega arith
@@ -99,7 +99,7 @@ extended g (below f t) = below f (g t)
 record Adds (g : Steps → Steps) (w : List ℕ) (k l : ℕ) : Type 0 where
   texts : (t : Steps) → stepsText (g t) ≡ stepsText t ++ w
   propers : (t : Steps) → proper t ≡ true → proper (g t) ≡ true
-  depths : (t : Steps) → depthOf t ≤ l → depthOf (g t) ≤ l
+  depths : (t : Steps) → stepsDepth t ≤ l → stepsDepth (g t) ≤ l
   counts : (t : Steps) → countOf (g t) ≡ countOf t + k
 
 extended-text : {g : Steps → Steps} {w : List ℕ} {k l : ℕ} → Adds g w k l → (f : Frames) → frameText (extended g f) ≡ frameText f ++ w
@@ -140,7 +140,7 @@ pub record AtEnd (p : List ℕ) (r : ℕ) : Type 0 where
   pub sheet : Sheet
   pub texts : text sheet ≡ p
   pub propers : proper (sheet .steps) ≡ true
-  pub shallow : depthOf (sheet .steps) ≤ 15
+  pub shallow : stepsDepth (sheet .steps) ≤ 15
   pub counts : countOf (sheet .steps) + r ≡ 4094
 
 -- what it means that a reading stands so
@@ -190,12 +190,12 @@ greater-within a b n h k = go (is? (under a b))
     go (yes′ e) = subst (λ (x : Bool). cond x b a ≤ n) (sym e) k
     go (no′ e) = subst (λ (x : Bool). cond x b a ≤ n) (sym e) h
 
-adds-inner : (i : Steps) (c : Bool) (l : ℕ) → proper i ≡ true → depthOf i ≤ l → Adds (λ t. inner t i c) (123 ∷ (stepsText i ++ (sheet.closing c ∷ []))) (countOf i + 2) (suc l)
+adds-inner : (i : Steps) (c : Bool) (l : ℕ) → proper i ≡ true → stepsDepth i ≤ l → Adds (λ t. inner t i c) (123 ∷ (stepsText i ++ (sheet.closing c ∷ []))) (countOf i + 2) (suc l)
 unfolding open-sheet open-count
 adds-inner i c l h d = record {
   texts = λ t. refl;
   propers = λ t e. simp (e, h);
-  depths = λ t e. greater-within (depthOf t) (suc (depthOf i)) (suc l) e (omega arith);
+  depths = λ t e. greater-within (stepsDepth t) (suc (stepsDepth i)) (suc l) e (omega arith);
   counts = λ t. refl;
 }
 
@@ -235,7 +235,7 @@ unfolding Means
 dead-means p = tt
 
 -- a letter more
-means-begun : (b : ℕ) (x : Letter) → View b x → Means (begun x) (b ∷ [])
+means-begun : (b : ℕ) (x : Letter) → View b x → Means (scanOpened x) (b ∷ [])
 unfolding open-scan Means frameText open-sheet open-count
 means-begun b opening (v-open e) = record { frames = top none; texts = ap (λ (y : ℕ). y ∷ []) (sym e); fits = fits-top {t = none} {r = 4094} refl (omega arith) refl }
 means-begun b closing (v-close c e) = tt
@@ -244,8 +244,8 @@ means-begun b x (v-write e) = tt
 means-begun b x (v-read e) = tt
 means-begun b unknown v-unknown = tt
 
-ends-as : (b l r : ℕ) (c : Bool) (p : List ℕ) (f : Frames) → b ≡ sheet.closing c → frameText f ≡ p → Fits f l r → Means (left l r) (p ++ (b ∷ []))
-unfolding left Means frameText text open-tests
+ends-as : (b l r : ℕ) (c : Bool) (p : List ℕ) (f : Frames) → b ≡ sheet.closing c → frameText f ≡ p → Fits f l r → Means (levelClosed l r) (p ++ (b ∷ []))
+unfolding levelClosed Means frameText text open-tests
 ends-as b l r c p (top t) e q (fits-top h d n) = record {
   sheet = record { steps = t; commits = c };
   texts = ap (λ (y : ℕ). 123 ∷ (stepsText t ++ (y ∷ []))) (sym e) ∙ ap (λ (z : List ℕ). z ++ (b ∷ [])) q;
@@ -297,9 +297,9 @@ within-next k low l r b p m = go (is? (isDigit (same k low) b))
     go (no′ d) = subst (λ (x : Bool). Means (cond x (toCome k low l r) dead) (p ++ (b ∷ []))) (sym d) (dead-means (p ++ (b ∷ [])))
 
 -- one byte more
-pub means-next : (q : Scan) (p : List ℕ) (b : ℕ) → Means q p → Means (next q b) (p ++ (b ∷ []))
-unfolding next Means
-means-next start p b m = subst (λ (z : List ℕ). Means (begun (letterOf b)) (z ++ (b ∷ []))) (sym m) (means-begun b (letterOf b) (view b))
+pub means-next : (q : Scan) (p : List ℕ) (b : ℕ) → Means q p → Means (scanNext q b) (p ++ (b ∷ []))
+unfolding scanNext Means
+means-next start p b m = subst (λ (z : List ℕ). Means (scanOpened (letterOf b)) (z ++ (b ∷ []))) (sym m) (means-begun b (letterOf b) (view b))
 means-next (between l r) p b m = means-stepped b (letterOf b) (view b) l r p m
 means-next (within k low l r) p b m = within-next k low l r b p m
 means-next (ended r) p b m = tt
@@ -309,7 +309,7 @@ means-next dead p b m = tt
 pub means-run : (q : Scan) (p l : List ℕ) → Means q p → Means (run q l) (p ++ l)
 unfolding run
 means-run q p [] m = subst (Means q) (sym (append-nil p)) m
-means-run q p (b ∷ l) m = subst (Means (run (next q b) l)) (append-assoc p (b ∷ []) l) (means-run (next q b) (p ++ (b ∷ [])) l (means-next q p b m))
+means-run q p (b ∷ l) m = subst (Means (run (scanNext q b) l)) (append-assoc p (b ∷ []) l) (means-run (scanNext q b) (p ++ (b ∷ [])) l (means-next q p b m))
 
 pub means-all : (l : List ℕ) → Means (run start l) l
 unfolding Means

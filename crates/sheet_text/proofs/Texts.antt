@@ -8,8 +8,8 @@ use lib.ListN.{length, length-append}
 use Rattle.laws.specs.Tests.{same, under, open-tests}
 use Rattle.laws.proofs.Tests.{under-lt, lt-under, not-under, Is, yes′, no′, is?}
 use Rattle.laws.proofs.Booleans.{and-left, and-right}
-use Rattle.sheet_text.specs.Sheet.{Steps, none, locking, writing, reading, inner, Sheet, digit, digits, closing, stepsText, text, proper, greater, depthOf, ending, eventsOf, events, Good, open-sheet}
-use Rattle.sheet_text.specs.Scan.{Scan, start, between, within, ended, dead, isDigit, toCome, opened, left, next, open-scan}
+use Rattle.sheet_text.specs.Sheet.{Steps, none, locking, writing, reading, inner, Sheet, digit, digits, closing, stepsText, text, proper, greater, stepsDepth, endEvent, stepEvents, events, Good, open-sheet}
+use Rattle.sheet_text.specs.Scan.{Scan, start, between, within, ended, dead, isDigit, toCome, opened, levelClosed, scanNext, open-scan}
 use Rattle.sheet_text.proofs.Count.{countOf, run, open-count}
 use Rattle.sheet_text.proofs.Letters.{has-both, level-up}
 
@@ -17,7 +17,7 @@ use Rattle.sheet_text.proofs.Letters.{has-both, level-up}
 pub run-append : (q : Scan) (a b : List ℕ) → run q (a ++ b) ≡ run (run q a) b
 unfolding run
 run-append q [] b = refl
-run-append q (x ∷ a) b = run-append (next q x) a b
+run-append q (x ∷ a) b = run-append (scanNext q x) a b
 
 -- which digit a number has
 below-ten : (n : ℕ) → under n 10 ≡ true → digit n ≡ 48 + n
@@ -42,7 +42,7 @@ unfolding isDigit
 digit-low n h = ap (isDigit true) (below-ten n (lt-under n 10 (omega arith))) ∙ simp (lt-under 47 (48 + n) (omega arith), lt-under (48 + n) 50 (omega arith))
 
 -- one digit
-digit-next : (k low l r b : ℕ) (t : Bool) → same k low ≡ t → isDigit t b ≡ true → next (within k low l r) b ≡ toCome k low l r
+digit-next : (k low l r b : ℕ) (t : Bool) → same k low ≡ t → isDigit t b ≡ true → scanNext (within k low l r) b ≡ toCome k low l r
 unfolding open-scan
 digit-next k low l r b t e d = ap (λ (x : Bool). cond (isDigit x b) (toCome k low l r) dead) e ∙ ap (λ (x : Bool). cond x (toCome k low l r) dead) d
 
@@ -68,12 +68,12 @@ read-read l r x o p hx ho hp =
     ∙ digit-next 0 1 l r (digit p) false refl (digit-any p hp)
 
 -- the end of a transaction
-closing-next : (l r : ℕ) (c : Bool) → next (between l r) (closing c) ≡ left l r
+closing-next : (l r : ℕ) (c : Bool) → scanNext (between l r) (closing c) ≡ levelClosed l r
 unfolding open-scan open-tests closing
 closing-next l r true = refl
 closing-next l r false = refl
 
-opening-next : (l r : ℕ) → next (between l r) 123 ≡ opened l r
+opening-next : (l r : ℕ) → scanNext (between l r) 123 ≡ opened l r
 unfolding open-scan open-tests
 opening-next l r = refl
 
@@ -98,7 +98,7 @@ piece : (l r r′ m : ℕ) (a b : List ℕ) → run (between l r) a ≡ between 
 piece l r r′ m a b e f = run-append (between l r) a b ∙ ap (λ (q : Scan). run q b) e ∙ f
 
 -- steps are read; r events are free after them
-pub steps-read : (t : Steps) (l r : ℕ) → proper t ≡ true → depthOf t ≤ l → l < 16 → run (between l (countOf t + r)) (stepsText t) ≡ between l r
+pub steps-read : (t : Steps) (l r : ℕ) → proper t ≡ true → stepsDepth t ≤ l → l < 16 → run (between l (countOf t + r)) (stepsText t) ≡ between l r
 unfolding open-sheet open-count
 steps-read none l r p d h = ap (between l) (omega arith)
 steps-read (locking t x) l r p d h =
@@ -122,12 +122,12 @@ steps-read (reading t x o) l r p d h =
     ∙ piece l _ (suc r) r (stepsText t) _ (steps-read t l (suc r) (and-left (proper t) _ p) d h) (read-read l r x (o / 16) (o % 16) hx (omega arith) (omega arith))
 steps-read (inner t i c) l r p d h =
     let e : (countOf t + (countOf i + 2)) + r ≡ countOf t + ((countOf i + r) + 2) = omega arith in
-    let deep : suc (depthOf i) ≤ l = greater-right (depthOf t) (suc (depthOf i)) l d in
+    let deep : suc (stepsDepth i) ≤ l = greater-right (stepsDepth t) (suc (stepsDepth i)) l d in
     ap (λ (n : ℕ). run (between l n) (stepsText t ++ (123 ∷ (stepsText i ++ (closing c ∷ []))))) e
-    ∙ piece l _ ((countOf i + r) + 2) r (stepsText t) _ (steps-read t l ((countOf i + r) + 2) (and-left (proper t) _ p) (greater-left (depthOf t) (suc (depthOf i)) l d) h)
+    ∙ piece l _ ((countOf i + r) + 2) r (stepsText t) _ (steps-read t l ((countOf i + r) + 2) (and-left (proper t) _ p) (greater-left (stepsDepth t) (suc (stepsDepth i)) l d) h)
     (inner-read l r i c deep h (steps-read i (l - 1) r (and-right (proper t) _ p) (omega arith) (omega arith)))
   where
-    inner-read : (l r : ℕ) (i : Steps) (c : Bool) → suc (depthOf i) ≤ l → l < 16 → run (between (l - 1) (countOf i + r)) (stepsText i) ≡ between (l - 1) r
+    inner-read : (l r : ℕ) (i : Steps) (c : Bool) → suc (stepsDepth i) ≤ l → l < 16 → run (between (l - 1) (countOf i + r)) (stepsText i) ≡ between (l - 1) r
         → run (between l ((countOf i + r) + 2)) (123 ∷ (stepsText i ++ (closing c ∷ []))) ≡ between l r
     inner-read l r i c deep h e =
         let back : ((countOf i + r) + 2) - 2 ≡ countOf i + r = omega arith in
@@ -136,30 +136,30 @@ steps-read (inner t i c) l r p d h =
         ∙ ap (λ (q : Scan). run q (closing c ∷ [])) e ∙ closing-next (l - 1) r c ∙ level-up l r (omega arith) h
 
 -- steps have as many events as they are counted
-pub events-count : (t : Steps) (k : ℕ) → length (eventsOf k t) ≡ countOf t
+pub events-count : (t : Steps) (k : ℕ) → length (stepEvents k t) ≡ countOf t
 unfolding open-sheet open-count
 events-count none k = refl
-events-count (locking t x) k = length-append (eventsOf k t) _ ∙ ap (λ (n : ℕ). n + 1) (events-count t k)
-events-count (writing t x o v) k = length-append (eventsOf k t) _ ∙ ap (λ (n : ℕ). n + 1) (events-count t k)
-events-count (reading t x o) k = length-append (eventsOf k t) _ ∙ ap (λ (n : ℕ). n + 1) (events-count t k)
+events-count (locking t x) k = length-append (stepEvents k t) _ ∙ ap (λ (n : ℕ). n + 1) (events-count t k)
+events-count (writing t x o v) k = length-append (stepEvents k t) _ ∙ ap (λ (n : ℕ). n + 1) (events-count t k)
+events-count (reading t x o) k = length-append (stepEvents k t) _ ∙ ap (λ (n : ℕ). n + 1) (events-count t k)
 events-count (inner t i c) k =
-    let a : length (eventsOf k t) ≡ countOf t = events-count t k in
-    let b : length (eventsOf (suc k) i) ≡ countOf i = events-count i (suc k) in
-    let d : length (eventsOf (suc k) i ++ (ending (suc k) c ∷ [])) ≡ length (eventsOf (suc k) i) + 1 = length-append (eventsOf (suc k) i) _ in
-    length-append (eventsOf k t) _ ∙ omega arith
+    let a : length (stepEvents k t) ≡ countOf t = events-count t k in
+    let b : length (stepEvents (suc k) i) ≡ countOf i = events-count i (suc k) in
+    let d : length (stepEvents (suc k) i ++ (endEvent (suc k) c ∷ [])) ≡ length (stepEvents (suc k) i) + 1 = length-append (stepEvents (suc k) i) _ in
+    length-append (stepEvents k t) _ ∙ omega arith
 
 pub sheet-count : (h : Sheet) → length (events h) ≡ countOf (h .steps) + 2
 unfolding events
 sheet-count h =
-    let b : length (eventsOf 0 (h .steps)) ≡ countOf (h .steps) = events-count (h .steps) 0 in
-    let d : length (eventsOf 0 (h .steps) ++ (ending 0 (h .commits) ∷ [])) ≡ length (eventsOf 0 (h .steps)) + 1 = length-append (eventsOf 0 (h .steps)) _ in
+    let b : length (stepEvents 0 (h .steps)) ≡ countOf (h .steps) = events-count (h .steps) 0 in
+    let d : length (stepEvents 0 (h .steps) ++ (endEvent 0 (h .commits) ∷ [])) ≡ length (stepEvents 0 (h .steps)) + 1 = length-append (stepEvents 0 (h .steps)) _ in
     omega arith
 
-begins : next start 123 ≡ between 15 4094
+begins : scanNext start 123 ≡ between 15 4094
 unfolding open-scan open-tests
 begins = refl
 
-left-top : (r : ℕ) → left 15 r ≡ ended r
+left-top : (r : ℕ) → levelClosed 15 r ≡ ended r
 unfolding open-scan open-tests
 left-top r = refl
 

@@ -17,12 +17,12 @@ use Rattle.rules.specs.Geometry.{nobody}
 use Rattle.rules.specs.Event.{Event, begin, lock, write, read, toWrite, word, encode, open-event}
 use Rattle.rules.specs.Editions.{geometry1}
 use Rattle.sheet_text.specs.Sheet as sheet
-use Rattle.sheet_text.specs.Sheet.{Sheet, events, ending, wordsOf, Taken}
-use Rattle.sheet_text.specs.Scan.{Scan, start, between, within, ended, dead, Letter, closing, plain, letterOf, left, next, after, stepped, isEnded}
+use Rattle.sheet_text.specs.Sheet.{Sheet, events, endEvent, eventBytes, Taken}
+use Rattle.sheet_text.specs.Scan.{Scan, start, between, within, ended, dead, Letter, closing, plain, letterOf, levelClosed, scanNext, scanAfter, stepped, isEnded}
 use Rattle.sheet_text.proofs.Count.{run}
 use Rattle.sheet_text.specs.Emit.{value, pairOf, offsetOf, tokenOf, Reading, given, emit, emitAll, emits, unread}
 use Rattle.sheet_text.specs.Made.{over}
-use Rattle.sheet_text.specs.Places.{Ends, reached, Place, Turns}
+use Rattle.sheet_text.specs.Places.{Ends, levelReached, Place, Turns}
 use Rattle.sheet_text.proofs.Letters.{is-lock, is-write, is-read, is-unknown, no-letter, begun-not, opening-is}
 use Rattle.sheet_text.proofs.Following.{whole-taken, taken-ended, after-run}
 use Rattle.sheet_text.proofs.Emitting.{at, sheet-emits, close-one, first-emit}
@@ -64,18 +64,18 @@ over-more a b l h =
     sets-eq b (a ++ drop (length a) l) (length a) n
     ∙ ap₂ (λ (x y : List ℕ). x ++ b ++ y) (take-append-seam a (drop (length a) l)) (drop-append-add a (drop (length a) l) (length b) ∙ drop-drop (length b) (length a) l ∙ ap (λ (k : ℕ). drop k l) (sym (length-append a b)))
 
-pub words-length : (es : List Event) → length (wordsOf es) ≡ 4 * length es
-unfolding wordsOf
+pub words-length : (es : List Event) → length (eventBytes es) ≡ 4 * length es
+unfolding eventBytes
 words-length [] = refl
-words-length (e ∷ es) = length-append (bytes 4 (encode geometry1 e)) (wordsOf es) ∙ ap₂ (λ (x y : ℕ). x + y) (bytes-length 4 (encode geometry1 e)) (words-length es) ∙ omega arith
+words-length (e ∷ es) = length-append (bytes 4 (encode geometry1 e)) (eventBytes es) ∙ ap₂ (λ (x y : ℕ). x + y) (bytes-length 4 (encode geometry1 e)) (words-length es) ∙ omega arith
 
-pub words-append : (es fs : List Event) → wordsOf (es ++ fs) ≡ wordsOf es ++ wordsOf fs
-unfolding wordsOf
+pub words-append : (es fs : List Event) → eventBytes (es ++ fs) ≡ eventBytes es ++ eventBytes fs
+unfolding eventBytes
 words-append [] fs = refl
-words-append (e ∷ es) fs = ap (λ (x : List ℕ). bytes 4 (encode geometry1 e) ++ x) (words-append es fs) ∙ sym (append-assoc (bytes 4 (encode geometry1 e)) (wordsOf es) (wordsOf fs))
+words-append (e ∷ es) fs = ap (λ (x : List ℕ). bytes 4 (encode geometry1 e) ++ x) (words-append es fs) ∙ sym (append-assoc (bytes 4 (encode geometry1 e)) (eventBytes es) (eventBytes fs))
 
-pub words-one : (e : Event) → wordsOf (e ∷ []) ≡ bytes 4 (encode geometry1 e)
-unfolding wordsOf
+pub words-one : (e : Event) → eventBytes (e ∷ []) ≡ bytes 4 (encode geometry1 e)
+unfolding eventBytes
 words-one e = append-nil (bytes 4 (encode geometry1 e))
 
 -- what stands lower is covered
@@ -106,8 +106,8 @@ pub taken-events : (s : List ℕ) (h : Sheet) → Taken s h → emits s (length 
 taken-events s h t = ap (λ (q : Reading). q .events) (emits-all s) ∙ ap (λ (l : List ℕ). emitAll unread l .events) (sym (t .reads)) ∙ sheet-emits h (t .good)
 
 -- a level up, or the end
-left-reached : (l r : ℕ) → l < 16 → left l r ≡ reached (l + 1) r
-unfolding left reached open-tests
+left-reached : (l r : ℕ) → l < 16 → levelClosed l r ≡ levelReached (l + 1) r
+unfolding levelClosed levelReached open-tests
 left-reached l r h = dite (ℕ-discrete l 15)
     (λ z. ap (λ (n : ℕ). cond (same n 15) (ended r) (between (suc n) r)) z ∙ sym (ap (λ (n : ℕ). cond (same (n + 1) 16) (ended r) (between (n + 1) r)) z))
     (λ z. let m : suc l ≡ l + 1 = omega arith in
@@ -122,16 +122,16 @@ module _ (s : List ℕ) (E : Ends s) where
       let e = ap length (taken-events s (w .sheet) (w .taken)) in
       omega (arith, g, e, w .taken .good .short)
 
-  unfold-start : (s : List ℕ) → after s 0 ≡ start
-  unfolding after
+  unfold-start : (s : List ℕ) → scanAfter s 0 ≡ start
+  unfolding scanAfter
   unfold-start s = refl
 
   unfold-ended : Unit {0} → isEnded start ≡ false
   unfolding isEnded
   unfold-ended u = refl
 
-  unfold-dead : (s : List ℕ) → (getD s 0 0 ≡ 123 → ⊥) → after s 1 ≡ dead
-  unfolding after next
+  unfold-dead : (s : List ℕ) → (getD s 0 0 ≡ 123 → ⊥) → scanAfter s 1 ≡ dead
+  unfolding scanAfter scanNext
   unfold-dead s n = begun-not (letterOf (getD s 0 0)) (λ e. n (opening-is (getD s 0 0) e))
 
   pub first-byte : (0 < length s) × (getD s 0 0 ≡ 123)
@@ -141,20 +141,20 @@ module _ (s : List ℕ) (E : Ends s) where
   )
 
   pub inside-low : (i l : ℕ) → i < length s → Place s i l → l < 16
-  unfolding reached next after same
+  unfolding levelReached scanNext scanAfter same
   inside-low i l h p = dite (decLt l 16) (λ k. k) (λ k. absurd (
       let z : l ≡ 16 = omega (arith, p .low) in
-      let e : after s i ≡ ended (p .room) = sym (scan-is s i) ∙ p .scan ∙ ap (λ (n : ℕ). reached n (p .room)) z in
-      given-of.alive s E (suc i) h (ap (λ (q : Scan). next q (getD s i 0)) e)))
+      let e : scanAfter s i ≡ ended (p .room) = sym (scan-is s i) ∙ p .scan ∙ ap (λ (n : ℕ). levelReached n (p .room)) z in
+      given-of.alive s E (suc i) h (ap (λ (q : Scan). scanNext q (getD s i 0)) e)))
 
   pub stands-at : (i l : ℕ) → l < 16 → (p : Place s i l) → emits s i ≡ at l (p .room) (emits s i .events)
-  unfolding reached
+  unfolding levelReached
   stands-at i l h p =
       let e : emits s i .scan ≡ between l (p .room) = p .scan ∙ ap (λ (b : Bool). cond b (ended (p .room)) (between l (p .room))) (ne-false l 16 (λ q. omega arith)) in
       λ k. record { scan = e k; part = p .part k; events = emits s i .events }
 
   is-place : (i l r : ℕ) (es : List Event) → l < 16 → emits s i ≡ at l r es → Place s i l
-  unfolding reached
+  unfolding levelReached
   is-place i l r es h e = record {
     room = r;
     low = omega arith;
@@ -172,16 +172,16 @@ module _ (s : List ℕ) (E : Ends s) where
     gives = ap (λ (q : Reading). q .events) (t .then);
   }
 
-  closed-turns : (i l r w : ℕ) (c : Bool) → i < length s → l < 16 → emits s i ≡ at l r (emits s i .events) → getD s i 0 ≡ sheet.closing c → w ≡ encode geometry1 (ending (15 - l) c) → Turns s i w (i + 1) (l + 1)
-  unfolding emits reached left
+  closed-turns : (i l r w : ℕ) (c : Bool) → i < length s → l < 16 → emits s i ≡ at l r (emits s i .events) → getD s i 0 ≡ sheet.closing c → w ≡ encode geometry1 (endEvent (15 - l) c) → Turns s i w (i + 1) (l + 1)
+  unfolding emits levelReached levelClosed
   closed-turns i l r w c h k e x v =
       let m : suc i ≡ i + 1 = omega arith in
-      let a : emits s (i + 1) ≡ record { scan = left l r; part = []; events = emits s i .events ++ (ending (15 - l) c ∷ []) } = ap (emits s) (sym m) ∙ ap (λ (q : Reading). emit q (getD s i 0)) e ∙ ap (emit (at l r (emits s i .events))) x ∙ close-one l r c (emits s i .events) in
+      let a : emits s (i + 1) ≡ record { scan = levelClosed l r; part = []; events = emits s i .events ++ (endEvent (15 - l) c ∷ []) } = ap (emits s) (sym m) ∙ ap (λ (q : Reading). emit q (getD s i 0)) e ∙ ap (emit (at l r (emits s i .events))) x ∙ close-one l r c (emits s i .events) in
       record {
         further = omega arith;
         within = omega arith;
         place = record { room = r; low = omega arith; scan = ap (λ (q : Reading). q .scan) a ∙ left-reached l r k; part = ap (λ (q : Reading). q .part) a };
-        event = ending (15 - l) c;
+        event = endEvent (15 - l) c;
         coded = v;
         gives = ap (λ (q : Reading). q .events) a;
       }
@@ -196,11 +196,11 @@ module _ (s : List ℕ) (E : Ends s) where
       (g .0, token-turns i 1 (l - 1) (p .room - 2) w (begin (15 - l)) (omega arith) (omega arith) (given-of.go-open s E i l (p .room) _ h e x (g .0) (g .1)) v)
 
   pub commit-turns : (i l w : ℕ) → i < length s → Place s i l → getD s i 0 ≡ 125 → w ≡ word geometry1 5 (15 - l) 0 0 63 0 → Turns s i w (i + 1) (l + 1)
-  unfolding encode ending sheet.closing
+  unfolding encode endEvent sheet.closing
   commit-turns i l w h p x v = let k = inside-low i l h p in closed-turns i l (p .room) w true h k (stands-at i l k p) x v
 
   pub abort-turns : (i l w : ℕ) → i < length s → Place s i l → getD s i 0 ≡ 33 → w ≡ word geometry1 6 (15 - l) 0 0 0 0 → Turns s i w (i + 1) (l + 1)
-  unfolding encode ending sheet.closing open-event
+  unfolding encode endEvent sheet.closing open-event
   abort-turns i l w h p x v = let k = inside-low i l h p in closed-turns i l (p .room) w false h k (stands-at i l k p) x v
 
   roomy : (i l n low : ℕ) → i < length s → (p : Place s i l) → letterOf (getD s i 0) ≡ plain n low → emits s i ≡ at l (suc (p .room - 1)) (emits s i .events)
@@ -268,7 +268,7 @@ pub record Filling (s l₀ l : List ℕ) (i levels k : ℕ) : Type 0 where
   pub within : i ≤ length s
   pub place : Place s i levels
   pub count : length (emits s i .events) ≡ k
-  pub filled : l ≡ over (wordsOf (emits s i .events)) l₀
+  pub filled : l ≡ over (eventBytes (emits s i .events)) l₀
   pub long : 16384 ≤ length l₀
 
 module _ (s : List ℕ) (E : Ends s) where
@@ -276,9 +276,9 @@ module _ (s : List ℕ) (E : Ends s) where
   unfolding emits
   begun-reading = ap (emit unread) (first-byte s E .1) ∙ first-emit
 
-  begun-words : (w : ℕ) → w ≡ word geometry1 1 31 0 0 0 0 → wordsOf (emits s 1 .events) ≡ bytes 4 w
+  begun-words : (w : ℕ) → w ≡ word geometry1 1 31 0 0 0 0 → eventBytes (emits s 1 .events) ≡ bytes 4 w
   unfolding encode
-  begun-words w v = ap (λ (q : Reading). wordsOf (q .events)) begun-reading ∙ words-one (begin nobody) ∙ ap (bytes 4) (sym v)
+  begun-words w v = ap (λ (q : Reading). eventBytes (q .events)) begun-reading ∙ words-one (begin nobody) ∙ ap (bytes 4) (sym v)
 
   begun-over : (l l₀ : List ℕ) (w : ℕ) → 16384 ≤ length l → l₀ ≡ sets l 0 (bytes 4 w) → l₀ ≡ over (bytes 4 w) l
   begun-over l l₀ w h e = let n = bytes-length 4 w in e ∙ ap (λ (x : List ℕ). sets x 0 (bytes 4 w)) (over-none l) ∙ over-more [] (bytes 4 w) l (omega (arith, n))
@@ -287,7 +287,7 @@ module _ (s : List ℕ) (E : Ends s) where
   filling-length {l₀} {l} {i} {v} {k} f =
       let n = few s E i (f .within) in
       let m = words-length (emits s i .events) in
-      ap length (f .filled) ∙ length-over (wordsOf (emits s i .events)) l₀ (omega (arith, n, m, f .long))
+      ap length (f .filled) ∙ length-over (eventBytes (emits s i .events)) l₀ (omega (arith, n, m, f .long))
 
   pub filling-start : (l l₀ : List ℕ) (w : ℕ) → 16384 ≤ length l → l₀ ≡ sets l 0 (bytes 4 w) → w ≡ word geometry1 1 31 0 0 0 0 → Filling s l₀ l₀ 1 15 1
   filling-start l l₀ w h e v =
@@ -317,21 +317,21 @@ module _ (s : List ℕ) (E : Ends s) where
       let m = words-length es in
       let b = bytes-length 4 w in
       let q = filling-length f in
-      let a : 4 * k ≡ length (wordsOf es) = omega (arith, m, f .count) in
+      let a : 4 * k ≡ length (eventBytes es) = omega (arith, m, f .count) in
       let o : length (t .event ∷ []) ≡ 1 = refl in
       record {
         within = t .within;
         place = t .place;
         count = ap length (t .gives) ∙ length-append es (t .event ∷ []) ∙ omega (arith, f .count, o);
-        filled = e ∙ ap₂ (λ (x : List ℕ) (n : ℕ). sets x n (bytes 4 w)) (f .filled) a ∙ over-more (wordsOf es) (bytes 4 w) l₀ (omega (arith, a, b, q, r .1))
-            ∙ ap (λ (x : List ℕ). over (wordsOf es ++ x) l₀) (ap (bytes 4) (t .coded) ∙ sym (words-one (t .event))) ∙ ap (λ (x : List ℕ). over x l₀) (sym (words-append es (t .event ∷ [])) ∙ ap wordsOf (sym (t .gives)));
+        filled = e ∙ ap₂ (λ (x : List ℕ) (n : ℕ). sets x n (bytes 4 w)) (f .filled) a ∙ over-more (eventBytes es) (bytes 4 w) l₀ (omega (arith, a, b, q, r .1))
+            ∙ ap (λ (x : List ℕ). over (eventBytes es ++ x) l₀) (ap (bytes 4) (t .coded) ∙ sym (words-one (t .event))) ∙ ap (λ (x : List ℕ). over x l₀) (sym (words-append es (t .event ∷ [])) ∙ ap eventBytes (sym (t .gives)));
         long = f .long;
       }
 
-  pub filling-all : (l l₀ l′ : List ℕ) (w : ℕ) {i v k : ℕ} → 16384 ≤ length l → l₀ ≡ sets l 0 (bytes 4 w) → w ≡ word geometry1 1 31 0 0 0 0 → 1 ≤ k → Filling s l₀ l′ i v k → length s ≤ i → l′ ≡ over (wordsOf (emits s (length s) .events)) l
+  pub filling-all : (l l₀ l′ : List ℕ) (w : ℕ) {i v k : ℕ} → 16384 ≤ length l → l₀ ≡ sets l 0 (bytes 4 w) → w ≡ word geometry1 1 31 0 0 0 0 → 1 ≤ k → Filling s l₀ l′ i v k → length s ≤ i → l′ ≡ over (eventBytes (emits s (length s) .events)) l
   filling-all l l₀ l′ w {i} {v} {k} h e z p f q =
       let es = emits s i .events in
       let m = words-length es in
       let b = bytes-length 4 w in
       let n : i ≡ length s = omega (arith, f .within) in
-      f .filled ∙ ap (over (wordsOf es)) (begun-over l l₀ w h e) ∙ over-over (wordsOf es) (bytes 4 w) l (omega (arith, m, b, f .count)) ∙ ap (λ (j : ℕ). over (wordsOf (emits s j .events)) l) n
+      f .filled ∙ ap (over (eventBytes es)) (begun-over l l₀ w h e) ∙ over-over (eventBytes es) (bytes 4 w) l (omega (arith, m, b, f .count)) ∙ ap (λ (j : ℕ). over (eventBytes (emits s j .events)) l) n

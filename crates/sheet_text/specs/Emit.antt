@@ -6,8 +6,8 @@ use lib.ListN.{getD}
 use Rattle.laws.specs.Tests.{same, under}
 use Rattle.rules.specs.Geometry.{nobody, pageSize}
 use Rattle.rules.specs.Event.{Event, begin, lock, write, read, toWrite}
-use Rattle.sheet_text.specs.Sheet.{ending}
-use Rattle.sheet_text.specs.Scan.{Scan, start, between, within, ended, dead, Letter, opening, closing, unknown, plain, letterOf, next}
+use Rattle.sheet_text.specs.Sheet.{endEvent}
+use Rattle.sheet_text.specs.Scan.{Scan, start, between, within, ended, dead, Letter, opening, closing, unknown, plain, letterOf, scanNext}
 
 -- The number that a digit stands for; of what is no digit some number below 16. So every event has a word, and the code need not look at digits twice.
 unfoldable pub value : ℕ → ℕ
@@ -34,7 +34,7 @@ pub record Reading : Type 0 where
 
 unfoldable pub givenBy : Letter → ℕ → ℕ → List Event
 givenBy opening t b = begin t ∷ []
-givenBy closing t b = ending t (same b 125) ∷ []
+givenBy closing t b = endEvent t (same b 125) ∷ []
 givenBy unknown t b = []
 givenBy (plain n low) t b = []
 
@@ -62,7 +62,7 @@ partNext (ended r) part b = []
 partNext dead part b = []
 
 unfoldable pub emit : Reading → ℕ → Reading
-emit q b = record { scan = next (q .scan) b; part = partNext (q .scan) (q .part) b; events = q .events ++ given (q .scan) (q .part) b }
+emit q b = record { scan = scanNext (q .scan) b; part = partNext (q .scan) (q .part) b; events = q .events ++ given (q .scan) (q .part) b }
 
 unfoldable pub emitAll : Reading → List ℕ → Reading
 emitAll q [] = q

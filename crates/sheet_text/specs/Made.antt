@@ -3,7 +3,7 @@ use mathlib.Core.Path.{_≡_}
 use mathlib.Core.List.{List, _++_}
 use Prim.Native.Nat.{ℕ, _≤_, _<_}
 use lib.ListN.{length, drop}
-use Rattle.sheet_text.specs.Sheet.{Sheet, listOf, Taken, Fault}
+use Rattle.sheet_text.specs.Sheet.{Sheet, sheetList, Taken, Fault}
 
 -- a list over the first bytes of another, whose rest stays
 unfoldable pub over : List ℕ → List ℕ → List ℕ
@@ -17,4 +17,4 @@ pub data Made (s l : List ℕ) (t r : ℕ) (l′ : List ℕ) (t′ : ℕ) : Type
   -- no taken sheet: the place is told
   wrong : 16384 ≤ length l → Fault s t′ → r ≡ 29 → l′ ≡ l → Made s l t r l′ t′
   -- a taken sheet: its list, and the list's length in bytes
-  listed : 16384 ≤ length l → (h : Sheet) → Taken s h → r ≡ 0 → ((k : Sheet) → Taken s k → (l′ ≡ over (listOf k) l) × (t′ ≡ length (listOf k))) → Made s l t r l′ t′
+  listed : 16384 ≤ length l → (h : Sheet) → Taken s h → r ≡ 0 → ((k : Sheet) → Taken s k → (l′ ≡ over (sheetList k) l) × (t′ ≡ length (sheetList k))) → Made s l t r l′ t′

@@ -7,23 +7,23 @@ use lib.ListN.{length}
 use Rattle.laws.specs.Tests.{same}
 use Rattle.rules.specs.Event.{Event, encode}
 use Rattle.rules.specs.Editions.{geometry1}
-use Rattle.sheet_text.specs.Scan.{Scan, between, ended, after}
+use Rattle.sheet_text.specs.Scan.{Scan, between, ended, scanAfter}
 use Rattle.sheet_text.specs.Emit.{emits}
 
 -- the reading of s comes to an end
 pub record Ends (s : List ℕ) : Type 0 where
   pub room : ℕ
-  pub is-so : after s (length s) ≡ ended room
+  pub is-so : scanAfter s (length s) ≡ ended room
 
 -- between two steps; level 16 is behind the end
-unfoldable pub reached : ℕ → ℕ → Scan
-reached l r = cond (same l 16) (ended r) (between l r)
+unfoldable pub levelReached : ℕ → ℕ → Scan
+levelReached l r = cond (same l 16) (ended r) (between l r)
 
 -- after i bytes of s stands no part of a step
 pub record Place (s : List ℕ) (i l : ℕ) : Type 0 where
   pub room : ℕ
   pub low : l < 17
-  pub scan : emits s i .scan ≡ reached l room
+  pub scan : emits s i .scan ≡ levelReached l room
   pub part : emits s i .part ≡ []
 
 -- the step at i gives one event, whose word is w; behind it, at i′, stands level l′

@@ -55,37 +55,37 @@ opened (suc l) (suc zero) = dead
 opened (suc l) (suc (suc r)) = between l r
 
 -- at level 15 stands the top transaction
-unfoldable pub left : ℕ → ℕ → Scan
-left l r = cond (same l 15) (ended r) (between (suc l) r)
+unfoldable pub levelClosed : ℕ → ℕ → Scan
+levelClosed l r = cond (same l 15) (ended r) (between (suc l) r)
 
 unfoldable pub stepped : Letter → ℕ → ℕ → Scan
 stepped opening l r = opened l r
-stepped closing l r = left l r
+stepped closing l r = levelClosed l r
 stepped unknown l r = dead
 stepped (plain n low) l zero = dead
 stepped (plain n low) l (suc r) = within n low l r
 
-unfoldable pub begun : Letter → Scan
-begun opening = between 15 4094
-begun closing = dead
-begun unknown = dead
-begun (plain n low) = dead
+unfoldable pub scanOpened : Letter → Scan
+scanOpened opening = between 15 4094
+scanOpened closing = dead
+scanOpened unknown = dead
+scanOpened (plain n low) = dead
 
-unfoldable pub next : Scan → ℕ → Scan
-next start b = begun (letterOf b)
-next (between l r) b = stepped (letterOf b) l r
-next (within k low l r) b = cond (isDigit (same k low) b) (toCome k low l r) dead
-next (ended r) b = dead
-next dead b = dead
+unfoldable pub scanNext : Scan → ℕ → Scan
+scanNext start b = scanOpened (letterOf b)
+scanNext (between l r) b = stepped (letterOf b) l r
+scanNext (within k low l r) b = cond (isDigit (same k low) b) (toCome k low l r) dead
+scanNext (ended r) b = dead
+scanNext dead b = dead
 
 -- after the first i bytes of s
-unfoldable pub after : List ℕ → ℕ → Scan
-after s zero = start
-after s (suc i) = next (after s i) (getD s i 0)
+unfoldable pub scanAfter : List ℕ → ℕ → Scan
+scanAfter s zero = start
+scanAfter s (suc i) = scanNext (scanAfter s i) (getD s i 0)
 
 -- the reading of s stands at q after i bytes
 pub record Stands (s : List ℕ) (i : ℕ) (q : Scan) : Type 0 where
-  pub is : after s i ≡ q
+  pub is : scanAfter s i ≡ q
 
 unfoldable pub isDead : Scan → Bool
 isDead start = false
@@ -104,11 +104,11 @@ isEnded dead = false
 -- the reading of s stops at p: all before is fine, and byte p is not, or the text ends there too soon
 pub record Stuck (s : List ℕ) (p : ℕ) : Type 0 where
   pub within : p ≤ length s
-  pub alive : isDead (after s p) ≡ false
-  pub stops : p < length s → after s (suc p) ≡ dead
-  pub short : p ≡ length s → isEnded (after s p) ≡ false
+  pub alive : isDead (scanAfter s p) ≡ false
+  pub stops : p < length s → scanAfter s (suc p) ≡ dead
+  pub short : p ≡ length s → isEnded (scanAfter s p) ≡ false
 
 -- opens the definitions of this module: for what is proved by computing
 unfoldable pub open-scan : Unit {0}
-unfolding pick letterOf isDigit toCome opened left stepped begun next after isDead isEnded
+unfolding pick letterOf isDigit toCome opened levelClosed stepped scanOpened scanNext scanAfter isDead isEnded
 open-scan = tt

@@ -62,41 +62,41 @@ proper (inner s i c) = proper s && proper i
 unfoldable pub greater : ℕ → ℕ → ℕ
 greater a b = cond (under a b) b a
 
-unfoldable pub depthOf : Steps → ℕ
-depthOf none = 0
-depthOf (locking s r) = depthOf s
-depthOf (writing s r o v) = depthOf s
-depthOf (reading s r o) = depthOf s
-depthOf (inner s i c) = greater (depthOf s) (suc (depthOf i))
+unfoldable pub stepsDepth : Steps → ℕ
+stepsDepth none = 0
+stepsDepth (locking s r) = stepsDepth s
+stepsDepth (writing s r o v) = stepsDepth s
+stepsDepth (reading s r o) = stepsDepth s
+stepsDepth (inner s i c) = greater (stepsDepth s) (suc (stepsDepth i))
 
 -- the transaction ends: with count 63, or without a report
-unfoldable pub ending : ℕ → Bool → Event
-ending t true = commit t 63
-ending t false = abort t false
+unfoldable pub endEvent : ℕ → Bool → Event
+endEvent t true = commit t 63
+endEvent t false = abort t false
 
 -- the events of the steps of transaction t; the numbers are depth minus 1
-unfoldable pub eventsOf : ℕ → Steps → List Event
-eventsOf t none = []
-eventsOf t (locking s r) = eventsOf t s ++ (lock t r toWrite ∷ [])
-eventsOf t (writing s r o v) = eventsOf t s ++ (write t r o v ∷ [])
-eventsOf t (reading s r o) = eventsOf t s ++ (read t r o ∷ [])
-eventsOf t (inner s i c) = eventsOf t s ++ (begin t ∷ (eventsOf (suc t) i ++ (ending (suc t) c ∷ [])))
+unfoldable pub stepEvents : ℕ → Steps → List Event
+stepEvents t none = []
+stepEvents t (locking s r) = stepEvents t s ++ (lock t r toWrite ∷ [])
+stepEvents t (writing s r o v) = stepEvents t s ++ (write t r o v ∷ [])
+stepEvents t (reading s r o) = stepEvents t s ++ (read t r o ∷ [])
+stepEvents t (inner s i c) = stepEvents t s ++ (begin t ∷ (stepEvents (suc t) i ++ (endEvent (suc t) c ∷ [])))
 
 unfoldable pub events : Sheet → List Event
-events h = begin nobody ∷ (eventsOf 0 (h .steps) ++ (ending 0 (h .commits) ∷ []))
+events h = begin nobody ∷ (stepEvents 0 (h .steps) ++ (endEvent 0 (h .commits) ∷ []))
 
 -- the list of event words
-unfoldable pub wordsOf : List Event → List ℕ
-wordsOf [] = []
-wordsOf (e ∷ l) = bytes 4 (encode geometry1 e) ++ wordsOf l
+unfoldable pub eventBytes : List Event → List ℕ
+eventBytes [] = []
+eventBytes (e ∷ l) = bytes 4 (encode geometry1 e) ++ eventBytes l
 
-unfoldable pub listOf : Sheet → List ℕ
-listOf h = wordsOf (events h)
+unfoldable pub sheetList : Sheet → List ℕ
+sheetList h = eventBytes (events h)
 
 -- A sheet that is taken: digits as they should be, at most 16 deep, at most 4,096 events.
 pub record Good (h : Sheet) : Type 0 where
   pub fits : proper (h .steps) ≡ true
-  pub shallow : suc (depthOf (h .steps)) ≤ geometry1 .depthLimit
+  pub shallow : suc (stepsDepth (h .steps)) ≤ geometry1 .depthLimit
   pub short : length (events h) ≤ longest
 
 -- s is the text of h, which is taken
@@ -119,5 +119,5 @@ pub record Fault (s : List ℕ) (p : ℕ) : Type 0 where
 
 -- opens the definitions of this module: for what is proved by computing
 unfoldable pub open-sheet : Unit {0}
-unfolding digit digits closing stepsText text proper greater depthOf ending eventsOf events wordsOf listOf
+unfolding digit digits closing stepsText text proper greater stepsDepth endEvent stepEvents events eventBytes sheetList
 open-sheet = tt

@@ -4,27 +4,27 @@ use mathlib.Core.List.{List, [], _∷_, _++_}
 use Prim.Native.Nat.{ℕ, zero, suc}
 use lib.ListN.{length, replicate}
 use Rattle.laws.specs.Bytes.{bytes}
-use Rattle.sheet_text.specs.Sheet.{Sheet, events, listOf, Taken, Fault}
+use Rattle.sheet_text.specs.Sheet.{Sheet, events, sheetList, Taken, Fault}
 
-pub data Due : Type 0 where
+pub data SheetDue : Type 0 where
   -- a taken sheet that becomes these event words
-  becomes : List ℕ → Due
+  becomes : List ℕ → SheetDue
   -- a taken sheet with so many events
-  lasts : ℕ → Due
+  lasts : ℕ → SheetDue
   -- none that is taken; the place of its fault
-  fails : ℕ → Due
+  fails : ℕ → SheetDue
 
-pub data Row : Type 0 where
-  reads : List ℕ → Due → Row
+pub data SheetRow : Type 0 where
+  reads : List ℕ → SheetDue → SheetRow
 
-abbrev pub spelled : List ℕ → List ℕ
-spelled [] = []
-spelled (w ∷ ws) = bytes 4 w ++ spelled ws
+abbrev pub spelledWords : List ℕ → List ℕ
+spelledWords [] = []
+spelledWords (w ∷ ws) = bytes 4 w ++ spelledWords ws
 
 pub record Becomes (s : List ℕ) (ws : List ℕ) : Type 0 where
   pub sheet : Sheet
   pub taken : Taken s sheet
-  pub list : listOf sheet ≡ spelled ws
+  pub list : sheetList sheet ≡ spelledWords ws
 
 pub record Lasts (s : List ℕ) (n : ℕ) : Type 0 where
   pub sheet : Sheet
@@ -32,22 +32,22 @@ pub record Lasts (s : List ℕ) (n : ℕ) : Type 0 where
   pub long : length (events sheet) ≡ n
 
 -- the definitions say so of the text
-abbrev pub Says : Row → Type 0
+abbrev pub Says : SheetRow → Type 0
 Says (reads s (becomes ws)) = Becomes s ws
 Says (reads s (lasts n)) = Lasts s n
 Says (reads s (fails p)) = Fault s p
 
-abbrev pub AllSay : List Row → Type 0
+abbrev pub AllSay : List SheetRow → Type 0
 AllSay [] = Unit {0}
 AllSay (r ∷ rs) = Says r × AllSay rs
 
 -- so many locks of record 0
-abbrev pub locks : ℕ → List ℕ
-locks zero = []
-locks (suc n) = 0x4C ∷ 0x30 ∷ locks n
+abbrev pub lockSteps : ℕ → List ℕ
+lockSteps zero = []
+lockSteps (suc n) = 0x4C ∷ 0x30 ∷ lockSteps n
 
-abbrev pub rows : List Row
-rows =
+abbrev pub sheetRows : List SheetRow
+sheetRows =
     -- {}  {!  {!}
     reads (bytes 2 0x7B7D) (becomes (0x1F800000 ∷ 0x50003F00 ∷ [])) ∷
     reads (bytes 2 0x7B21) (becomes (0x1F800000 ∷ 0x60000000 ∷ [])) ∷
@@ -80,9 +80,9 @@ rows =
     reads (replicate 17 0x7B) (fails 16) ∷
     reads (replicate 16 0x7B ++ (0x7D ∷ 0x7B ∷ replicate 16 0x7D)) (lasts 34) ∷
     -- 4,096 events, and one lock more, bad at its letter
-    reads (0x7B ∷ (locks 4094 ++ (0x7D ∷ []))) (lasts 4096) ∷
-    reads (0x7B ∷ (locks 4095 ++ (0x7D ∷ []))) (fails 8189) ∷
+    reads (0x7B ∷ (lockSteps 4094 ++ (0x7D ∷ []))) (lasts 4096) ∷
+    reads (0x7B ∷ (lockSteps 4095 ++ (0x7D ∷ []))) (fails 8189) ∷
     -- where one event is free a lock fits, as above; a brace doesn't, and where two are it does
-    reads (0x7B ∷ (locks 4093 ++ (0x7B ∷ []))) (fails 8187) ∷
-    reads (0x7B ∷ (locks 4092 ++ (0x7B ∷ 0x7D ∷ 0x7D ∷ []))) (lasts 4096) ∷
+    reads (0x7B ∷ (lockSteps 4093 ++ (0x7B ∷ []))) (fails 8187) ∷
+    reads (0x7B ∷ (lockSteps 4092 ++ (0x7B ∷ 0x7D ∷ 0x7D ∷ []))) (lasts 4096) ∷
     []

@@ -29,11 +29,11 @@ use Rattle.leaf_commit_page.specs.Heard.{overheard}
 use Rattle.store_write.specs.Phase.{storeOf, shownIn}
 use Rattle.state_whole.proofs.Reserves.{prepared-in}
 use Rattle.sound_clause.specs.Decides.{Decides}
-use Rattle.sound_clause.specs.Clauses.{Vacant, Seated, Entry, Within, Lock, Share, UnlockedOf, Unlocked, Phase}
+use Rattle.sound_clause.specs.Clauses.{FreeEntry, LiveEntry, TableEntry, Within, LockSound, Share, UnlockedOf, Unlocked, StatusSound}
 use Rattle.sound_clause.proofs.Decides.{decides-as, decides-by, decides-self, decides-and, decides-or, decides-if, decides-unless, decides-same, decides-less, decides-most, decides-within}
 use Rattle.sound_clause.proofs.Words.{decides-bits, no-bits}
 
-pub vacant-decided : (parent line : List ℕ) (t : ℕ) → Decides (same (getD parent t 0) 0 && same (getD line t 0) 0) (Vacant parent line t)
+pub vacant-decided : (parent line : List ℕ) (t : ℕ) → Decides (same (getD parent t 0) 0 && same (getD line t 0) 0) (FreeEntry parent line t)
 unfolding sets
 vacant-decided parent line t =
     decides-as (λ x. record { parentless = x .0; lineless = x .1 ∙ no-bits }) (λ v. (v .parentless, v .lineless ∙ sym no-bits))
@@ -41,7 +41,7 @@ vacant-decided parent line t =
 
 pub seated-decided : (parent depth line : List ℕ) (t d above own low due : ℕ) → d ≡ getD depth t 0 → above ≡ getD depth (getD parent t 0) 0
     → own ≡ getD line t 0 → low ≡ getD line (getD parent t 0) 0 → bits due ≡ (λ u. bits low u || same u t)
-    → Decides ((((same (getD parent t 0) 31 || ltb 0 above) && same d (above + 1)) && leb d depths) && same own due) (Seated parent depth line t)
+    → Decides ((((same (getD parent t 0) 31 || ltb 0 above) && same d (above + 1)) && leb d depths) && same own due) (LiveEntry parent depth line t)
 unfolding sets
 seated-decided parent depth line t d above own low due e f g h k =
     rw (e, f, g)
@@ -57,10 +57,10 @@ seated-decided parent depth line t d above own low due e f g h k =
     due-is : bits due ≡ (λ u. bits (getD line (getD parent t 0) 0) u || same u t)
     due-is = k ∙ ap {B = ℕ → Bool} (λ (x u : ℕ). bits x u || same u t) h
 
-pub entry-vacant : {b : Bool} (parent depth line : List ℕ) (t : ℕ) → getD depth t 0 ≡ 0 → Decides b (Vacant parent line t) → Decides b (Entry parent depth line t)
+pub entry-vacant : {b : Bool} (parent depth line : List ℕ) (t : ℕ) → getD depth t 0 ≡ 0 → Decides b (FreeEntry parent line t) → Decides b (TableEntry parent depth line t)
 entry-vacant parent depth line t e d = decides-as (λ v. record { vacant = λ z. v; seated = λ z. absurd (omega arith) }) (λ x. x .vacant e) d
 
-pub entry-seated : {b : Bool} (parent depth line : List ℕ) (t : ℕ) → 0 < getD depth t 0 → Decides b (Seated parent depth line t) → Decides b (Entry parent depth line t)
+pub entry-seated : {b : Bool} (parent depth line : List ℕ) (t : ℕ) → 0 < getD depth t 0 → Decides b (LiveEntry parent depth line t) → Decides b (TableEntry parent depth line t)
 entry-seated parent depth line t e d = decides-as (λ s. record { vacant = λ z. absurd (omega arith); seated = λ z. s }) (λ x. x .seated e) d
 
 -- a word's set is within that of another, of which more is known
@@ -92,7 +92,7 @@ pub lock-decided : (live held heldWriting retained retainedWriting writers : ℕ
     → retaineds ≡ all 24 (λ k. not (bits retainedWriting k) || bits retained k)
     → versions ≡ all 24 (λ k. not (bits writers k) || bits (bitOr heldWriting retainedWriting) k)
     → Decides (((((numbered && holders) && retainers) && helds) && retaineds) && versions)
-    (Lock (bits live) (bits held) (bits heldWriting) (bits retained) (bits retainedWriting) (bits writers))
+    (LockSound (bits live) (bits held) (bits heldWriting) (bits retained) (bits retainedWriting) (bits writers))
 lock-decided live held heldWriting retained retainedWriting writers n a b c d e =
     decides-as
     (λ x. record {
@@ -215,7 +215,7 @@ module _ (tears : Bool) (g : Geometry) (up : ℕ) (depth held retained store : L
       → Decides idle ((t : ℕ) → t < 24 → getD depth t 0 ≡ 0) → Decides unlocked (Unlocked g map held retained)
       → Decides
       (((leb up 1 && (same up 1 || idle)) && (not (same up 1) || (empty || not (same map 0)))) && unlocked)
-      (Phase tears g up depth held retained store)
+      (StatusSound tears g up depth held retained store)
   unfolding isCalm
   phase-decided map {empty} e f i u =
       decides-as

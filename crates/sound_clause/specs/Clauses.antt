@@ -16,31 +16,31 @@ use Rattle.state_array.specs.View.{anyMode, writeMode}
 use Rattle.store_write.specs.Phase.{storeOf, shownIn}
 
 -- a free number has parent 0 and no line
-pub record Vacant (parent line : List ℕ) (t : ℕ) : Type 0 where
+pub record FreeEntry (parent line : List ℕ) (t : ℕ) : Type 0 where
   pub parentless : getD parent t 0 ≡ 0
   pub lineless : sets line t ≡ (λ u. false)
 
 -- a live transaction's parent is live or nobody, it is one deeper and within the limit, and its line is the parent's and itself
-pub record Seated (parent depth line : List ℕ) (t : ℕ) : Type 0 where
+pub record LiveEntry (parent depth line : List ℕ) (t : ℕ) : Type 0 where
   pub parented : (getD parent t 0 ≡ nobody) ⊎ (0 < getD depth (getD parent t 0) 0)
   pub level : getD depth t 0 ≡ suc (getD depth (getD parent t 0) 0)
   pub shallow : getD depth t 0 ≤ geometry1 .depthLimit
   pub lined : sets line t ≡ (λ u. sets line (getD parent t 0) u || same u t)
 
-pub record Entry (parent depth line : List ℕ) (t : ℕ) : Type 0 where
-  pub vacant : getD depth t 0 ≡ 0 → Vacant parent line t
-  pub seated : 0 < getD depth t 0 → Seated parent depth line t
+pub record TableEntry (parent depth line : List ℕ) (t : ℕ) : Type 0 where
+  pub vacant : getD depth t 0 ≡ 0 → FreeEntry parent line t
+  pub seated : 0 < getD depth t 0 → LiveEntry parent depth line t
 
 -- the tree of transactions
 abbrev pub Entries : List ℕ → List ℕ → List ℕ → Type 0
-Entries parent depth line = (t : ℕ) → t < transactions → Entry parent depth line t
+Entries parent depth line = (t : ℕ) → t < transactions → TableEntry parent depth line t
 
 -- one set is within another
 abbrev pub Within : (ℕ → Bool) → (ℕ → Bool) → Type 0
 Within p q = (u : ℕ) → u < transactions → p u ≡ true → q u ≡ true
 
 -- The sets of one lock: who holds and retains it in any mode and in write mode, and who has a version.
-pub record Lock (live held heldWriting retained retainedWriting writers : ℕ → Bool) : Type 0 where
+pub record LockSound (live held heldWriting retained retainedWriting writers : ℕ → Bool) : Type 0 where
   -- all are transaction numbers
   pub numbered : (u : ℕ) → ((((held u || heldWriting u) || retained u) || retainedWriting u) || writers u) ≡ true → u < transactions
   -- holders and retainers are live
@@ -54,7 +54,7 @@ pub record Lock (live held heldWriting retained retainedWriting writers : ℕ �
 
 abbrev pub LockOf : (ℕ → Bool) → List ℕ → List ℕ → List ℕ → ℕ → Type 0
 LockOf live held retained writers r =
-    Lock live (anyMode (sets held) r) (writeMode (sets held) r) (anyMode (sets retained) r) (writeMode (sets retained) r) (sets writers r)
+    LockSound live (anyMode (sets held) r) (writeMode (sets held) r) (anyMode (sets retained) r) (writeMode (sets retained) r) (sets writers r)
 
 -- the locks, each by itself
 abbrev pub Locks : (ℕ → Bool) → List ℕ → List ℕ → List ℕ → Type 0
@@ -104,7 +104,7 @@ Unlocked g map held retained = (r : ℕ) → r < 16 → UnlockedOf g map held re
 
 -- up is 0 or 1; nothing is live while down; while up the commit page is empty or prepared, and where pages tear every pair is good and alike; nobody has a
 -- lock of a record that the prepared transaction changed
-pub record Phase (tears : Bool) (g : Geometry) (up : ℕ) (depth held retained store : List ℕ) : Type 0 where
+pub record StatusSound (tears : Bool) (g : Geometry) (up : ℕ) (depth held retained store : List ℕ) : Type 0 where
   pub flag : up ≤ 1
   pub idle : same up 1 ≡ false → (t : ℕ) → t < transactions → getD depth t 0 ≡ 0
   pub calm : same up 1 ≡ true → isCalm (mediumOf tears g) (mediumOf tears g .fromBytes store) ≡ true

@@ -5,7 +5,7 @@ ghost use Prim.Native.Nat.{ℕ, _<_};
 ghost use Rattle.laws.specs.Bits.{bits};
 ghost use Rattle.rules.specs.Geometry.{transactions};
 ghost use Rattle.sound_clause.specs.Decides.{Decides};
-ghost use Rattle.sound_clause.specs.Clauses.{Lock, Share};
+ghost use Rattle.sound_clause.specs.Clauses.{LockSound, Share};
 
 // The set has transaction numbers only.
 fn is_set(s: u32) -> bool
@@ -23,7 +23,7 @@ pub fn is_lock(
     retained_writing: u32,
     writers: u32,
 ) -> bool
-    ensures { λ r. ⌜ Decides r (Lock (bits live) (bits held) (bits «held_writing») (bits retained) (bits «retained_writing») (bits writers)) ⌝ }
+    ensures { λ r. ⌜ Decides r (LockSound (bits live) (bits held) (bits «held_writing») (bits retained) (bits «retained_writing») (bits writers)) ⌝ }
 {
     let numbered = is_set(held | held_writing | retained | retained_writing | writers);
     let holders_live = leaf_set::within(held, live);

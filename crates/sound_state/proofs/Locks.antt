@@ -18,7 +18,7 @@ use Rattle.leaf_set.proofs.Sets.{sets-past}
 use Rattle.state_array.specs.View.{bearersOf, anyMode, writeMode, Nested}
 use Rattle.state_array.proofs.View.{free-is, deep-is, some-is}
 use Rattle.state_array.proofs.Modes.{lock-is, writing-is}
-use Rattle.sound_clause.specs.Clauses.{Entry, Locks, ShareOf, Shares, sharing, Lined}
+use Rattle.sound_clause.specs.Clauses.{TableEntry, Locks, ShareOf, Shares, sharing, Lined}
 use Rattle.state_whole.specs.Whole.{arrays, view}
 
 -- a set that isn't empty is one of the array's
@@ -96,7 +96,7 @@ module _ (parent depth line held retained writers : List ℕ) (lines : sets line
         (retained-live r t))
         (λ f. retained-live r t (retains-writing r t f))
 
-    pub sharers-lined : ((t : ℕ) → Entry parent depth line t) → Lined line held retained
+    pub sharers-lined : ((t : ℕ) → TableEntry parent depth line t) → Lined line held retained
     sharers-lined E r k t e =
         ap (λ (f : ℕ → Bool). f t) (E t .seated (deep-is parent depth t (sharer-live r t e)) .lined) ∙ or-right (sets line (getD parent t 0) t) _ (same-refl t)
 

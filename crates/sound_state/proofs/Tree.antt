@@ -9,7 +9,7 @@ use Prim.Native.Nat.{ℕ, zero, suc, _<_, _≤_}
 use lib.ListN.{length, getD, List·getD-eq-default}
 use Rattle.laws.specs.Tests.{same}
 use Rattle.laws.specs.Bits.{bits}
-use Rattle.rules.specs.State.{Bearers, active, isActive, chain, lineOf, mem, live, open-state}
+use Rattle.rules.specs.State.{Bearers, active, isActive, lineFrom, lineOf, mem, live, open-state}
 use Rattle.rules.specs.Sound.{Sound}
 use Rattle.rules.specs.Form.{Form}
 use Rattle.rules.specs.Editions.{depths}
@@ -18,7 +18,7 @@ use Rattle.rules.proofs.Locks.{rooted-of}
 use Rattle.leaf_set.specs.Sets.{sets}
 use Rattle.state_array.specs.View.{bearerAt, bearersOf}
 use Rattle.state_array.proofs.View.{depth-is, active-is, deep-is}
-use Rattle.sound_clause.specs.Clauses.{Entry, Entries}
+use Rattle.sound_clause.specs.Clauses.{TableEntry, Entries}
 use Rattle.state_whole.specs.Whole.{arrays, view}
 use Rattle.sound_clause.proofs.Words.{no-bits}
 
@@ -43,11 +43,11 @@ below depth t long h =
 
 -- past the arrays' ends every number is free
 pub everywhere : (parent depth line : List ℕ) → length parent ≡ 24 → length depth ≡ 24 → length line ≡ 24 → Entries parent depth line
-    → (t : ℕ) → Entry parent depth line t
+    → (t : ℕ) → TableEntry parent depth line t
 unfolding sets
 everywhere parent depth line p d l E t = dite (decLt t 24) (λ lt. E t lt) (λ ge. past (omega arith))
   where
-    past : 24 ≤ t → Entry parent depth line t
+    past : 24 ≤ t → TableEntry parent depth line t
     past h = record {
       vacant = λ e. record {
         parentless = List·getD-eq-default parent 0 (omega arith);
@@ -59,14 +59,14 @@ everywhere parent depth line p d l E t = dite (decLt t 24) (λ lt. E t lt) (λ g
 -- the line of a free number, of a child
 free-line : (parent depth : List ℕ) (t u : ℕ) → getD depth t 0 ≡ 0 → mem u (lineOf (bearersOf parent depth) t) ≡ false
 unfolding open-state
-free-line parent depth t u e = ap (λ (n : ℕ). mem u (chain (bearersOf parent depth) n t)) (depth-is parent depth t ∙ e)
+free-line parent depth t u e = ap (λ (n : ℕ). mem u (lineFrom (bearersOf parent depth) n t)) (depth-is parent depth t ∙ e)
 
 next-line : {limit nobody : ℕ} {b : Bearers} (R : Rooted limit nobody b) (t p d u : ℕ) → b t ≡ active p d
     → mem u (lineOf b t) ≡ (mem u (lineOf b p) || same u t)
 unfolding mem
 next-line {b = b} R t p d u e = ap (mem u) (parent-line R t p d e) ∙ or-comm (same u t) (mem u (lineOf b p))
 
-module _ (parent depth line : List ℕ) (long : length depth ≡ 24) (E : (t : ℕ) → Entry parent depth line t) where
+module _ (parent depth line : List ℕ) (long : length depth ≡ 24) (E : (t : ℕ) → TableEntry parent depth line t) where
   pub tree-rooted : Rooted 24 31 (bearersOf parent depth)
   unfolding bearersOf
   tree-rooted = record {
@@ -110,7 +110,7 @@ module _ (form : Form) (deep : form .geometry .depthLimit ≡ depths) (up : ℕ)
     (S : Sound form (view form (arrays up parent depth line held retained writers work store)))
     (lines : sets line ≡ (λ t u. mem u (lineOf (bearersOf parent depth) t)))
     (tidy : (t : ℕ) → getD depth t 0 ≡ 0 → getD parent t 0 ≡ 0) where
-  pub entry-of : (t : ℕ) → Entry parent depth line t
+  pub entry-of : (t : ℕ) → TableEntry parent depth line t
   unfolding live view
   entry-of t = record {
     vacant = λ e. record { parentless = tidy t e; lineless = ap (λ (f : ℕ → ℕ → Bool). f t) lines ∙ fun-ext (λ u. free-line parent depth t u e) };

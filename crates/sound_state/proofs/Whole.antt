@@ -23,7 +23,7 @@ use Rattle.state_array.specs.View.{bearersOf, writeMode, Nested, slot, versions
 use Rattle.state_array.proofs.View.{depth-is, deep-is, active-is, idle-is, some-is}
 use Rattle.state_array.proofs.Modes.{lock-is, writing-is}
 use Rattle.sound_clause.specs.Decides.{Decides}
-use Rattle.sound_clause.specs.Clauses.{Entry, Entries, Locks, Shares, Lined, Unlocked, Phase}
+use Rattle.sound_clause.specs.Clauses.{TableEntry, Entries, Locks, Shares, Lined, Unlocked, StatusSound}
 use Rattle.store_write.specs.Phase.{storeOf, shownIn}
 use Rattle.state_whole.specs.Whole.{Arrays, arrays, view, lineIn, Served, Intact}
 use Rattle.state_whole.proofs.Reserves.{pending-in}
@@ -36,7 +36,7 @@ use Rattle.sound_state.proofs.Locks.{living, Locked, in-range, locked-b
 -- the clauses, in the order of the code's tests
 abbrev Clauses : Bool → Geometry → ℕ → List ℕ → List ℕ → List ℕ → List ℕ → List ℕ → List ℕ → List ℕ → Type 0
 Clauses tears g up parent depth line held retained writers store =
-    ((Entries parent depth line × Locks (living depth) held retained writers) × Shares line held retained) × Phase tears g up depth held retained store
+    ((Entries parent depth line × Locks (living depth) held retained writers) × Shares line held retained) × StatusSound tears g up depth held retained store
 
 page-long : (work : List ℕ) (n : ℕ) → 32 * n + 32 ≤ length work → length (pagesOf work n) ≡ 32
 unfolding pagesOf
@@ -84,7 +84,7 @@ module _ (tears : Bool) (g : Geometry) (many : records g ≡ 16) (S₀ : Served 
       (or-cases (writeMode (sets held) r t) (writeMode (sets retained) r t) (L .by-lock t r e)
       (λ f. L .holder-live r t (L .held-nested r t f)) (λ f. L .retainer-live r t (L .retained-nested r t f)))
 
-  state-sound : ((t : ℕ) → Entry parent depth line t) → Locked parent depth held retained writers → Phase tears g up depth held retained store
+  state-sound : ((t : ℕ) → TableEntry parent depth line t) → Locked parent depth held retained writers → StatusSound tears g up depth held retained store
       → Sound f (view f x)
   unfolding live holds retains holdsWriting retainsWriting versionsOf view
   state-sound E L P =
@@ -169,6 +169,6 @@ module _ (tears : Bool) (g : Geometry) (many : records g ≡ 16) (S₀ : Served 
       sharers-lined parent depth line held retained writers (tree-lines parent depth line (Z .depths) E) (Z .helds) (Z .retaineds) (Z .writerss) (h .1) E
 
   pub whole-decided : {a b c d : Bool} → Decides a (Entries parent depth line) → Decides b (Locks (living depth) held retained writers)
-      → (Lined line held retained → Decides c (Shares line held retained)) → Decides d (Phase tears g up depth held retained store)
+      → (Lined line held retained → Decides c (Shares line held retained)) → Decides d (StatusSound tears g up depth held retained store)
       → Decides (((a && b) && c) && d) (Intact f x)
   whole-decided a b c d = decides-as intact-by clauses-of (decides-and (decides-given (decides-and a b) (λ h. c (lined-by h))) d)

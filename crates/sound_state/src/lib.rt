@@ -197,6 +197,6 @@ pub fn is_sound(
     let live = state_tree::live_set(depth);
     let locks = are_locks(live, held, retained, writers);
     let shares = are_shares(line, held, retained);
-    let phase = sound_up::is_phase(up, live, held, retained, store, joint, tears);
+    let phase = sound_up::is_status_sound(up, live, held, retained, store, joint, tears);
     tree & locks & shares & phase
 }

@@ -11,7 +11,7 @@ use Rattle.rules.specs.Geometry.{Geometry, records, pageCount}
 use Rattle.rules.specs.Store.{Page, readCommit, isEmptied, emptied}
 use Rattle.rules.specs.Pairs.{emptiedPairs}
 use Rattle.rules.specs.Editions.{mediumOf}
-use Rattle.leaf_commit_page.specs.Heard.{heard}
+use Rattle.leaf_commit_page.specs.Heard.{commitMap}
 use Rattle.leaf_commit_page.specs.declared.CommitMap.{CommitMap}
 use Rattle.store_write.specs.Phase.{storeOf, strideOf, shownIn}
 use Rattle.sound_store.specs.Whole.{wholeIn}
@@ -31,13 +31,13 @@ emptied-is false g bs = refl
 emptied-is true g bs = refl
 
 -- what is read of a page as a map's: whether it is empty
-empty-is : (o : Option ℕ) → (heard o .good && same (heard o .map) 0) ≡ isEmptied o
-unfolding heard isEmptied
+empty-is : (o : Option ℕ) → (commitMap o .good && same (commitMap o .map) 0) ≡ isEmptied o
+unfolding commitMap isEmptied
 empty-is none = refl
 empty-is (some map) = refl
 
 pub emptied-by : (tears : Bool) (g : Geometry) (n : ℕ) → records g ≡ n → (bs : List ℕ) (b : Bool) (page : Page) (c : CommitMap) → b ≡ wholeIn tears (1 + (n + n)) (storeOf tears bs)
-    → page ≡ shownIn tears (storeOf tears bs) 0 → c ≡ heard (readCommit g page) → (b && (c .good && same (c .map) 0)) ≡ mediumOf tears g .emptied (mediumOf tears g .fromBytes bs)
+    → page ≡ shownIn tears (storeOf tears bs) 0 → c ≡ commitMap (readCommit g page) → (b && (c .good && same (c .map) 0)) ≡ mediumOf tears g .emptied (mediumOf tears g .fromBytes bs)
 unfolding emptied pageCount
 emptied-by tears g n many bs b page c w p h =
     ap₂ (λ (x y : Bool). x && y) (w ∙ ap (λ (m : ℕ). wholeIn tears m (storeOf tears bs)) (let e : 1 + (n + n) ≡ 1 + (records g + records g) = omega (arith, many) in e))

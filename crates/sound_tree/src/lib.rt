@@ -4,7 +4,7 @@ ghost use mathlib.Core.Path.{_≡_};
 ghost use Prim.Native.Nat.{_<_};
 ghost use lib.ListN.{length, getD};
 ghost use Rattle.sound_clause.specs.Decides.{Decides};
-ghost use Rattle.sound_clause.specs.Clauses.{Vacant, Seated, Entry};
+ghost use Rattle.sound_clause.specs.Clauses.{FreeEntry, LiveEntry, TableEntry};
 
 // How deep transactions nest.
 const DEPTH_LIMIT: u32 = leaf_page::DEPTHS as u32;
@@ -41,9 +41,9 @@ fn line_at(line: &[u32; 24], p: u8) -> u32
 }
 
 // The number t, if free, has parent 0 and no line.
-fn is_vacant(parent: &[u8; 24], line: &[u32; 24], t: u8) -> bool
+fn is_free_entry(parent: &[u8; 24], line: &[u32; 24], t: u8) -> bool
     requires { ⌜ (t < 24) × (length (now parent) ≡ 24) × (length (now line) ≡ 24) ⌝ }
-    ensures { λ r. ⌜ Decides r (Vacant (now (parent .entry)) (now (line .entry)) t) ⌝ }
+    ensures { λ r. ⌜ Decides r (FreeEntry (now (parent .entry)) (now (line .entry)) t) ⌝ }
 {
     let parentless = parent[t as usize] == 0;
     let lineless = line[t as usize] == 0;
@@ -51,9 +51,9 @@ fn is_vacant(parent: &[u8; 24], line: &[u32; 24], t: u8) -> bool
 }
 
 // The live transaction t has a parent that is live or nobody, its depth and its line.
-fn is_seated(parent: &[u8; 24], depth: &[u8; 24], line: &[u32; 24], t: u8) -> bool
+fn is_live_entry(parent: &[u8; 24], depth: &[u8; 24], line: &[u32; 24], t: u8) -> bool
     requires { ⌜ (t < 24) × (length (now parent) ≡ 24) × (length (now depth) ≡ 24) × (length (now line) ≡ 24) ⌝ }
-    ensures { λ r. ⌜ Decides r (Seated (now (parent .entry)) (now (depth .entry)) (now (line .entry)) t) ⌝ }
+    ensures { λ r. ⌜ Decides r (LiveEntry (now (parent .entry)) (now (depth .entry)) (now (line .entry)) t) ⌝ }
 {
     let p = parent[t as usize];
     let d = depth_at(depth, t);
@@ -71,11 +71,11 @@ fn is_seated(parent: &[u8; 24], depth: &[u8; 24], line: &[u32; 24], t: u8) -> bo
 // The number t is free and bare, or borne by a transaction that fits the others.
 pub fn is_entry(parent: &[u8; 24], depth: &[u8; 24], line: &[u32; 24], t: u8) -> bool
     requires { ⌜ (t < 24) × (length (now parent) ≡ 24) × (length (now depth) ≡ 24) × (length (now line) ≡ 24) ⌝ }
-    ensures { λ r. ⌜ Decides r (Entry (now (parent .entry)) (now (depth .entry)) (now (line .entry)) t) ⌝ }
+    ensures { λ r. ⌜ Decides r (TableEntry (now (parent .entry)) (now (depth .entry)) (now (line .entry)) t) ⌝ }
 {
     if depth[t as usize] == 0 {
-        is_vacant(parent, line, t)
+        is_free_entry(parent, line, t)
     } else {
-        is_seated(parent, depth, line, t)
+        is_live_entry(parent, depth, line, t)
     }
 }

@@ -13,7 +13,7 @@ ghost use Rattle.leaf_commit_page.specs.Heard.{overheard};
 ghost use Rattle.leaf_commit_page.specs.Layout.{Layout};
 ghost use Rattle.store_write.specs.Phase.{strideOf};
 ghost use Rattle.sound_clause.specs.Decides.{Decides};
-ghost use Rattle.sound_clause.specs.Clauses.{Unlocked, Phase};
+ghost use Rattle.sound_clause.specs.Clauses.{Unlocked, StatusSound};
 
 // Nobody has a lock of the records that a map names.
 fn are_unlocked(map: u64, held: &[u32; 32], retained: &[u32; 32]) -> bool
@@ -46,7 +46,7 @@ fn prepared_map(page: [u8; 32], empty: bool, joint: bool) -> u64
 
 // The flag is 0 or 1, nothing is live while down, while up the commit page is empty or prepared and every page whole, and nobody has a lock of a record that
 // the prepared transaction changed.
-pub fn is_phase(
+pub fn is_status_sound(
     up: u8,
     live: u32,
     held: &[u32; 32],
@@ -57,7 +57,7 @@ pub fn is_phase(
 ) -> bool
     requires { ⌜ (length (now held) ≡ 32) × (length (now retained) ≡ 32) × (length (now store) ≡ strideOf tears * 33) ⌝ }
     ensures { λ r. ⌜ ((edition : Edition) (depth : List ℕ) → InNumbers edition 16 joint tears → bits live ≡ livesIn depth
-        → Decides r (Phase tears (geometryOf edition) up depth (now (held .entry)) (now (retained .entry)) (now (store .entry)))) ⌝ }
+        → Decides r (StatusSound tears (geometryOf edition) up depth (now (held .entry)) (now (retained .entry)) (now (store .entry)))) ⌝ }
 {
     let idle = leaf_set::within(live, 0);
     let empty = sound_store::is_emptied(store, tears, 16);

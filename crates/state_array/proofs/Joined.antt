@@ -14,7 +14,7 @@ use Rattle.rules.specs.Event.{Access, toWrite, toRead}
 use Rattle.leaf_set.specs.Sets.{sets}
 use Rattle.leaf_set.proofs.Sets.{sets-set}
 use Rattle.state_array.specs.View.{Owners, anyMode, writeMode}
-use Rattle.state_array.specs.Changes.{joined, joinedFor, heirsOf, handed}
+use Rattle.state_array.specs.Changes.{joined, joinedFor, replacing, handed}
 
 pub sets-joined : (l : List ℕ) (t r v : ℕ) → r < length l → bits v ≡ (λ k. sets l r k || same k t) → sets (set l r v) ≡ joined t r (sets l)
 unfolding joined updated
@@ -37,13 +37,13 @@ joined-self l t r e = fun-ext (λ q. fun-ext (λ j. go q j (same? q r) (same? j 
 -- p takes the place of t in the set at r; where t isn't there, nothing changes
 pub sets-handed : (l : List ℕ) (t p r v : ℕ) → r < length l → sets l r t ≡ true → bits v ≡ (λ k. (not (same k t) && sets l r k) || same k p)
     → sets (set l r v) ≡ updated r (handed t p (sets l) r) (sets l)
-unfolding handed heirsOf
+unfolding handed replacing
 sets-handed l t p r v h e q =
     sets-set l r v h
     ∙ ap {B = Owners} (λ (s : ℕ → Bool). updated r s (sets l)) (q ∙ fun-ext (λ k. ap (λ (b : Bool). (not (same k t) && sets l r k) || b) (sym (ap (λ (b : Bool). same k p && b) e ∙ and-true (same k p)))))
 
 pub handed-none : (o : Owners) (t p r : ℕ) → o r t ≡ false → o ≡ updated r (handed t p o r) o
-unfolding handed heirsOf
+unfolding handed replacing
 handed-none o t p r e = updated-self r o ∙ ap {B = Owners} (λ (s : ℕ → Bool). updated r s o) (fun-ext (λ k. go k (same? k t)))
   where
     go : (k : ℕ) → Same k t → o r k ≡ ((not (same k t) && o r k) || (same k p && o r t))

@@ -18,8 +18,8 @@ use Rattle.laws.proofs.Bits.{bits-zero}
 use Rattle.leaf_set.specs.Sets.{sets}
 use Rattle.leaf_set.proofs.Sets.{sets-set, sets-past}
 use Rattle.state_array.specs.View.{Owners}
-use Rattle.state_array.specs.Changes.{joined, less, leaving, Row, Rows, places, cleared, Cleared}
-use Rattle.state_array.specs.Kin.{Kin}
+use Rattle.state_array.specs.Changes.{joined, less, leaving, SetChanged, Rows, places, cleared, Cleared}
+use Rattle.state_array.specs.Kin.{DerivedSets}
 use Rattle.state_array.proofs.Joined.{sets-joined}
 
 -- an array after one write
@@ -31,24 +31,24 @@ at-set l i v k h = go (same? k i)
     go (isnt e s _) = rw s (getD-set-other l i k v 0 e)
 
 -- one set is another: the sets then, and how many there are
-row-sets : (r : ℕ) (s : ℕ → Bool) (l l′ : List ℕ) → Row r s l l′ → r < length l → sets l′ ≡ updated r s (sets l)
+row-sets : (r : ℕ) (s : ℕ → Bool) (l l′ : List ℕ) → SetChanged r s l l′ → r < length l → sets l′ ≡ updated r s (sets l)
 row-sets r s l l′ R h = ap sets (R .is) ∙ sets-set l r (R .word) h ∙ ap {B = Owners} (λ (f : ℕ → Bool). updated r f (sets l)) (R .holds)
 
-row-long : (r : ℕ) (s : ℕ → Bool) (l l′ : List ℕ) → Row r s l l′ → length l′ ≡ length l
+row-long : (r : ℕ) (s : ℕ → Bool) (l l′ : List ℕ) → SetChanged r s l l′ → length l′ ≡ length l
 row-long r s l l′ R = ap length (R .is) ∙ length-set l r (R .word)
 
 -- what the sets say of one number
-live-at : {parent depth children : List ℕ} {live : ℕ} → Kin parent depth live children → (k : ℕ) → bits live k ≡ not (same (getD depth k 0) 0)
+live-at : {parent depth children : List ℕ} {live : ℕ} → DerivedSets parent depth live children → (k : ℕ) → bits live k ≡ not (same (getD depth k 0) 0)
 live-at K k = ap (λ (s : ℕ → Bool). s k) (K .lives)
 
-child-at : {parent depth children : List ℕ} {live : ℕ} → Kin parent depth live children → (q k : ℕ) → q < 32
+child-at : {parent depth children : List ℕ} {live : ℕ} → DerivedSets parent depth live children → (q k : ℕ) → q < 32
     → sets children q k ≡ (not (same (getD depth k 0) 0) && same (getD parent k 0) q)
 child-at K q k h = ap (λ (s : ℕ → Bool). s k) (K .under q h)
 
 -- f begins under p at depth d
-pub kin-begun : (parent depth children children′ : List ℕ) (live live′ f p d : ℕ) → Kin parent depth live children → length parent ≡ 24 → length depth ≡ 24
+pub kin-begun : (parent depth children children′ : List ℕ) (live live′ f p d : ℕ) → DerivedSets parent depth live children → length parent ≡ 24 → length depth ≡ 24
     → f < 24 → getD depth f 0 ≡ 0 → p < 32 → 0 < d → bits live′ ≡ (λ k. bits live k || same k f)
-    → Row p (λ k. sets children p k || same k f) children children′ → Kin (set parent f p) (set depth f d) live′ children′
+    → SetChanged p (λ k. sets children p k || same k f) children children′ → DerivedSets (set parent f p) (set depth f d) live′ children′
 unfolding joined
 kin-begun parent depth children children′ live live′ f p d K np nd hf free hp hd le R = record {
   lives = le ∙ fun-ext (λ k. rw (live-at K k, at-set depth f d k (omega arith)) (lives k (same? k f)));
@@ -78,9 +78,9 @@ kin-begun parent depth children children′ live live′ f p d K np nd hf free h
     under q k (isnt e s _) _ = rw (s, and-false, or-false)
 
 -- those that are gone end
-pub kin-cleared : (gone : ℕ → Bool) (parent parent′ depth depth′ children children′ : List ℕ) (live live′ : ℕ) → Kin parent depth live children
+pub kin-cleared : (gone : ℕ → Bool) (parent parent′ depth depth′ children children′ : List ℕ) (live live′ : ℕ) → DerivedSets parent depth live children
     → Cleared gone parent parent′ → Cleared gone depth depth′ → bits live′ ≡ less gone (bits live) → Rows 32 (leaving gone (sets children)) children′
-    → Kin parent′ depth′ live′ children′
+    → DerivedSets parent′ depth′ live′ children′
 unfolding less leaving places cleared
 kin-cleared gone parent parent′ depth depth′ children children′ live live′ K P D le C = record {
   lives = le ∙ fun-ext (λ k. rw (live-at K k, at D k) (lives (gone k) (getD depth k 0)));
@@ -105,9 +105,9 @@ kin-cleared gone parent parent′ depth depth′ children children′ live live�
     under false n m q = refl
 
 -- t alone ends: it is in no set but that of its parent, so no other is touched
-pub kin-retired : (parent parent′ depth depth′ children children′ : List ℕ) (live live′ t p : ℕ) → Kin parent depth live children
+pub kin-retired : (parent parent′ depth depth′ children children′ : List ℕ) (live live′ t p : ℕ) → DerivedSets parent depth live children
     → p ≡ getD parent t 0 → p < 32 → Cleared (λ k. same k t) parent parent′ → Cleared (λ k. same k t) depth depth′
-    → bits live′ ≡ (λ k. not (same k t) && bits live k) → Row p (λ k. not (same k t) && sets children p k) children children′ → Kin parent′ depth′ live′ children′
+    → bits live′ ≡ (λ k. not (same k t) && bits live k) → SetChanged p (λ k. not (same k t) && sets children p k) children children′ → DerivedSets parent′ depth′ live′ children′
 unfolding updated less leaving
 kin-retired parent parent′ depth depth′ children children′ live live′ t p K e hp P D le R =
     kin-cleared (λ k. same k t) parent parent′ depth depth′ children children′ live live′ K P D le (record {
@@ -136,7 +136,7 @@ unfolding sets
 none-sets n q k = rw (none-at n q) (bits-zero k)
 
 -- no transaction is live
-pub kin-none : Kin (replicate 24 0) (replicate 24 0) 0 (replicate 32 0)
+pub kin-none : DerivedSets (replicate 24 0) (replicate 24 0) 0 (replicate 32 0)
 kin-none = record {
   lives = fun-ext (λ k. rw (none-at 24 k, same-refl 0) (bits-zero k));
   under = λ q h. fun-ext (λ k. rw (none-at 24 k, same-refl 0) (none-sets 32 q k));
@@ -149,6 +149,6 @@ not-not true = refl
 not-not false = refl
 
 -- the lowest number that isn't live is the lowest whose depth is 0
-pub kin-lowest : (parent depth children : List ℕ) (live f : ℕ) → Kin parent depth live children → f ≡ lowest 24 (λ u. not (bits live u)) → f ≡ lowest 24 (λ u. same (getD depth u 0) 0)
+pub kin-lowest : (parent depth children : List ℕ) (live f : ℕ) → DerivedSets parent depth live children → f ≡ lowest 24 (λ u. not (bits live u)) → f ≡ lowest 24 (λ u. same (getD depth u 0) 0)
 kin-lowest parent depth children live f K e =
     e ∙ ap (lowest 24) (fun-ext (λ u. ap (λ (s : ℕ → Bool). not (s u)) (K .lives) ∙ not-not (same (getD depth u 0) 0)))

@@ -13,7 +13,7 @@ use Rattle.rules.specs.Event.{Access, toWrite, toRead, accessOf}
 use Rattle.rules.specs.State.{nothing, isLock, isWriting, stronger, Modes, mem}
 use Rattle.rules.specs.Locks.{modeFor, bars, holdersAllow, retainersAllow, grantable, granted, inherited, discarded}
 use Rattle.state_array.specs.View.{Owners, anyMode, writeMode, modeOf, modesOf, Nested}
-use Rattle.state_array.specs.Changes.{accessWhen, barring, openTo, joinedFor, less, leaving, heirsOf, inheriting}
+use Rattle.state_array.specs.Changes.{accessWhen, barring, openTo, joinedFor, less, leaving, replacing, inheriting}
 use Rattle.state_array.proofs.Joined.{raises, joined-any, joined-write}
 
 -- a mode or value that isn't 0 asks to read
@@ -95,7 +95,7 @@ mode-none = refl
 -- p retains what t held or retained, in the strongest mode
 pub inheriting-inherited : (held retained : Owners) (t p : ℕ) → p ≢ t
     → modesOf (inheriting t p held retained) ≡ discarded (λ j. same j t) (inherited t p (modesOf held) (modesOf retained))
-unfolding modesOf anyMode writeMode inheriting heirsOf discarded inherited
+unfolding modesOf anyMode writeMode inheriting replacing discarded inherited
 inheriting-inherited held retained t p n = fun-ext (λ r. fun-ext (λ j. go (2 * r) (2 * r + 1) j (same? j t) (same? j p)))
   where
     go : (k l j : ℕ) → Same j t → Same j p

@@ -6,7 +6,7 @@ use Rattle.laws.specs.Tests.{same}
 use Rattle.laws.proofs.Booleans.{or-cases, or-left, or-right, and-right}
 use Rattle.rules.specs.Event.{Access}
 use Rattle.state_array.specs.View.{Owners, anyMode, writeMode, Nested}
-use Rattle.state_array.specs.Changes.{joinedFor, less, leaving, heirsOf, inheriting, reporting}
+use Rattle.state_array.specs.Changes.{joinedFor, less, leaving, replacing, inheriting, reporting}
 use Rattle.state_array.proofs.Joined.{raises, joined-any, joined-write}
 
 -- a test that implies another, beside one that both have
@@ -26,7 +26,7 @@ unfolding anyMode writeMode leaving less
 leaving-nested gone o n r j e = and-more (not (gone j)) (n r j) e
 
 pub inheriting-nested : (t p : ℕ) (held retained : Owners) → Nested held → Nested retained → Nested (inheriting t p held retained)
-unfolding anyMode writeMode inheriting heirsOf
+unfolding anyMode writeMode inheriting replacing
 inheriting-nested t p held retained h m r j e =
     or-more (and-more (not (same j t)) (m r j)) (and-more (same j p) (or-more (h r t) (m r t))) e
 

@@ -15,7 +15,7 @@ use Rattle.laws.proofs.Tests.{same?, Same, is, isnt}
 use Rattle.leaf_set.specs.Sets.{sets}
 use Rattle.leaf_set.proofs.Sets.{sets-set, sets-past}
 use Rattle.state_array.specs.View.{Owners}
-use Rattle.state_array.specs.Changes.{less, leaving, heirsOf, inheriting, handed, Row, Rows, places, cleared, Cleared}
+use Rattle.state_array.specs.Changes.{less, leaving, replacing, inheriting, handed, SetChanged, Rows, places, cleared, Cleared}
 
 pub record Swept {A : Type 0} (f was goal : ℕ → A) (i : ℕ) : Type 0 where
   pub below : (k : ℕ) → k < i → f k ≡ goal k
@@ -52,7 +52,7 @@ pub record Upto (n : ℕ) (f : Owners) (l l₀ : List ℕ) (i : ℕ) : Type 0 wh
 pub upto-none : (n : ℕ) (f : Owners) (l : List ℕ) → length l ≡ n → Upto n f l l 0
 upto-none n f l h = record { swept = swept-none (sets l) f; long = h }
 
-pub upto-more : (n : ℕ) (f : Owners) (l l₀ l′ : List ℕ) (i : ℕ) (s : ℕ → Bool) → Upto n f l l₀ i → i < n → Row i s l l′ → s ≡ f i → Upto n f l′ l₀ (i + 1)
+pub upto-more : (n : ℕ) (f : Owners) (l l₀ l′ : List ℕ) (i : ℕ) (s : ℕ → Bool) → Upto n f l l₀ i → i < n → SetChanged i s l l′ → s ≡ f i → Upto n f l′ l₀ (i + 1)
 upto-more n f l l₀ l′ i s U h R e = record {
   swept = swept-more (sets l′) s (U .swept)
       (ap sets (R .is) ∙ sets-set l i (R .word) (let k = U .long in omega arith) ∙ ap {B = Owners} (λ (s : ℕ → Bool). updated i s (sets l)) (R .holds)) e;
@@ -70,8 +70,8 @@ pub leaving-past : (gone : ℕ → Bool) (l : List ℕ) (k : ℕ) → length l �
 unfolding leaving less
 leaving-past gone l k h = fun-ext (λ j. let e = sets-past l k j h in e ∙ sym (ap (λ (b : Bool). not (gone j) && b) e ∙ and-false (not (gone j))))
 
-pub heirs-past : (had : Bool) (l : List ℕ) (t p k : ℕ) → had ≡ false → length l ≤ k → sets l k ≡ heirsOf had (sets l k) t p
-unfolding heirsOf
+pub heirs-past : (had : Bool) (l : List ℕ) (t p k : ℕ) → had ≡ false → length l ≤ k → sets l k ≡ replacing had (sets l k) t p
+unfolding replacing
 heirs-past had l t p k f h = fun-ext (λ j. let e = sets-past l k j h in
     e ∙ sym (ap₂ (λ (b c : Bool). (not (same j t) && b) || (same j p && c)) e f ∙ ap₂ _||_ (and-false (not (same j t))) (and-false (same j p))))
 

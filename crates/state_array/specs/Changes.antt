@@ -44,12 +44,12 @@ unfoldable pub leaving : (ℕ → Bool) → Owners → Owners
 leaving gone o r = less gone (o r)
 
 -- the set s with p in the place of t if t had the lock, else s without t
-unfoldable pub heirsOf : Bool → (ℕ → Bool) → ℕ → ℕ → ℕ → Bool
-heirsOf had s t p k = (not (same k t) && s k) || (same k p && had)
+unfoldable pub replacing : Bool → (ℕ → Bool) → ℕ → ℕ → ℕ → Bool
+replacing had s t p k = (not (same k t) && s k) || (same k p && had)
 
 -- p takes, in each place, what t held or retained there, and t leaves
 unfoldable pub inheriting : ℕ → ℕ → Owners → Owners → Owners
-inheriting t p held retained k = heirsOf (held k t || retained k t) (retained k) t p
+inheriting t p held retained k = replacing (held k t || retained k t) (retained k) t p
 
 -- p inherits from t if it is told
 unfoldable pub reporting : Bool → ℕ → ℕ → Owners → Owners → Owners
@@ -57,10 +57,10 @@ reporting told t p held retained = cond told (inheriting t p held retained) reta
 
 -- p is in each set in the place of t
 unfoldable pub handed : ℕ → ℕ → Owners → Owners
-handed t p o k = heirsOf (o k t) (o k) t p
+handed t p o k = replacing (o k t) (o k) t p
 
 -- one set of an array becomes s
-pub record Row (r : ℕ) (s : ℕ → Bool) (l l′ : List ℕ) : Type 0 where
+pub record SetChanged (r : ℕ) (s : ℕ → Bool) (l l′ : List ℕ) : Type 0 where
   pub word : ℕ
   pub is : l′ ≡ set l r word
   pub holds : bits word ≡ s

@@ -16,7 +16,7 @@ abbrev pub childIn : List ℕ → List ℕ → ℕ → ℕ → Bool
 childIn parent depth p u = livesIn depth u && same (getD parent u 0) p
 
 -- The live transactions, and for each parent its live children. Place 31 has the top transactions, whose parent is 31.
-pub record Kin (parent depth : List ℕ) (live : ℕ) (children : List ℕ) : Type 0 where
+pub record DerivedSets (parent depth : List ℕ) (live : ℕ) (children : List ℕ) : Type 0 where
   pub lives : bits live ≡ livesIn depth
   pub under : (p : ℕ) → p < 32 → sets children p ≡ childIn parent depth p
   pub named : (u : ℕ) → getD parent u 0 < 32

@@ -9,7 +9,7 @@ ghost use Rattle.laws.specs.Tests.{same};
 ghost use Rattle.laws.specs.Bits.{bits};
 ghost use Rattle.leaf_set.specs.Sets.{sets};
 ghost use Rattle.state_array.specs.View.{anyMode, writeMode};
-ghost use Rattle.state_array.specs.Changes.{accessWhen, barring, joinedFor, leaving, heirsOf, inheriting, reporting, Rows};
+ghost use Rattle.state_array.specs.Changes.{accessWhen, barring, joinedFor, leaving, replacing, inheriting, reporting, Rows};
 ghost use Rattle.leaf_number.specs.Named.{transactionOf, recordOf};
 ghost use Rattle.state_lock.specs.Granting.{Granting};
 use leaf_number::RecordNumber;
@@ -130,9 +130,9 @@ pub fn discard(
 }
 
 // s with p in place of t if t had the lock (`had`), else s without t.
-fn heirs(had: bool, s: u32, t: u8, p: u8) -> u32
+fn replace(had: bool, s: u32, t: u8, p: u8) -> u32
     requires { ⌜ (t < 24) × (p < 24) ⌝ }
-    ensures { λ r. ⌜ bits r ≡ heirsOf had (bits s) t p ⌝ }
+    ensures { λ r. ⌜ bits r ≡ replacing had (bits s) t p ⌝ }
 {
     let rest = leaf_set::without(s, t);
     if had {
@@ -152,12 +152,12 @@ fn inherit(held: &[u32], retained: &mut [u32], n: usize, t: u8, p: u8)
     for k in 0..n {
         let m = retained[k];
         let had = leaf_set::contains(held[k], t) | leaf_set::contains(m, t);
-        retained[k] = heirs(had, m, t, p);
+        retained[k] = replace(had, m, t, p);
     }
 }
 
 // t aborts. If its parent p is told (the abort comes with a report), p retains what t held or retained.
-pub fn report(held: &[u32], retained: &mut [u32], n: usize, t: u8, p: u8, told: bool)
+pub fn inherit_on_abort(held: &[u32], retained: &mut [u32], n: usize, t: u8, p: u8, told: bool)
     requires { ⌜ (t < 24) × (told ≡ true → p < 24) × (length (now held) ≡ n) × (length (now retained) ≡ n) ⌝ }
     ensures { λ _.
         let holders = sets (now (held .entry)) in
@@ -170,7 +170,7 @@ pub fn report(held: &[u32], retained: &mut [u32], n: usize, t: u8, p: u8, told: 
 }
 
 // t commits into its parent p: p retains what t held or retained, and t has no lock any more.
-pub fn pass(held: &mut [u32], retained: &mut [u32], n: usize, t: u8, p: u8)
+pub fn inherit_on_commit(held: &mut [u32], retained: &mut [u32], n: usize, t: u8, p: u8)
     requires { ⌜ (t < 24) × (p < 24) × (length (now held) ≡ n) × (length (now retained) ≡ n) ⌝ }
     ensures { λ _.
         let holders = sets (now (held .entry)) in

@@ -11,7 +11,7 @@ ghost use Rattle.laws.specs.Bits.{bits};
 ghost use Rattle.rules.specs.Geometry.{transactions};
 ghost use Rattle.rules.specs.Editions.{depths};
 ghost use Rattle.leaf_set.specs.Sets.{sets};
-ghost use Rattle.state_array.specs.Changes.{Row, Rows, Cleared};
+ghost use Rattle.state_array.specs.Changes.{SetChanged, Rows, Cleared};
 ghost use Rattle.state_array.specs.Kin.{livesIn, childIn};
 
 // The lowest free number, or 24: that bit is set in any case, so the bits above it don't matter.
@@ -31,10 +31,10 @@ pub fn has_child(children: &[u32; 32], t: u8) -> bool
 }
 
 // f is live, under p.
-pub fn enrol(live: &mut u32, children: &mut [u32; 32], p: u8, f: u8)
+pub fn add_child(live: &mut u32, children: &mut [u32; 32], p: u8, f: u8)
     requires { ⌜ (p < 32) × (f < 24) ⌝ }
     ensures { λ _. ⌜ (bits (now (live .exit)) ≡ (λ k. bits (now (live .entry)) k || same k f))
-        × Row p (λ k. sets (now (children .entry)) p k || same k f) (now (children .entry)) (now (children .exit)) ⌝ }
+        × SetChanged p (λ k. sets (now (children .entry)) p k || same k f) (now (children .entry)) (now (children .exit)) ⌝ }
 {
     let i = p as usize;
     *live = leaf_set::with(*live, f);
@@ -42,10 +42,10 @@ pub fn enrol(live: &mut u32, children: &mut [u32; 32], p: u8, f: u8)
 }
 
 // t, under p, is live no more.
-pub fn strike(live: &mut u32, children: &mut [u32; 32], p: u8, t: u8)
+pub fn remove_child(live: &mut u32, children: &mut [u32; 32], p: u8, t: u8)
     requires { ⌜ (p < 32) × (t < 24) ⌝ }
     ensures { λ _. ⌜ (bits (now (live .exit)) ≡ (λ k. not (same k t) && bits (now (live .entry)) k))
-        × Row p (λ k. not (same k t) && sets (now (children .entry)) p k) (now (children .entry)) (now (children .exit)) ⌝ }
+        × SetChanged p (λ k. not (same k t) && sets (now (children .entry)) p k) (now (children .entry)) (now (children .exit)) ⌝ }
 {
     let i = p as usize;
     *live = leaf_set::without(*live, t);
@@ -77,7 +77,7 @@ pub fn live_set(depth: &[u8; 24]) -> u32
 }
 
 // j is among the children of p, if it is live.
-fn enrol_if(children: &mut [u32; 32], p: u8, live: bool, j: u8)
+fn add_child_if(children: &mut [u32; 32], p: u8, live: bool, j: u8)
     requires { ⌜ (p < 32) × (j < 24) × (length (now children) ≡ 32) ⌝ }
     ensures { λ _. ⌜ Rows 32 (λ q k. sets (now (children .entry)) q k || (same k j && (live && same p q))) (now (children .exit)) ⌝ }
 {
@@ -95,7 +95,7 @@ pub fn children_of(parent: &[u8; 24], depth: &[u8; 24]) -> [u32; 32]
     let mut children = [0u32; 32];
     for j in 0..24 {
         let alive = depth[j] != 0;
-        enrol_if(&mut children, parent[j], alive, (j % 256) as u8);
+        add_child_if(&mut children, parent[j], alive, (j % 256) as u8);
     }
     children
 }
@@ -113,7 +113,7 @@ pub fn descendants(line: &[u32; 24], t: u8) -> u32
 }
 
 // Gives the free number f to a new transaction under p at depth d. Its line is `above`, the line of p, plus f.
-pub fn place(
+pub fn give_number(
     parent: &mut [u8; 24],
     depth: &mut [u8; 24],
     line: &mut [u32; 24],
@@ -125,7 +125,7 @@ pub fn place(
     requires { ⌜ (f < 24) × (d ≤ depths) ⌝ }
     ensures { λ _. ⌜ (now (parent .exit) ≡ set (now (parent .entry)) f p)
         × (now (depth .exit) ≡ set (now (depth .entry)) f d)
-        × Row f (λ k. bits above k || same k f) (now (line .entry)) (now (line .exit)) ⌝ }
+        × SetChanged f (λ k. bits above k || same k f) (now (line .entry)) (now (line .exit)) ⌝ }
 {
     let i = f as usize;
     parent[i] = p;
@@ -134,7 +134,7 @@ pub fn place(
 }
 
 // The number t is free again.
-pub fn retire(parent: &mut [u8; 24], depth: &mut [u8; 24], line: &mut [u32; 24], t: u8)
+pub fn free_number(parent: &mut [u8; 24], depth: &mut [u8; 24], line: &mut [u32; 24], t: u8)
     requires { ⌜ (t < 24) × (length (now parent) ≡ 24) × (length (now depth) ≡ 24) × (length (now line) ≡ 24) ⌝ }
     ensures { λ _. ⌜ Cleared (λ k. same k t) (now (parent .entry)) (now (parent .exit))
         × Cleared (λ k. same k t) (now (depth .entry)) (now (depth .exit))
@@ -147,7 +147,7 @@ pub fn retire(parent: &mut [u8; 24], depth: &mut [u8; 24], line: &mut [u32; 24],
 }
 
 // The number j is free again, if gone has it.
-fn end_one(parent: &mut [u8; 24], depth: &mut [u8; 24], line: &mut [u32; 24], gone: u32, j: usize)
+fn free_if(parent: &mut [u8; 24], depth: &mut [u8; 24], line: &mut [u32; 24], gone: u32, j: usize)
     requires { ⌜ (j < 24) × (length (now parent) ≡ 24) × (length (now depth) ≡ 24) × (length (now line) ≡ 24) ⌝ }
     ensures { λ _.
         let ends = bits gone j in
@@ -163,13 +163,13 @@ fn end_one(parent: &mut [u8; 24], depth: &mut [u8; 24], line: &mut [u32; 24], go
 }
 
 // The numbers of the transactions in gone are free again.
-pub fn end(parent: &mut [u8; 24], depth: &mut [u8; 24], line: &mut [u32; 24], gone: u32)
+pub fn free_numbers(parent: &mut [u8; 24], depth: &mut [u8; 24], line: &mut [u32; 24], gone: u32)
     requires { ⌜ (length (now parent) ≡ 24) × (length (now depth) ≡ 24) × (length (now line) ≡ 24) ⌝ }
     ensures { λ _. ⌜ Cleared (bits gone) (now (parent .entry)) (now (parent .exit))
         × Cleared (bits gone) (now (depth .entry)) (now (depth .exit))
         × Cleared (bits gone) (now (line .entry)) (now (line .exit)) ⌝ }
 {
     for j in 0..24 {
-        end_one(parent, depth, line, gone, j);
+        free_if(parent, depth, line, gone, j);
     }
 }

@@ -11,7 +11,7 @@ use Rattle.laws.specs.Functions.{updated}
 use Rattle.laws.specs.Bits.{bits}
 use Rattle.laws.proofs.Updated.{updated-same, updated-again}
 use Rattle.rules.specs.Store.{Page, pagesOf}
-use Rattle.rules.specs.State.{Bearers, parentIn, depthIn, chain, lineOf}
+use Rattle.rules.specs.State.{Bearers, parentIn, depthIn, lineFrom, lineOf}
 use Rattle.rules.specs.Versions.{else, nearest}
 use Rattle.leaf_set.specs.Sets.{sets}
 use Rattle.state_array.specs.View.{bearersOf, slot, versionsOf, seen}
@@ -25,19 +25,19 @@ module _ (parent depth writers work : List ℕ) (base : Page) (t r : ℕ) where
 
   module _ (c : Climb) (C : Climbed parent depth (getD writers r 0) t c) where
     start : seen parent depth writers work base t r
-        ≡ nearest (versionsOf depth writers work) base r (chain b (c .left) (c .at))
+        ≡ nearest (versionsOf depth writers work) base r (lineFrom b (c .left) (c .at))
     unfolding seen sets
     start = C .reads (versionsOf depth writers work) base r (λ j. some-is depth writers work j r)
 
     pub seen-home : c .left ≡ 0 → seen parent depth writers work base t r ≡ base
-    unfolding nearest chain
-    seen-home e = start ∙ ap (λ (n : ℕ). nearest (versionsOf depth writers work) base r (chain b n (c .at))) e
+    unfolding nearest lineFrom
+    seen-home e = start ∙ ap (λ (n : ℕ). nearest (versionsOf depth writers work) base r (lineFrom b n (c .at))) e
 
     first : (n : ℕ) → c .left ≡ suc n → bits (getD writers r 0) (c .at) ≡ true → seen parent depth writers work base t r ≡ pagesOf work (slot r (c .left))
-    unfolding versionsOf sets nearest chain else
+    unfolding versionsOf sets nearest lineFrom else
     first n e f =
-        start ∙ ap (λ (n : ℕ). nearest (versionsOf depth writers work) base r (chain b n (c .at))) e
-        ∙ ap (λ (x : Bool). else (cond x (some (pagesOf work (slot r (getD depth (c .at) 0)))) none) (nearest (versionsOf depth writers work) base r (chain b n (parentIn (b (c .at)))))) f
+        start ∙ ap (λ (n : ℕ). nearest (versionsOf depth writers work) base r (lineFrom b n (c .at))) e
+        ∙ ap (λ (x : Bool). else (cond x (some (pagesOf work (slot r (getD depth (c .at) 0)))) none) (nearest (versionsOf depth writers work) base r (lineFrom b n (parentIn (b (c .at)))))) f
         ∙ ap (λ (d : ℕ). pagesOf work (slot r d)) (C .level)
 
     pub seen-slot : 0 < c .left → seen parent depth writers work base t r ≡ pagesOf work (slot r (c .left))
@@ -50,14 +50,14 @@ module _ (parent depth writers work : List ℕ) (base : Page) (t r : ℕ) where
 
   -- a writer sees its own version
   pub seen-own : sets writers r t ≡ true → 0 < getD depth t 0 → seen parent depth writers work base t r ≡ pagesOf work (slot r (getD depth t 0))
-  unfolding seen versionsOf lineOf nearest chain else
+  unfolding seen versionsOf lineOf nearest lineFrom else
   seen-own e h = go (getD depth t 0) refl
     where
-      go : (n : ℕ) → getD depth t 0 ≡ n → nearest (versionsOf depth writers work) base r (chain b (depthIn (b t)) t) ≡ pagesOf work (slot r (getD depth t 0))
+      go : (n : ℕ) → getD depth t 0 ≡ n → nearest (versionsOf depth writers work) base r (lineFrom b (depthIn (b t)) t) ≡ pagesOf work (slot r (getD depth t 0))
       go zero f = absurd (omega arith)
       go (suc n) f =
-          ap (λ (n : ℕ). nearest (versionsOf depth writers work) base r (chain b n t)) (depth-is parent depth t ∙ f)
-          ∙ ap (λ (x : Bool). else (cond x (some (pagesOf work (slot r (getD depth t 0)))) none) (nearest (versionsOf depth writers work) base r (chain b n (parentIn (b t))))) e
+          ap (λ (n : ℕ). nearest (versionsOf depth writers work) base r (lineFrom b n t)) (depth-is parent depth t ∙ f)
+          ∙ ap (λ (x : Bool). else (cond x (some (pagesOf work (slot r (getD depth t 0)))) none) (nearest (versionsOf depth writers work) base r (lineFrom b n (parentIn (b t))))) e
 
 -- a byte of a version that has been made is written
 pub written-byte : (n m t r o v : ℕ) (p : Page) (writers work writers′ work′ work″ : List ℕ) → Written n t r p writers work writers′ work′ → m ≡ n

@@ -10,7 +10,7 @@ use lib.ListN.{getD, List·getD-eq-default}
 use Rattle.laws.specs.Bits.{bits}
 use Rattle.laws.proofs.Bits.{bits-zero}
 use Rattle.rules.specs.Store.{Page}
-use Rattle.rules.specs.State.{parentIn, depthIn, chain, lineOf, Versions}
+use Rattle.rules.specs.State.{parentIn, depthIn, lineFrom, lineOf, Versions}
 use Rattle.rules.specs.Versions.{isSome, else, nearest}
 use Rattle.rules.specs.Editions.{depths}
 use Rattle.rules.proofs.Bearers.{up-one}
@@ -24,7 +24,7 @@ pub record Walk (parent depth : List ℕ) (w t : ℕ) (c : Climb) (n : ℕ) : Ty
   pub going : (c .left + n ≤ depths) ⊎ (bits w (c .at) ≡ true)
   pub level : getD depth (c .at) 0 ≡ c .left
   pub reads : (ver : Versions) (base : Page) (r : ℕ) → ((j : ℕ) → isSome (ver j r) ≡ bits w j)
-      → nearest ver base r (lineOf (bearersOf parent depth) t) ≡ nearest ver base r (chain (bearersOf parent depth) (c .left) (c .at))
+      → nearest ver base r (lineOf (bearersOf parent depth) t) ≡ nearest ver base r (lineFrom (bearersOf parent depth) (c .left) (c .at))
 
 skips : (o : Option Page) (p : Page) → isSome o ≡ false → else o p ≡ p
 unfolding isSome else
@@ -43,7 +43,7 @@ module _ (parent depth : List ℕ) (S : Sources parent depth) (w t : ℕ) where
   walk-none c e f = record {
     going = inl (let k = S .shallow t in omega arith);
     level = ap (λ (j : ℕ). getD depth j 0) e ∙ sym f;
-    reads = λ ver base r h. ap₂ (λ (n j : ℕ). nearest ver base r (chain (bearersOf parent depth) n j)) (depth-is parent depth t ∙ sym f) (sym e);
+    reads = λ ver base r h. ap₂ (λ (n j : ℕ). nearest ver base r (lineFrom (bearersOf parent depth) n j)) (depth-is parent depth t ∙ sym f) (sym e);
   }
 
   -- who is in w needs no walk
@@ -52,35 +52,35 @@ module _ (parent depth : List ℕ) (S : Sources parent depth) (w t : ℕ) where
 
   -- where w is empty, nobody is left
   pub walk-empty : (c : Climb) → w ≡ 0 → c .at ≡ 31 → c .left ≡ 0 → Climbed parent depth w t c
-  unfolding nearest chain
+  unfolding nearest lineFrom
   walk-empty c z e f = record {
     stops = inl f;
     level = ap (λ (j : ℕ). getD depth j 0) e ∙ List·getD-eq-default depth 0 {n = 31} (let k = S .long in omega arith) ∙ sym f;
     reads = λ ver base r h.
         none-nearest ver base r (λ j. h j ∙ ap (λ (s : ℕ). bits s j) z ∙ bits-zero j) (lineOf (bearersOf parent depth) t)
-        ∙ ap (λ (n : ℕ). nearest ver base r (chain (bearersOf parent depth) n (c .at))) (sym f);
+        ∙ ap (λ (n : ℕ). nearest ver base r (lineFrom (bearersOf parent depth) n (c .at))) (sym f);
   }
 
   pub walk-more : (c d : Climb) (n : ℕ) → Walk parent depth w t c n → n < depths → Climbing parent w c d → Walk parent depth w t d (n + 1)
-  unfolding nearest chain
+  unfolding nearest lineFrom
   walk-more c d n W b (ended z e) = record {
     going = inl (let k = ap (λ (x : Climb). x .left) e in omega arith);
     level = ap (λ (x : Climb). getD depth (x .at) 0) e ∙ W .level ∙ sym (ap (λ (x : Climb). x .left) e);
-    reads = λ ver base r h. W .reads ver base r h ∙ sym (ap (λ (x : Climb). nearest ver base r (chain (bearersOf parent depth) (x .left) (x .at))) e);
+    reads = λ ver base r h. W .reads ver base r h ∙ sym (ap (λ (x : Climb). nearest ver base r (lineFrom (bearersOf parent depth) (x .left) (x .at))) e);
   }
   walk-more c d n W b (found f e) = record {
     going = inr (ap (λ (x : Climb). bits w (x .at)) e ∙ f);
     level = ap (λ (x : Climb). getD depth (x .at) 0) e ∙ W .level ∙ sym (ap (λ (x : Climb). x .left) e);
-    reads = λ ver base r h. W .reads ver base r h ∙ sym (ap (λ (x : Climb). nearest ver base r (chain (bearersOf parent depth) (x .left) (x .at))) e);
+    reads = λ ver base r h. W .reads ver base r h ∙ sym (ap (λ (x : Climb). nearest ver base r (lineFrom (bearersOf parent depth) (x .left) (x .at))) e);
   }
   walk-more c d n W b (passed f g e) = record {
     going = inl (go (W .going));
     level = sym (depth-is parent depth (d .at)) ∙ ap (λ (j : ℕ). depthIn (bearersOf parent depth j)) (sym over)
         ∙ up-one (S .tree) (c .at) (d .left) (depth-is parent depth (c .at) ∙ W .level ∙ g);
     reads = λ ver base r h. W .reads ver base r h
-        ∙ ap (λ (m : ℕ). nearest ver base r (chain (bearersOf parent depth) m (c .at))) g
+        ∙ ap (λ (m : ℕ). nearest ver base r (lineFrom (bearersOf parent depth) m (c .at))) g
         ∙ skips (ver (c .at) r) _ (h (c .at) ∙ f)
-        ∙ ap (λ (j : ℕ). nearest ver base r (chain (bearersOf parent depth) (d .left) j)) over;
+        ∙ ap (λ (j : ℕ). nearest ver base r (lineFrom (bearersOf parent depth) (d .left) j)) over;
   }
     where
       over : parentIn (bearersOf parent depth (c .at)) ≡ d .at

@@ -10,7 +10,7 @@ use Rattle.laws.specs.Functions.{updated}
 use Rattle.laws.specs.Bits.{bits}
 use Rattle.rules.specs.Geometry.{transactions, nobody}
 use Rattle.rules.specs.Store.{Page, pagesOf}
-use Rattle.rules.specs.State.{chain, lineOf, Versions}
+use Rattle.rules.specs.State.{lineFrom, lineOf, Versions}
 use Rattle.rules.specs.Versions.{isSome, nearest}
 use Rattle.rules.specs.Editions.{depths}
 use Rattle.rules.proofs.Bearers.{Rooted}
@@ -36,7 +36,7 @@ pub record Climbed (parent depth : List ℕ) (w t : ℕ) (c : Climb) : Type 0 wh
   pub stops : (c .left ≡ 0) ⊎ (bits w (c .at) ≡ true)
   pub level : getD depth (c .at) 0 ≡ c .left
   pub reads : (version : Versions) (home : Page) (r : ℕ) → ((j : ℕ) → isSome (version j r) ≡ bits w j)
-      → nearest version home r (lineOf (bearersOf parent depth) t) ≡ nearest version home r (chain (bearersOf parent depth) (c .left) (c .at))
+      → nearest version home r (lineOf (bearersOf parent depth) t) ≡ nearest version home r (lineFrom (bearersOf parent depth) (c .left) (c .at))
 
 -- t is a writer of r, and page n of the working buffer becomes p; nothing else changes
 pub record Written (n t r : ℕ) (p : Page) (writers work writers′ work′ : List ℕ) : Type 0 where

@@ -172,7 +172,7 @@ pub fn write(
 }
 
 // If t has a version of record r, copies it from the slot at depth d to the parent's slot at depth d - 1, and notes p as its writer instead of t.
-fn lift_row(writers: &mut [u32], work: &mut [u8], t: u8, p: u8, d: u8, r: usize)
+fn hand_up_row(writers: &mut [u32], work: &mut [u8], t: u8, p: u8, d: u8, r: usize)
     requires { ⌜ (t < 24) × (p < 24) × (1 < d) × (d ≤ depths) × (r < length (now writers)) × (length (now writers) ≤ 64)
         × (length (now work) ≡ 512 * length (now writers)) ⌝ }
     ensures { λ _.
@@ -189,13 +189,13 @@ fn lift_row(writers: &mut [u32], work: &mut [u8], t: u8, p: u8, d: u8, r: usize)
 }
 
 // The same for each of the n records.
-pub fn lift(writers: &mut [u32], work: &mut [u8], n: usize, t: u8, p: u8, d: u8)
+pub fn hand_up(writers: &mut [u32], work: &mut [u8], n: usize, t: u8, p: u8, d: u8)
     requires { ⌜ (t < 24) × (p < 24) × (1 < d) × (d ≤ depths) × (n ≤ 64) × (length (now writers) ≡ n) × (length (now work) ≡ 512 * n) ⌝ }
     ensures { λ _.
         let wrote = sets (now (writers .entry)) in
         ⌜ (pagesOf (now (work .exit)) ≡ lifted wrote t d (pagesOf (now (work .entry)))) × Rows n (handed t p wrote) (now (writers .exit)) ⌝ }
 {
     for r in 0..n {
-        lift_row(writers, work, t, p, d, r);
+        hand_up_row(writers, work, t, p, d, r);
     }
 }

@@ -9,14 +9,14 @@ use native.Mathlib.Omega.{arith}
 use lib.ListN.{getD}
 use Rattle.laws.specs.Counting.{any}
 use Rattle.rules.specs.Geometry.{nobody}
-use Rattle.rules.specs.State.{Bearers, parentIn, depthIn, chain, lineOf, live}
+use Rattle.rules.specs.State.{Bearers, parentIn, depthIn, lineFrom, lineOf, live}
 use Rattle.rules.specs.Form.{Form}
 use Rattle.rules.specs.Step.{hasChild}
 use Rattle.rules.proofs.Bearers.{up-one}
 use Rattle.rules.proofs.Locks.{rooted-of}
 use Rattle.leaf_set.specs.Sets.{sets}
 use Rattle.state_array.specs.View.{bearerAt, bearersOf}
-use Rattle.state_array.specs.Kin.{Kin}
+use Rattle.state_array.specs.Kin.{DerivedSets}
 use Rattle.state_array.proofs.View.{depth-is, parent-is, child-is}
 use Rattle.state_whole.specs.Whole.{Arrays, view, Intact}
 
@@ -29,8 +29,8 @@ module _ (f : Form) where
     d j = getD (x .depth) j 0
 
     pub top-line : d t ≡ 1 → lineOf b t ≡ t ∷ []
-    unfolding lineOf chain
-    top-line top = ap (λ (m : ℕ). chain b m t) (depth-is (x .parent) (x .depth) t ∙ top)
+    unfolding lineOf lineFrom
+    top-line top = ap (λ (m : ℕ). lineFrom b m t) (depth-is (x .parent) (x .depth) t ∙ top)
 
     module _ (n : ℕ) (deep : d t ≡ suc (suc n)) where
       abbrev p : ℕ
@@ -49,16 +49,16 @@ module _ (f : Form) where
       parent-other e = let k = parent-deep in let m : d p ≡ d t = ap d e in absurd (omega arith)
 
       pub line-up : lineOf b t ≡ t ∷ lineOf b p
-      unfolding lineOf chain
+      unfolding lineOf lineFrom
       line-up =
-          ap (λ (m : ℕ). chain b m t) (depth-is (x .parent) (x .depth) t ∙ deep)
-          ∙ ap (λ (j : ℕ). t ∷ chain b (suc n) j) parent-there
-          ∙ ap (λ (m : ℕ). t ∷ chain b m p) (sym (depth-is (x .parent) (x .depth) p ∙ parent-deep))
+          ap (λ (m : ℕ). lineFrom b m t) (depth-is (x .parent) (x .depth) t ∙ deep)
+          ∙ ap (λ (j : ℕ). t ∷ lineFrom b (suc n) j) parent-there
+          ∙ ap (λ (m : ℕ). t ∷ lineFrom b m p) (sym (depth-is (x .parent) (x .depth) p ∙ parent-deep))
 
       -- the parent's own line begins with it
-      pub parent-line : lineOf b p ≡ p ∷ chain b n (parentIn (b p))
-      unfolding lineOf chain
-      parent-line = ap (λ (m : ℕ). chain b m p) (depth-is (x .parent) (x .depth) p ∙ parent-deep)
+      pub parent-line : lineOf b p ≡ p ∷ lineFrom b n (parentIn (b p))
+      unfolding lineOf lineFrom
+      parent-line = ap (λ (m : ℕ). lineFrom b m p) (depth-is (x .parent) (x .depth) p ∙ parent-deep)
 
   -- every parent is a name: of a free number 0, of others nobody's or a live number
   pub parent-named : (x : Arrays) → Intact f x → (t : ℕ) → getD (x .parent) t 0 < 32
@@ -74,6 +74,6 @@ module _ (f : Form) where
           named (inr q) = let h = I .sound .numbered (getD (x .parent) t 0) q in omega arith
 
   -- the set of t's children is empty exactly if the rules find no child of t
-  pub child-test : (x : Arrays) (live : ℕ) (children : List ℕ) (t : ℕ) (b : Bool) → Kin (x .parent) (x .depth) live children → t < 32 → b ≡ any 24 (sets children t) → b ≡ hasChild (view f x) t
+  pub child-test : (x : Arrays) (live : ℕ) (children : List ℕ) (t : ℕ) (b : Bool) → DerivedSets (x .parent) (x .depth) live children → t < 32 → b ≡ any 24 (sets children t) → b ≡ hasChild (view f x) t
   unfolding view hasChild live
   child-test x live children t b K h e = e ∙ ap (any 24) (K .under t h ∙ fun-ext (λ u. child-is (x .parent) (x .depth) t u))

@@ -15,8 +15,8 @@ use Rattle.rules.specs.Step.{StateOf}
 use Rattle.rules.specs.Run.{words, answerBytes, play, eventsIn}
 use Rattle.leaf_event.proofs.Words.{words-next}
 use Rattle.leaf_event.specs.declared.Answer.{Answer}
-use Rattle.state_whole.specs.Whole.{Arrays, view, Intact, saying, Stepped}
-use Rattle.state_whole.specs.Portion.{played, Portion}
+use Rattle.state_whole.specs.Whole.{Arrays, view, Intact, engineAnswer, Stepped}
+use Rattle.state_whole.specs.Portion.{played, PortionPlayed}
 use Rattle.state_whole.proofs.Steps.{retold}
 
 -- two bytes are put behind the first 2 k
@@ -81,7 +81,7 @@ module _ (f : Form) (s : ℕ) where
       play-next = ap (λ (s : StateOf f). play f s ws .state) (sym (T .is))
 
       bytes-next : answerBytes (play f (view f y) (w ∷ ws) .answers) ≡ a .number ∷ a .value ∷ answerBytes (play f (view f z) ws .answers)
-      unfolding play answerBytes saying
+      unfolding play answerBytes engineAnswer
       bytes-next =
           ap₂ (λ (b : Answer) (s : StateOf f). b .number ∷ b .value ∷ answerBytes (play f s ws .answers)) (sym (T .says)) (sym (T .is))
 
@@ -140,7 +140,7 @@ module _ (f : Form) (s : ℕ) where
         unfolding view
         end-store = sym (to-from (y .store) (P .intact .form .stores))
 
-        playing-done : Portion f x events answers y answers′
+        playing-done : PortionPlayed f x events answers y answers′
         playing-done = record {
           state = sym end-state;
           intact = P .intact;
@@ -150,6 +150,6 @@ module _ (f : Form) (s : ℕ) where
           store = end-store ∙ ap (λ (s : StateOf f). f .medium .toBytes (s .store)) (sym end-state);
         }
 
-      pub playing-all : (x y : Arrays) (events answers answers′ : List ℕ) (k n : ℕ) → k ≡ n → n ≡ length events / s → Playing x events answers n k y answers′ → Portion f x events answers y answers′
+      pub playing-all : (x y : Arrays) (events answers answers′ : List ℕ) (k n : ℕ) → k ≡ n → n ≡ length events / s → Playing x events answers n k y answers′ → PortionPlayed f x events answers y answers′
       playing-all x y events answers answers′ k n e count P =
           playing-done x y events answers answers′ n count (subst (λ (k : ℕ). Playing x events answers n k y answers′) e P)

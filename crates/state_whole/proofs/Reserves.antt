@@ -15,7 +15,7 @@ use Rattle.laws.proofs.Counting.{any-false, any-of}
 use Rattle.rules.specs.Geometry.{Geometry, Proper, records}
 use Rattle.rules.specs.Store.{Page, Pages, Prepared, named, mapOf, readPrepared, preparedMap, identityIn, isReserved, pending}
 use Rattle.rules.specs.Event.{Event, Access, lock}
-use Rattle.rules.specs.State.{chain, lineOf}
+use Rattle.rules.specs.State.{lineFrom, lineOf}
 use Rattle.rules.specs.Versions.{isSome}
 use Rattle.rules.specs.Step.{StateOf, isBusy, isFor, isTop, changes, busy, reserved, step}
 use Rattle.rules.specs.Form.{Form, atomic}
@@ -142,10 +142,10 @@ module _ (tears : Bool) (g : Geometry) where
 
   -- a live transaction is a top one exactly if it is at depth 1
   pub top-is : (x : Arrays) (t : ℕ) → 0 < getD (x .depth) t 0 → isTop (lineOf (view f x .bearer) t) ≡ same (getD (x .depth) t 0) 1
-  unfolding view lineOf chain isTop
-  top-is x t h = ap (λ (n : ℕ). isTop (chain (bearersOf (x .parent) (x .depth)) n t)) (depth-is (x .parent) (x .depth) t) ∙ go (getD (x .depth) t 0) h
+  unfolding view lineOf lineFrom isTop
+  top-is x t h = ap (λ (n : ℕ). isTop (lineFrom (bearersOf (x .parent) (x .depth)) n t)) (depth-is (x .parent) (x .depth) t) ∙ go (getD (x .depth) t 0) h
     where
-      go : (d : ℕ) → 0 < d → isTop (chain (bearersOf (x .parent) (x .depth)) d t) ≡ same d 1
+      go : (d : ℕ) → 0 < d → isTop (lineFrom (bearersOf (x .parent) (x .depth)) d t) ≡ same d 1
       go zero k = absurd (omega arith)
       go (suc zero) k = sym (same-refl 1)
       go (suc (suc d)) k = sym (ne-false (suc (suc d)) 1 (λ q. omega arith))

@@ -15,7 +15,7 @@ use Rattle.rules.specs.Event.{Access, begin, lock, write, read, commit, abort, 
 use Rattle.rules.specs.State.{lineOf, depthIn, live, holds, holdsWriting, down}
 use Rattle.rules.specs.Locks.{grantable}
 use Rattle.rules.specs.Form.{Form}
-use Rattle.rules.specs.Step.{refused, StateOf, OutcomeOf, hasChild, firstFree, begun, locked, wrote, aborted, finished, visible, isFor, isTop, changes, busy, reserved, commitsTop, commits, recovers, decides, firstOf, refusals, refusal, act, judged, step, open-step}
+use Rattle.rules.specs.Step.{refused, StateOf, OutcomeOf, hasChild, firstFree, begun, locked, wrote, aborted, finished, visible, isFor, isTop, changes, busy, reserved, commitsTop, commits, recovers, decides, firstOf, refusals, refusal, act, outcomeBy, step, open-step}
 
 -- nothing is free where the lowest free number is the bound; else something is
 pub full : (n : ℕ) (p : ℕ → Bool) → lowest n (λ u. not (p u)) ≡ n → all n p ≡ true
@@ -104,66 +104,66 @@ module _ (f : Form) (s : StateOf f) where
 
   module _ (t : ℕ) (u : s .up ≡ true) (l : live s t ≡ true) (n : hasChild s t ≡ false) where
     pub lock-done : (r : ℕ) (a : Access) → reserved f s r ≡ false → grantable a (s .held) (s .retained) (lineOf (s .bearer) t) t r ≡ true → step f s (some (lock t r a)) ≡ finished (locked s t r a) 0
-    unfolding step refusal refusals firstOf act judged
+    unfolding step refusal refusals firstOf act outcomeBy
     lock-done r a open-to g = rw (open-to, l, n, g, u)
 
     pub lock-refused : (r : ℕ) (a : Access) → reserved f s r ≡ false → grantable a (s .held) (s .retained) (lineOf (s .bearer) t) t r ≡ false → step f s (some (lock t r a)) ≡ no 8
-    unfolding step refusal refusals firstOf act judged
+    unfolding step refusal refusals firstOf act outcomeBy
     lock-refused r a open-to g = rw (open-to, l, n, g, u)
 
     -- a record that the prepared transaction changed
     pub lock-reserved : (r : ℕ) (a : Access) → reserved f s r ≡ true → step f s (some (lock t r a)) ≡ no 8
-    unfolding step refusal refusals firstOf act judged
+    unfolding step refusal refusals firstOf act outcomeBy
     lock-reserved r a e = rw (e, l, n, u)
 
     pub read-done : (r o : ℕ) → holds s r t ≡ true → step f s (some (read t r o)) ≡ finished s (getD (visible f s t r) o 0)
-    unfolding step refusal refusals firstOf act judged
+    unfolding step refusal refusals firstOf act outcomeBy
     read-done r o h = rw (l, n, h, u)
 
     pub read-refused : (r o : ℕ) → holds s r t ≡ false → step f s (some (read t r o)) ≡ no 9
-    unfolding step refusal refusals firstOf act judged
+    unfolding step refusal refusals firstOf act outcomeBy
     read-refused r o h = rw (l, n, h, u)
 
     pub write-done : (r o v : ℕ) → holdsWriting s r t ≡ true → step f s (some (write t r o v)) ≡ finished (wrote s t r (set (visible f s t r) o v)) 0
-    unfolding step refusal refusals firstOf act judged
+    unfolding step refusal refusals firstOf act outcomeBy
     write-done r o v h = rw (l, n, h, u)
 
     pub write-refused : (r o v : ℕ) → holdsWriting s r t ≡ false → step f s (some (write t r o v)) ≡ no 9
-    unfolding step refusal refusals firstOf act judged
+    unfolding step refusal refusals firstOf act outcomeBy
     write-refused r o v h = rw (l, n, h, u)
 
   module _ (t : ℕ) (u : s .up ≡ true) (l : live s t ≡ true) where
     pub commit-done : (k : ℕ) → hasChild s t ≡ false → (isTop (lineOf (s .bearer) t) && (changes f s t && busy f s)) ≡ false → step f s (some (commit t k)) ≡ commits f s t k (lineOf (s .bearer) t)
-    unfolding step refusal refusals firstOf act judged
+    unfolding step refusal refusals firstOf act outcomeBy
     commit-done k h c = rw (l, h, c, u)
 
     pub commit-busy : (k : ℕ) → hasChild s t ≡ false → (isTop (lineOf (s .bearer) t) && (changes f s t && busy f s)) ≡ true → step f s (some (commit t k)) ≡ no 13
-    unfolding step refusal refusals firstOf act judged
+    unfolding step refusal refusals firstOf act outcomeBy
     commit-busy k h c = rw (l, h, c, u)
 
     pub prepare-children : (k i : ℕ) → hasChild s t ≡ true → step f s (some (prepare t k i)) ≡ no 10
-    unfolding step refusal refusals firstOf act judged
+    unfolding step refusal refusals firstOf act outcomeBy
     prepare-children k i h = rw (l, h, u)
 
     pub prepare-busy : (k i : ℕ) → hasChild s t ≡ false → (changes f s t && busy f s) ≡ true → step f s (some (prepare t k i)) ≡ no 13
-    unfolding step refusal refusals firstOf act judged
+    unfolding step refusal refusals firstOf act outcomeBy
     prepare-busy k i h c = rw (l, h, c, u)
 
     pub prepare-beneath : (k i : ℕ) → hasChild s t ≡ false → (changes f s t && busy f s) ≡ false → isTop (lineOf (s .bearer) t) ≡ false → step f s (some (prepare t k i)) ≡ no 27
-    unfolding step refusal refusals firstOf act judged
+    unfolding step refusal refusals firstOf act outcomeBy
     prepare-beneath k i h c b = rw (l, h, c, b, u)
 
     pub prepare-done : (k i : ℕ) → hasChild s t ≡ false → (changes f s t && busy f s) ≡ false → isTop (lineOf (s .bearer) t) ≡ true
         → step f s (some (prepare t k i)) ≡ commitsTop f s t (f .medium .prepare (s .store) (s .version t) i k)
-    unfolding step refusal refusals firstOf act judged
+    unfolding step refusal refusals firstOf act outcomeBy
     prepare-done k i h c b = rw (l, h, c, b, u)
 
     pub commit-refused : (k : ℕ) → hasChild s t ≡ true → step f s (some (commit t k)) ≡ no 10
-    unfolding step refusal refusals firstOf act judged
+    unfolding step refusal refusals firstOf act outcomeBy
     commit-refused k h = rw (l, h, u)
 
     pub abort-done : (w : Bool) → step f s (some (abort t w)) ≡ finished (aborted s t w (lineOf (s .bearer) t)) 0
-    unfolding step refusal refusals firstOf act judged
+    unfolding step refusal refusals firstOf act outcomeBy
     abort-done w = rw (l, u)
 
   module _ (p : ℕ) (u : s .up ≡ true) where
@@ -181,15 +181,15 @@ module _ (f : Form) (s : StateOf f) where
       begin-full h = rw (a, d, h, u)
 
       pub begin-done : all transactions (live s) ≡ false → step f s (some (begin p)) ≡ finished (begun s (firstFree s) p) (firstFree s)
-      unfolding step refusal refusals firstOf act judged
+      unfolding step refusal refusals firstOf act outcomeBy
       begin-done h = rw (a, d, h, u)
 
   pub decide-done : (d : Bool) (k i : ℕ) → s .up ≡ true → step f s (some (decide d k i)) ≡ decides f s d k (isFor i (f .medium .prepared (s .store)))
-  unfolding step refusal refusals firstOf act judged
+  unfolding step refusal refusals firstOf act outcomeBy
   decide-done d k i u = rw u
 
   pub query-done : (i : ℕ) → s .up ≡ true → step f s (some (query i)) ≡ finished s (cond (isFor i (f .medium .prepared (s .store))) 1 0)
-  unfolding step refusal refusals firstOf act judged
+  unfolding step refusal refusals firstOf act outcomeBy
   query-done i u = rw u
 
   pub crash-done : step f s (some crash) ≡ finished (down (s .store)) 0
@@ -205,5 +205,5 @@ module _ (f : Form) (s : StateOf f) where
   recover-damaged k u d = rw (d, u)
 
   pub recover-done : (k : ℕ) → s .up ≡ false → f .medium .damaged (s .store) ≡ false → step f s (some (recover k)) ≡ recovers f s (f .medium .recover (s .store) k)
-  unfolding step refusal refusals firstOf act judged
+  unfolding step refusal refusals firstOf act outcomeBy
   recover-done k u d = rw (d, u)

@@ -22,27 +22,27 @@ use Rattle.state_array.proofs.View.{depth-is, active-is, idle-is, deep-is, some
 use Rattle.state_array.proofs.Modes.{writing-is, lock-is}
 use Rattle.state_version.specs.Parts.{Sources}
 use Rattle.leaf_event.specs.declared.Answer.{Answer}
-use Rattle.state_whole.specs.Whole.{Arrays, view, Formed, Intact, saying, Stepped}
+use Rattle.state_whole.specs.Whole.{Arrays, view, Formed, Intact, engineAnswer, Stepped}
 
 abbrev pub answer : ℕ → ℕ → Answer
 answer n v = record { number = n; value = v }
 
 module _ (f : Form) where
   pub stepped : (x y : Arrays) (e : Option Event) (s : StateOf f) (b : rules.Answer) (a : Answer) → step f (view f x) e ≡ record { state = s; answer = b }
-      → view f y ≡ s → a ≡ saying b → Formed f y → Stepped f x e a y
+      → view f y ≡ s → a ≡ engineAnswer b → Formed f y → Stepped f x e a y
   stepped x y e s b a q v w F = record {
     is = v ∙ sym (ap (λ (o : OutcomeOf f). o .state) q);
-    says = w ∙ sym (ap (λ (o : OutcomeOf f). saying (o .answer)) q);
+    says = w ∙ sym (ap (λ (o : OutcomeOf f). engineAnswer (o .answer)) q);
     form = F;
   }
 
   -- done, with a value; refused, with a number
   pub finishes : (x y : Arrays) (e : Option Event) (s : StateOf f) (v : ℕ) → step f (view f x) e ≡ finished s v → view f y ≡ s → Formed f y → Stepped f x e (answer 0 v) y
-  unfolding finished saying numberOf valueOf
+  unfolding finished engineAnswer numberOf valueOf
   finishes x y e s v q w F = stepped x y e s (done v) (answer 0 v) q w refl F
 
   pub unmoved : (x : Arrays) (e : Option Event) (n : ℕ) → Formed f x → step f (view f x) e ≡ record { state = view f x; answer = refused n } → Stepped f x e (answer n 0) x
-  unfolding saying numberOf valueOf
+  unfolding engineAnswer numberOf valueOf
   unmoved x e n F q = stepped x x e (view f x) (refused n) (answer n 0) q refl refl F
 
   pub retold : (x y : Arrays) (e e′ : Option Event) (a : Answer) → e′ ≡ e → Stepped f x e a y → Stepped f x e′ a y

@@ -13,7 +13,7 @@ module _ (f : Form) where
   played x events = play f (view f x) (words (f .geometry) (eventsIn f events) events)
 
   -- The events have been played, from x to y: the end state, the answers with the bytes past the last event as they were, and the store's bytes.
-  pub record Portion (x : Arrays) (events answers : List ℕ) (y : Arrays) (answers′ : List ℕ) : Type 0 where
+  pub record PortionPlayed (x : Arrays) (events answers : List ℕ) (y : Arrays) (answers′ : List ℕ) : Type 0 where
     pub state : view f y ≡ played x events .state
     pub intact : Intact f y
     pub answered : answers′ ≡ answerBytes (played x events .answers) ++ drop (2 * eventsIn f events) answers

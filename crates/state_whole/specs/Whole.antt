@@ -42,8 +42,8 @@ unfoldable pub lineIn : Bearers → ℕ → ℕ → Bool
 lineIn b t u = mem u (lineOf b t)
 
 -- the answer's number and value are those of the rules' answer
-unfoldable pub saying : rules.Answer → Answer
-saying b = record { number = numberOf b; value = valueOf b }
+unfoldable pub engineAnswer : rules.Answer → Answer
+engineAnswer b = record { number = numberOf b; value = valueOf b }
 
 module _ (f : Form) where
   -- the forms that the engine serves: up to sixty-four records, and slots for each depth
@@ -88,7 +88,7 @@ module _ (f : Form) where
   -- the event e, or a bad one, leads from x to y, with the answer a
   pub record Stepped (x : Arrays) (e : Option Event) (a : Answer) (y : Arrays) : Type 0 where
     pub is : view y ≡ step f (view x) e .state
-    pub says : a ≡ saying (step f (view x) e .answer)
+    pub says : a ≡ engineAnswer (step f (view x) e .answer)
     pub form : Formed y
 
   -- it is up, and t is live

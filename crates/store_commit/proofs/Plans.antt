@@ -22,7 +22,7 @@ use Rattle.rules.specs.State.{mem}
 use Rattle.rules.specs.Pairs.{shown, mended, commitPairs, recoverPairs}
 use Rattle.rules.specs.Editions.{mediumOf}
 use Rattle.rules.proofs.Pairs.{shows-mend}
-use Rattle.store_write.specs.Phase.{StoreOf, storeOf, shownIn, mendedIn, cutOn, share, Phase, madeOf, Leaves}
+use Rattle.store_write.specs.Phase.{StoreOf, storeOf, shownIn, mendedIn, cutOn, writeShare, WritesPhase, madeOf, PageWritesDone}
 use Rattle.store_write.proofs.Phases.{phase-then, phase-last, none-left}
 use Rattle.store_commit.specs.Phase.{sweep, copies, topSlot, versionsIn}
 use Rattle.store_commit.proofs.Sweeps.{sweep-same}
@@ -115,17 +115,17 @@ module _ (g : Geometry) (n : ℕ) (many : records g ≡ n) where
     commit-nothing e =
         ap (commitWrites g (pageIn v) (mapOf g (λ r. isSome (v r)))) (those-is ∙ ap (λ (m : ℕ). those n (named g m)) e ∙ those-none n (named-zero g))
 
-    pub commit-none : (b : Bool) (s : StoreOf b) (k : ℕ) → map ≡ 0 → Leaves (cutOn b k (commitPlan g v) s) s 0 false
+    pub commit-none : (b : Bool) (s : StoreOf b) (k : ℕ) → map ≡ 0 → PageWritesDone (cutOn b k (commitPlan g v) s) s 0 false
     commit-none b s k e = none-left b k s (commit-nothing e)
 
     -- the four phases of a commit
     pub commit-leaves : {b : Bool} {s s₁ s₂ s₃ s₄ : StoreOf b} {k a c d e : ℕ} → map < 2 ^ n → map ≢ 0
-        → Phase b k (sweep (named g map) (copies 1 new) n) s s₁ a → Phase b a (sets 0 (commitPage g map) ∷ []) s₁ s₂ c
-        → Phase b c (sweep (named g map) (copies (1 + n) new) n) s₂ s₃ d → Phase b d (sets 0 (commitPage g 0) ∷ []) s₃ s₄ e
-        → Leaves (cutOn b k (commitPlan g v) s) s₄ (madeOf b k d e) (under d (share b))
+        → WritesPhase b k (sweep (named g map) (copies 1 new) n) s s₁ a → WritesPhase b a (sets 0 (commitPage g map) ∷ []) s₁ s₂ c
+        → WritesPhase b c (sweep (named g map) (copies (1 + n) new) n) s₂ s₃ d → WritesPhase b d (sets 0 (commitPage g 0) ∷ []) s₃ s₄ e
+        → PageWritesDone (cutOn b k (commitPlan g v) s) s₄ (madeOf b k d e) (under d (writeShare b))
     unfolding marks
     commit-leaves {b} {s = s} {s₄ = s₄} {k = k} {d = d} {e = e} small h p q r t =
-        subst⁻¹ (λ (ws : List PageWrite). Leaves (cutOn b k ws s) s₄ (madeOf b k d e) (under d (share b))) (commit-is small h)
+        subst⁻¹ (λ (ws : List PageWrite). PageWritesDone (cutOn b k ws s) s₄ (madeOf b k d e) (under d (writeShare b))) (commit-is small h)
         (phase-last (phase-then p (phase-then q r)) t)
 
   -- a recovery over a commit page whose map in force is this
@@ -156,9 +156,9 @@ module _ (g : Geometry) (n : ℕ) (many : records g ≡ n) where
 
   -- a recovery of a store that shows such a commit page: its page writes begin with the store mended
   module _ (b : Bool) (map k : ℕ) (s : StoreOf b) (says : mapIn (readCommit g (shownIn b s 0)) ≡ map) {s₀ : StoreOf b} (mends : s₀ ≡ mendedIn b s) where
-    pub recover-none : map ≡ 0 → Leaves (cutOn b k (recoverPlan g (shownIn b s)) (mendedIn b s)) s₀ 0 false
+    pub recover-none : map ≡ 0 → PageWritesDone (cutOn b k (recoverPlan g (shownIn b s)) (mendedIn b s)) s₀ 0 false
     recover-none e =
-        subst⁻¹ (λ (t : StoreOf b). Leaves (cutOn b k (recoverPlan g (shownIn b s)) (mendedIn b s)) t 0 false) mends
+        subst⁻¹ (λ (t : StoreOf b). PageWritesDone (cutOn b k (recoverPlan g (shownIn b s)) (mendedIn b s)) t 0 false) mends
         (none-left b k (mendedIn b s) (recover-nothing map k (shownIn b s) says e))
 
     planned : map ≢ 0 → recoverPlan g (shownIn b s) ≡ sweep (named g map) (copies (1 + n) (λ r. shownIn b s₀ (1 + r))) n ++ (marks g 0 ∷ [])
@@ -168,28 +168,28 @@ module _ (g : Geometry) (n : ℕ) (many : records g ≡ n) where
 
     -- its two phases
     pub recover-leaves : {s₁ s₂ : StoreOf b} {a c : ℕ} → map ≢ 0
-        → Phase b k (sweep (named g map) (copies (1 + n) (λ r. shownIn b s₀ (1 + r))) n) s₀ s₁ a → Phase b a (sets 0 (commitPage g 0) ∷ []) s₁ s₂ c
-        → Leaves (cutOn b k (recoverPlan g (shownIn b s)) (mendedIn b s)) s₂ (madeOf b k a c) (under a (share b))
+        → WritesPhase b k (sweep (named g map) (copies (1 + n) (λ r. shownIn b s₀ (1 + r))) n) s₀ s₁ a → WritesPhase b a (sets 0 (commitPage g 0) ∷ []) s₁ s₂ c
+        → PageWritesDone (cutOn b k (recoverPlan g (shownIn b s)) (mendedIn b s)) s₂ (madeOf b k a c) (under a (writeShare b))
     unfolding marks
     recover-leaves {s₂ = s₂} {a = a} {c = c} h p q =
-        subst (λ (t : StoreOf b). Leaves (cutOn b k (recoverPlan g (shownIn b s)) t) s₂ (madeOf b k a c) (under a (share b))) mends
-        (subst⁻¹ (λ (ws : List PageWrite). Leaves (cutOn b k ws s₀) s₂ (madeOf b k a c) (under a (share b))) (planned h) (phase-last p q))
+        subst (λ (t : StoreOf b). PageWritesDone (cutOn b k (recoverPlan g (shownIn b s)) t) s₂ (madeOf b k a c) (under a (writeShare b))) mends
+        (subst⁻¹ (λ (ws : List PageWrite). PageWritesDone (cutOn b k ws s₀) s₂ (madeOf b k a c) (under a (writeShare b))) (planned h) (phase-last p q))
 
 -- what is told of a cut, in other words
-pub told : {S : Type 0} {c : Cut S} {t : S} {m m′ : ℕ} {d d′ : Bool} → m ≡ m′ → d ≡ d′ → Leaves c t m′ d′ → Leaves c t m d
+pub told : {S : Type 0} {c : Cut S} {t : S} {m m′ : ℕ} {d d′ : Bool} → m ≡ m′ → d ≡ d′ → PageWritesDone c t m′ d′ → PageWritesDone c t m d
 told e f L = record { store = L .store; made = e ∙ L .made; crashed = f ∙ L .crashed }
 
 -- the rules' cut, by the medium
 pub by-commit : (b : Bool) (g : Geometry) (bs bs′ : List ℕ) (v : ℕ → Option Page) (k m : ℕ) (d : Bool)
-    → Leaves (cutOn b k (commitPlan g v) (storeOf b bs)) (storeOf b bs′) m d
-    → Leaves (mediumOf b g .commit (mediumOf b g .fromBytes bs) v k) (mediumOf b g .fromBytes bs′) m d
+    → PageWritesDone (cutOn b k (commitPlan g v) (storeOf b bs)) (storeOf b bs′) m d
+    → PageWritesDone (mediumOf b g .commit (mediumOf b g .fromBytes bs) v k) (mediumOf b g .fromBytes bs′) m d
 unfolding commitAt commitPairs
 by-commit false g bs bs′ v k m d L = L
 by-commit true g bs bs′ v k m d L = L
 
 pub by-recovery : (b : Bool) (g : Geometry) (bs bs′ : List ℕ) (k m : ℕ) (d : Bool)
-    → Leaves (cutOn b k (recoverPlan g (shownIn b (storeOf b bs))) (mendedIn b (storeOf b bs))) (storeOf b bs′) m d
-    → Leaves (mediumOf b g .recover (mediumOf b g .fromBytes bs) k) (mediumOf b g .fromBytes bs′) m d
+    → PageWritesDone (cutOn b k (recoverPlan g (shownIn b (storeOf b bs))) (mendedIn b (storeOf b bs))) (storeOf b bs′) m d
+    → PageWritesDone (mediumOf b g .recover (mediumOf b g .fromBytes bs) k) (mediumOf b g .fromBytes bs′) m d
 unfolding recoverAt recoverPairs
 by-recovery false g bs bs′ k m d L = L
 by-recovery true g bs bs′ k m d L = L

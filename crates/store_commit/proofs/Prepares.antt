@@ -17,7 +17,7 @@ use Rattle.rules.specs.Commit.{PageWrite, sets, cutAt, pageIn, intentions, home
 use Rattle.rules.proofs.Map.{named-zero}
 use Rattle.rules.proofs.PreparedPage.{prepared-is}
 use Rattle.leaf_commit_page.specs.Heard.{prepared}
-use Rattle.store_write.specs.Phase.{Phase, Leaves}
+use Rattle.store_write.specs.Phase.{WritesPhase, PageWritesDone}
 use Rattle.store_write.proofs.Phases.{phase-then, phase-last, phase-none, none-left, as-spent}
 use Rattle.store_commit.specs.Phase.{sweep, copies, topSlot, versionsIn}
 use Rattle.store_commit.proofs.Plans.{slots-are, recover-some, some-named, those-is, map-is, intentions-are}
@@ -29,7 +29,7 @@ prepare-some g new p [] h = absurd (h refl)
 prepare-some g new p (r ∷ rs) h = refl
 
 -- the one phase of a decision to abort
-pub struck-leaves : (g : Geometry) {s s₁ : Pages} {k a : ℕ} → Phase false k (sets 0 (commitPage g 0) ∷ []) s s₁ a → Leaves (decideAt g s false k) s₁ (k - a) (same k 0)
+pub struck-leaves : (g : Geometry) {s s₁ : Pages} {k a : ℕ} → WritesPhase false k (sets 0 (commitPage g 0) ∷ []) s s₁ a → PageWritesDone (decideAt g s false k) s₁ (k - a) (same k 0)
 unfolding decideAt decideWrites marks
 struck-leaves g {k = k} p = as-spent k (phase-last phase-none p)
 
@@ -51,17 +51,17 @@ module _ (g : Geometry) (n : ℕ) (many : records g ≡ n) where
         ap (prepareWrites g (pageIn (versionsIn g map work)) (record { map = mapOf g (λ r. isSome (versionsIn g map work r)); identity = i }))
         (those-is g n many map (versionsIn g map work) (topSlot work) (slots-are g n many map work) ∙ ap (λ (m : ℕ). those n (named g m)) e ∙ those-none n (named-zero g))
 
-    pub prepare-none : (s : Pages) (k : ℕ) → map ≡ 0 → Leaves (prepareAt g s (versionsIn g map work) i k) s 0 false
+    pub prepare-none : (s : Pages) (k : ℕ) → map ≡ 0 → PageWritesDone (prepareAt g s (versionsIn g map work) i k) s 0 false
     unfolding prepareAt
     prepare-none s k e = none-left false k s (prepare-nothing e)
 
     -- the two phases of a prepare
     pub prepare-leaves : {s s₁ s₂ : Pages} {k a b : ℕ} → map < 2 ^ n → map ≢ 0
-        → Phase false k (sweep (named g map) (copies 1 (topSlot work)) n) s s₁ a → Phase false a (sets 0 (preparedPage g (prepared map i)) ∷ []) s₁ s₂ b
-        → Leaves (prepareAt g s (versionsIn g map work) i k) s₂ (k - b) (same a 0)
+        → WritesPhase false k (sweep (named g map) (copies 1 (topSlot work)) n) s s₁ a → WritesPhase false a (sets 0 (preparedPage g (prepared map i)) ∷ []) s₁ s₂ b
+        → PageWritesDone (prepareAt g s (versionsIn g map work) i k) s₂ (k - b) (same a 0)
     unfolding prepareAt
     prepare-leaves {s = s} {s₂ = s₂} {k = k} {a = a} {b = b} small h p q =
-        subst⁻¹ (λ (ws : List PageWrite). Leaves (cutAt k ws s) s₂ (k - b) (same a 0)) (prepare-is small h) (as-spent a (phase-last p q))
+        subst⁻¹ (λ (ws : List PageWrite). PageWritesDone (cutAt k ws s) s₂ (k - b) (same a 0)) (prepare-is small h) (as-spent a (phase-last p q))
 
   -- a decision on what is prepared with this map
   module _ (map i k : ℕ) (s : Pages) (says : readPrepared g (s 0) ≡ some (prepared map i)) where
@@ -95,11 +95,11 @@ module _ (g : Geometry) (n : ℕ) (many : records g ≡ n) where
 
     -- the three phases of a decision to commit
     pub decided-leaves : {s₁ s₂ s₃ : Pages} {a b c : ℕ}
-        → Phase false k (sets 0 (commitPage g map) ∷ []) s s₁ a → Phase false a (sweep (named g map) (copies (1 + n) (λ r. s₁ (1 + r))) n) s₁ s₂ b
-        → Phase false b (sets 0 (commitPage g 0) ∷ []) s₂ s₃ c
-        → Leaves (decideAt g s true k) s₃ (k - c) (same b 0)
+        → WritesPhase false k (sets 0 (commitPage g map) ∷ []) s s₁ a → WritesPhase false a (sweep (named g map) (copies (1 + n) (λ r. s₁ (1 + r))) n) s₁ s₂ b
+        → WritesPhase false b (sets 0 (commitPage g 0) ∷ []) s₂ s₃ c
+        → PageWritesDone (decideAt g s true k) s₃ (k - c) (same b 0)
     unfolding decideAt marks
     decided-leaves {s₁ = s₁} {s₃ = s₃} {b = b} {c = c} p q t =
-        subst⁻¹ (λ (ws : List PageWrite). Leaves (cutAt k ws s) s₃ (k - c) (same b 0))
+        subst⁻¹ (λ (ws : List PageWrite). PageWritesDone (cutAt k ws s) s₃ (k - c) (same b 0))
         (decision-is (λ r. s₁ (1 + r)) (λ j. kept-mark k (commitPage g map) p j))
         (as-spent b (phase-last (phase-then p q) t))

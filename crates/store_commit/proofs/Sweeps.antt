@@ -17,21 +17,21 @@ use Rattle.rules.specs.Store.{Page, Pages}
 use Rattle.rules.specs.Commit.{PageWrite, sets, applied, written}
 use Rattle.rules.specs.Pairs.{Pair, Pairs, whole, shows, shown, torn, cutPairs}
 use Rattle.rules.proofs.Pairs.{cut-one-whole, cut-one-torn}
-use Rattle.store_write.specs.Phase.{StoreOf, shownIn, leftBy, Phase}
+use Rattle.store_write.specs.Phase.{StoreOf, shownIn, leftBy, WritesPhase}
 use Rattle.store_write.proofs.Phases.{phase-then, phase-none}
-use Rattle.store_commit.specs.Phase.{due, sweep, copies}
+use Rattle.store_commit.specs.Phase.{writeIfPicked, sweep, copies}
 
 map-due : (b : Bool) (f : ℕ → PageWrite) (n : ℕ) → map f (cond b (n ∷ []) []) ≡ cond b (f n ∷ []) []
 map-due true f n = refl
 map-due false f n = refl
 
-sweep-more : (p : ℕ → Bool) (f : ℕ → PageWrite) (n : ℕ) → sweep p f (suc n) ≡ sweep p f n ++ due p f n
-unfolding sweep due those
+sweep-more : (p : ℕ → Bool) (f : ℕ → PageWrite) (n : ℕ) → sweep p f (suc n) ≡ sweep p f n ++ writeIfPicked p f n
+unfolding sweep writeIfPicked those
 sweep-more p f n = map-append f (those n p) (cond (p n) (n ∷ []) []) ∙ ap (λ l. map f (those n p) ++ l) (map-due (p n) f n)
 
 -- one record more
-pub phase-more : {b : Bool} (p : ℕ → Bool) (f : ℕ → PageWrite) (n : ℕ) {k : ℕ} {s s′ s″ : StoreOf b} {a c : ℕ} → Phase b k (sweep p f n) s s′ a
-    → Phase b a (due p f n) s′ s″ c → Phase b k (sweep p f (n + 1)) s s″ c
+pub phase-more : {b : Bool} (p : ℕ → Bool) (f : ℕ → PageWrite) (n : ℕ) {k : ℕ} {s s′ s″ : StoreOf b} {a c : ℕ} → WritesPhase b k (sweep p f n) s s′ a
+    → WritesPhase b a (writeIfPicked p f n) s′ s″ c → WritesPhase b k (sweep p f (n + 1)) s s″ c
 phase-more p f n h g = rw (add-one, sweep-more p f n) (phase-then h g)
 
 due-same : (b : Bool) (w v : PageWrite) → (b ≡ true → w ≡ v) → cond b (w ∷ []) [] ≡ cond b (v ∷ []) []
@@ -39,20 +39,20 @@ due-same true w v h = ap (λ x. x ∷ []) (h refl)
 due-same false w v h = refl
 
 pub sweep-same : (n : ℕ) (p : ℕ → Bool) (f e : ℕ → PageWrite) → ((r : ℕ) → r < n → p r ≡ true → f r ≡ e r) → sweep p f n ≡ sweep p e n
-unfolding sweep those due
+unfolding sweep those writeIfPicked
 sweep-same zero p f e h = refl
 sweep-same (suc n) p f e h =
     sweep-more p f n ∙ ap₂ _++_ (sweep-same n p f e (λ r lt. h r (omega arith))) (due-same (p n) (f n) (e n) (h n (omega arith))) ∙ sym (sweep-more p e n)
 
 -- one record's page write: due where the record is picked
 module _ {b : Bool} (p : ℕ → Bool) (first : ℕ) (new : ℕ → Page) (r k : ℕ) {s : StoreOf b} where
-  pub row-made : {t : StoreOf b} {a : ℕ} → p r ≡ true → Phase b k (sets (first + r) (new r) ∷ []) s t a → Phase b k (due p (copies first new) r) s t a
-  unfolding due copies
-  row-made {t} {a} q h = subst⁻¹ (λ (x : Bool). Phase b k (cond x (sets (first + r) (new r) ∷ []) []) s t a) q h
+  pub row-made : {t : StoreOf b} {a : ℕ} → p r ≡ true → WritesPhase b k (sets (first + r) (new r) ∷ []) s t a → WritesPhase b k (writeIfPicked p (copies first new) r) s t a
+  unfolding writeIfPicked copies
+  row-made {t} {a} q h = subst⁻¹ (λ (x : Bool). WritesPhase b k (cond x (sets (first + r) (new r) ∷ []) []) s t a) q h
 
-  pub row-not : p r ≡ false → Phase b k (due p (copies first new) r) s s k
-  unfolding due copies
-  row-not q = subst⁻¹ (λ (x : Bool). Phase b k (cond x (sets (first + r) (new r) ∷ []) []) s s k) q phase-none
+  pub row-not : p r ≡ false → WritesPhase b k (writeIfPicked p (copies first new) r) s s k
+  unfolding writeIfPicked copies
+  row-not q = subst⁻¹ (λ (x : Bool). WritesPhase b k (cond x (sets (first + r) (new r) ∷ []) []) s s k) q phase-none
 
 -- one page write, whole, torn or not begun, shows every other page as it was
 atomic-others : (k n : ℕ) (p : Page) (s : Pages) (j : ℕ) → j ≢ n → applied (take k (sets n p ∷ [])) s j ≡ s j
@@ -87,24 +87,24 @@ pub kept-then : {b : Bool} {first : ℕ} {s t u : StoreOf b} → Kept b first s 
 kept-then h g = record { same-page = λ j lt. g .same-page j lt ∙ h .same-page j lt }
 
 module _ {b : Bool} (first : ℕ) (new : ℕ → Page) (r k : ℕ) {s t : StoreOf b} {a : ℕ} where
-  kept-one : (x : Bool) → Phase b k (cond x (sets (first + r) (new r) ∷ []) []) s t a → Kept b first s t
+  kept-one : (x : Bool) → WritesPhase b k (cond x (sets (first + r) (new r) ∷ []) []) s t a → Kept b first s t
   kept-one false h = record { same-page = λ j lt. ap (λ (u : StoreOf b). shownIn b u j) (h .store ∙ sym (phase-none {b = b} {k = k} {s = s} .store)) }
   kept-one true h =
       record { same-page = λ j lt. ap (λ (u : StoreOf b). shownIn b u j) (h .store) ∙ others b k (first + r) (new r) s j (λ e. omega arith) }
 
-  pub kept-row : (p : ℕ → Bool) → Phase b k (due p (copies first new) r) s t a → Kept b first s t
-  unfolding due copies
+  pub kept-row : (p : ℕ → Bool) → WritesPhase b k (writeIfPicked p (copies first new) r) s t a → Kept b first s t
+  unfolding writeIfPicked copies
   kept-row p h = kept-one (p r) h
 
 -- a write of the commit page keeps the intention pages
-pub kept-mark : {b : Bool} (k : ℕ) (p : Page) {s t : StoreOf b} {a : ℕ} → Phase b k (sets 0 p ∷ []) s t a → (j : ℕ) → shownIn b t (1 + j) ≡ shownIn b s (1 + j)
+pub kept-mark : {b : Bool} (k : ℕ) (p : Page) {s t : StoreOf b} {a : ℕ} → WritesPhase b k (sets 0 p ∷ []) s t a → (j : ℕ) → shownIn b t (1 + j) ≡ shownIn b s (1 + j)
 kept-mark {b} k p {s} h j = ap (λ (u : StoreOf b). shownIn b u (1 + j)) (h .store) ∙ others b k 0 p s (1 + j) (λ e. omega arith)
 
 -- one record more goes home: its intention page is still the one that it was
 pub home-more : {b : Bool} (p : ℕ → Bool) (first r k : ℕ) {s s′ s″ : StoreOf b} {a c : ℕ} → 1 + r < first
-    → Phase b k (sweep p (copies first (λ j. shownIn b s (1 + j))) r) s s′ a → Kept b first s s′
-    → Phase b a (due p (copies first (λ j. shownIn b s′ (1 + j))) r) s′ s″ c → Phase b k (sweep p (copies first (λ j. shownIn b s (1 + j))) (r + 1)) s s″ c
-unfolding due copies
+    → WritesPhase b k (sweep p (copies first (λ j. shownIn b s (1 + j))) r) s s′ a → Kept b first s s′
+    → WritesPhase b a (writeIfPicked p (copies first (λ j. shownIn b s′ (1 + j))) r) s′ s″ c → WritesPhase b k (sweep p (copies first (λ j. shownIn b s (1 + j))) (r + 1)) s s″ c
+unfolding writeIfPicked copies
 home-more {b} p first r k {s} {s′} {s″} {a} {c} lt h kept g =
     phase-more p (copies first (λ j. shownIn b s (1 + j))) r h
-    (subst (λ (q : Page). Phase b a (cond (p r) (sets (first + r) q ∷ []) []) s′ s″ c) (kept .same-page (1 + r) lt) g)
+    (subst (λ (q : Page). WritesPhase b a (cond (p r) (sets (first + r) q ∷ []) []) s′ s″ c) (kept .same-page (1 + r) lt) g)

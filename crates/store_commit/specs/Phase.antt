@@ -15,8 +15,8 @@ use Rattle.leaf_commit_page.specs.declared.CommitMap.{CommitMap}
 use Rattle.store_write.specs.Phase.{StoreOf}
 
 -- the page write of record r, if it is one of those that p picks; the page writes of those below n, by rising record
-unfoldable pub due : (ℕ → Bool) → (ℕ → PageWrite) → ℕ → List PageWrite
-due p f r = cond (p r) (f r ∷ []) []
+unfoldable pub writeIfPicked : (ℕ → Bool) → (ℕ → PageWrite) → ℕ → List PageWrite
+writeIfPicked p f r = cond (p r) (f r ∷ []) []
 
 unfoldable pub sweep : (ℕ → Bool) → (ℕ → PageWrite) → ℕ → List PageWrite
 sweep p f n = map f (those n p)

@@ -16,8 +16,8 @@ ghost use Rattle.rules.specs.Commit.{sets, prepareAt, decideAt};
 ghost use Rattle.rules.specs.Editions.{mediumOf};
 ghost use Rattle.leaf_commit_page.specs.Heard.{overheard, prepared};
 ghost use Rattle.leaf_commit_page.specs.Layout.{Known, Layout};
-ghost use Rattle.store_write.specs.Phase.{Phase, Leaves, storeOf, strideOf, shownIn};
-ghost use Rattle.store_commit.specs.Phase.{due, sweep, copies, topSlot, versionsIn, understoodIn};
+ghost use Rattle.store_write.specs.Phase.{WritesPhase, PageWritesDone, storeOf, strideOf, shownIn};
+ghost use Rattle.store_commit.specs.Phase.{writeIfPicked, sweep, copies, topSlot, versionsIn, understoodIn};
 
 // How many page writes were made, and whether a crash came before all were.
 pub struct Made {
@@ -54,7 +54,7 @@ fn mark(store: &mut [u8], map: u64, n: usize, tears: bool, left: u8) -> u8
     ensures { λ x.
         let before = storeOf tears (now (store .entry)) in
         let after = storeOf tears (now (store .exit)) in
-        ⌜ ((g : Geometry) → Layout g n → Phase tears left (sets 0 (commitPage g map) ∷ []) before after x) × (x ≤ left) ⌝ }
+        ⌜ ((g : Geometry) → Layout g n → WritesPhase tears left (sets 0 (commitPage g map) ∷ []) before after x) × (x ≤ left) ⌝ }
 {
     store_write::write_counted(store, tears, 0, leaf_commit_page::commit_page(map, n), left)
 }
@@ -66,7 +66,7 @@ fn mark_prepared(store: &mut [u8], map: u64, identity: u8, rest: u8) -> u8
     ensures { λ x.
         let before = pagesOf (now (store .entry)) in
         let after = pagesOf (now (store .exit)) in
-        ⌜ ((g : Geometry) → Layout g 16 → Phase false rest (sets 0 (preparedPage g (prepared map identity)) ∷ []) before after x) × (x ≤ rest) ⌝ }
+        ⌜ ((g : Geometry) → Layout g 16 → WritesPhase false rest (sets 0 (preparedPage g (prepared map identity)) ∷ []) before after x) × (x ≤ rest) ⌝ }
 {
     store_write::write_counted(
         store,
@@ -92,7 +92,7 @@ fn write_version(
     ensures { λ x.
         let before = storeOf tears (now (store .entry)) in
         let after = storeOf tears (now (store .exit)) in
-        ⌜ ((g : Geometry) → records g ≡ n → Phase tears left (due (named g map) (copies first (topSlot (now (work .entry)))) r) before after x) × (x ≤ left) ⌝ }
+        ⌜ ((g : Geometry) → records g ≡ n → WritesPhase tears left (writeIfPicked (named g map) (copies first (topSlot (now (work .entry)))) r) before after x) × (x ≤ left) ⌝ }
 {
     if leaf_commit_page::names(map, n as u8, r) {
         let j = r as usize;
@@ -116,7 +116,7 @@ fn write_versions(
     ensures { λ x.
         let before = storeOf tears (now (store .entry)) in
         let after = storeOf tears (now (store .exit)) in
-        ⌜ ((g : Geometry) → records g ≡ n → Phase tears left (sweep (named g map) (copies first (topSlot (now (work .entry)))) n) before after x) × (x ≤ left) ⌝ }
+        ⌜ ((g : Geometry) → records g ≡ n → WritesPhase tears left (sweep (named g map) (copies first (topSlot (now (work .entry)))) n) before after x) × (x ≤ left) ⌝ }
 {
     let mut rest = left;
     for r in 0..n as u8 {
@@ -131,7 +131,7 @@ fn bring_home(store: &mut [u8], map: u64, n: usize, tears: bool, r: u8, left: u8
     ensures { λ x.
         let before = storeOf tears (now (store .entry)) in
         let after = storeOf tears (now (store .exit)) in
-        ⌜ ((g : Geometry) → records g ≡ n → Phase tears left (due (named g map) (copies (1 + n) (λ j. shownIn tears before (1 + j))) r) before after x) × (x ≤ left) ⌝ }
+        ⌜ ((g : Geometry) → records g ≡ n → WritesPhase tears left (writeIfPicked (named g map) (copies (1 + n) (λ j. shownIn tears before (1 + j))) r) before after x) × (x ≤ left) ⌝ }
 {
     if leaf_commit_page::names(map, n as u8, r) {
         let j = r as usize;
@@ -147,7 +147,7 @@ fn bring_all_home(store: &mut [u8], map: u64, n: usize, tears: bool, left: u8) -
     ensures { λ x.
         let before = storeOf tears (now (store .entry)) in
         let after = storeOf tears (now (store .exit)) in
-        ⌜ ((g : Geometry) → records g ≡ n → Phase tears left (sweep (named g map) (copies (1 + n) (λ j. shownIn tears before (1 + j))) n) before after x) × (x ≤ left) ⌝ }
+        ⌜ ((g : Geometry) → records g ≡ n → WritesPhase tears left (sweep (named g map) (copies (1 + n) (λ j. shownIn tears before (1 + j))) n) before after x) × (x ≤ left) ⌝ }
 {
     let mut rest = left;
     for r in 0..n as u8 {
@@ -165,7 +165,7 @@ pub fn commit_pages(store: &mut [u8], work: &[u8], map: u64, n: usize, tears: bo
         let medium = mediumOf tears g in
         let before = medium .fromBytes (now (store .entry)) in
         let after = medium .fromBytes (now (store .exit)) in
-        Layout g n → Leaves (medium .commit before (versionsIn g map (now (work .entry))) k) after (r .made) (r .crashed)) ⌝ }
+        Layout g n → PageWritesDone (medium .commit before (versionsIn g map (now (work .entry))) k) after (r .made) (r .crashed)) ⌝ }
 {
     if map == 0 {
         return Made {
@@ -193,7 +193,7 @@ pub fn recover_pages(store: &mut [u8], map: u64, n: usize, tears: bool, k: u8) -
         let before = medium .fromBytes (now (store .entry)) in
         let after = medium .fromBytes (now (store .exit)) in
         Layout g n → mapIn (readCommit g (shownIn tears (storeOf tears (now (store .entry))) 0)) ≡ map
-        → Leaves (medium .recover before k) after (r .made) (r .crashed)) ⌝ }
+        → PageWritesDone (medium .recover before k) after (r .made) (r .crashed)) ⌝ }
 {
     store_write::mend(store, tears, 1 + n + n);
     if map == 0 {
@@ -224,7 +224,7 @@ pub fn prepare_pages(
     ensures { λ r.
         let before = pagesOf (now (store .entry)) in
         let after = pagesOf (now (store .exit)) in
-        ⌜ ((g : Geometry) → Layout g n → Leaves (prepareAt g before (versionsIn g map (now (work .entry))) identity count) after (r .made) (r .crashed)) ⌝ }
+        ⌜ ((g : Geometry) → Layout g n → PageWritesDone (prepareAt g before (versionsIn g map (now (work .entry))) identity count) after (r .made) (r .crashed)) ⌝ }
 {
     if map == 0 {
         return Made {
@@ -247,7 +247,7 @@ pub fn commit_decided(store: &mut [u8], map: u64, n: usize, identity: u8, k: u8)
         let before = pagesOf (now (store .entry)) in
         let after = pagesOf (now (store .exit)) in
         ⌜ ((g : Geometry) → Layout g n → readPrepared g (before 0) ≡ some (prepared map identity)
-        → Leaves (decideAt g before true k) after (r .made) (r .crashed)) ⌝ }
+        → PageWritesDone (decideAt g before true k) after (r .made) (r .crashed)) ⌝ }
 {
     let a = mark(store, map, n, false, k);
     let b = bring_all_home(store, map, n, false, a);
@@ -264,7 +264,7 @@ pub fn abort_decided(store: &mut [u8], n: usize, k: u8) -> Made
     ensures { λ r.
         let before = pagesOf (now (store .entry)) in
         let after = pagesOf (now (store .exit)) in
-        ⌜ ((g : Geometry) → Layout g n → Leaves (decideAt g before false k) after (r .made) (r .crashed)) ⌝ }
+        ⌜ ((g : Geometry) → Layout g n → PageWritesDone (decideAt g before false k) after (r .made) (r .crashed)) ⌝ }
 {
     let a = mark(store, 0, n, false, k);
     Made {

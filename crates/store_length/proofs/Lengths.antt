@@ -15,7 +15,7 @@ use Rattle.rules.specs.Step.{firstOf}
 use Rattle.rules.specs.Run.{runRefusals, eventsIn}
 use Rattle.rules.specs.Editions.{depths, formIn}
 use Rattle.rules.proofs.Cuts.{not-lt-under}
-use Rattle.store_length.specs.Lengths.{storeBytes, workBytes, writeBytes, lengthsRefused, questionRefused, refusalNumber}
+use Rattle.store_length.specs.Lengths.{storeBytes, workBytesFor, writeBytes, lengthsRefused, questionRefused, refusalNumber}
 use Rattle.store_length.proofs.Sizes.{store-size, work-size}
 
 -- atomic pages or pages that tear, n records, words of s bytes
@@ -24,27 +24,27 @@ module _ (tears : Bool) (n s : ℕ) where
   unfolding lengthsRefused refusalNumber firstOf
   refused-store b e w a h = rw (ne-false b (storeBytes tears n) h)
 
-  pub refused-work : (b e w a : ℕ) → b ≡ storeBytes tears n → w ≢ workBytes n → 24 ≡ refusalNumber (lengthsRefused tears n s b e w a)
+  pub refused-work : (b e w a : ℕ) → b ≡ storeBytes tears n → w ≢ workBytesFor n → 24 ≡ refusalNumber (lengthsRefused tears n s b e w a)
   unfolding lengthsRefused refusalNumber firstOf
-  refused-work b e w a p h = rw (p, same-refl (storeBytes tears n), ne-false w (workBytes n) h)
+  refused-work b e w a p h = rw (p, same-refl (storeBytes tears n), ne-false w (workBytesFor n) h)
 
-  pub refused-part : (b e w a : ℕ) → b ≡ storeBytes tears n → w ≡ workBytes n → e % s ≢ 0 → 20 ≡ refusalNumber (lengthsRefused tears n s b e w a)
+  pub refused-part : (b e w a : ℕ) → b ≡ storeBytes tears n → w ≡ workBytesFor n → e % s ≢ 0 → 20 ≡ refusalNumber (lengthsRefused tears n s b e w a)
   unfolding lengthsRefused refusalNumber firstOf
-  refused-part b e w a p q h = rw (p, q, same-refl (storeBytes tears n), same-refl (workBytes n), ne-false (e % s) 0 h)
+  refused-part b e w a p q h = rw (p, q, same-refl (storeBytes tears n), same-refl (workBytesFor n), ne-false (e % s) 0 h)
 
-  pub refused-long : (b e w a : ℕ) → b ≡ storeBytes tears n → w ≡ workBytes n → e % s ≡ 0 → longest * s < e → 20 ≡ refusalNumber (lengthsRefused tears n s b e w a)
+  pub refused-long : (b e w a : ℕ) → b ≡ storeBytes tears n → w ≡ workBytesFor n → e % s ≡ 0 → longest * s < e → 20 ≡ refusalNumber (lengthsRefused tears n s b e w a)
   unfolding lengthsRefused refusalNumber firstOf
-  refused-long b e w a p q h k = rw (p, q, same-refl (storeBytes tears n), same-refl (workBytes n), h, same-refl 0, lt-under (longest * s) e k)
+  refused-long b e w a p q h k = rw (p, q, same-refl (storeBytes tears n), same-refl (workBytesFor n), h, same-refl 0, lt-under (longest * s) e k)
 
-  pub refused-answers : (b e w a : ℕ) → b ≡ storeBytes tears n → w ≡ workBytes n → e % s ≡ 0 → e ≤ longest * s → a < e / s * 2 → 21 ≡ refusalNumber (lengthsRefused tears n s b e w a)
+  pub refused-answers : (b e w a : ℕ) → b ≡ storeBytes tears n → w ≡ workBytesFor n → e % s ≡ 0 → e ≤ longest * s → a < e / s * 2 → 21 ≡ refusalNumber (lengthsRefused tears n s b e w a)
   unfolding lengthsRefused refusalNumber firstOf
   refused-answers b e w a p q h k m =
-      rw (p, q, same-refl (storeBytes tears n), same-refl (workBytes n), h, same-refl 0, not-lt-under (longest * s) e k, lt-under a (2 * (e / s)) (omega (arith, m)))
+      rw (p, q, same-refl (storeBytes tears n), same-refl (workBytesFor n), h, same-refl 0, not-lt-under (longest * s) e k, lt-under a (2 * (e / s)) (omega (arith, m)))
 
-  pub refused-not : (b e w a : ℕ) → b ≡ storeBytes tears n → w ≡ workBytes n → e % s ≡ 0 → e ≤ longest * s → e / s * 2 ≤ a → 0 ≡ refusalNumber (lengthsRefused tears n s b e w a)
+  pub refused-not : (b e w a : ℕ) → b ≡ storeBytes tears n → w ≡ workBytesFor n → e % s ≡ 0 → e ≤ longest * s → e / s * 2 ≤ a → 0 ≡ refusalNumber (lengthsRefused tears n s b e w a)
   unfolding lengthsRefused refusalNumber firstOf
   refused-not b e w a p q h k m =
-      rw (p, q, same-refl (storeBytes tears n), same-refl (workBytes n), h, same-refl 0, not-lt-under (longest * s) e k, not-lt-under a (2 * (e / s)) (omega (arith, m)))
+      rw (p, q, same-refl (storeBytes tears n), same-refl (workBytesFor n), h, same-refl 0, not-lt-under (longest * s) e k, not-lt-under a (2 * (e / s)) (omega (arith, m)))
 
   -- the lengths decide the run's refusal, in any geometry of these numbers
   module _ (g : Geometry) (many : records g ≡ n) (wide : wordSize g ≡ s) (deep : g .depthLimit ≡ depths) where
@@ -52,7 +52,7 @@ module _ (tears : Bool) (n s : ℕ) where
         → firstOf (runRefusals (formIn tears g) store events work answers) ≡ lengthsRefused tears n s (length store) (length events) (length work) (length answers)
     unfolding runRefusals lengthsRefused eventsIn
     by-lengths store events work answers =
-        ap (refusalsBy (wordSize g) (workSize g)) (store-size n g many tears) ∙ ap (λ (w : ℕ). refusalsBy (wordSize g) w (storeBytes tears n)) (work-size n g many deep) ∙ ap (λ (x : ℕ). refusalsBy x (workBytes n) (storeBytes tears n)) wide
+        ap (refusalsBy (wordSize g) (workSize g)) (store-size n g many tears) ∙ ap (λ (w : ℕ). refusalsBy (wordSize g) w (storeBytes tears n)) (work-size n g many deep) ∙ ap (λ (x : ℕ). refusalsBy x (workBytesFor n) (storeBytes tears n)) wide
       where
         refusalsBy : ℕ → ℕ → ℕ → Option ℕ
         refusalsBy x w b =
@@ -67,7 +67,7 @@ module _ (tears : Bool) (n s : ℕ) where
 pub record Lengths (tears : Bool) (n s b e w a : ℕ) : Type 0 where
   pub none-is : lengthsRefused tears n s b e w a ≡ none
   pub store : b ≡ storeBytes tears n
-  pub work : w ≡ workBytes n
+  pub work : w ≡ workBytesFor n
   pub whole : e % s ≡ 0
   pub short : e ≤ longest * s
   pub room : 2 * (e / s) ≤ a
@@ -88,13 +88,13 @@ pass-all false false false false e = passed refl refl refl refl
 
 pub lengths-of : (tears : Bool) (n s b e w a : ℕ) → refusalNumber (lengthsRefused tears n s b e w a) ≡ 0 → Lengths tears n s b e w a
 unfolding lengthsRefused firstOf tests
-lengths-of tears n s b e w a z = go (pass-all (not (same b (storeBytes tears n))) (not (same w (workBytes n))) (not (same (e % s) 0) || under (longest * s) e) (under a (2 * (e / s))) z)
+lengths-of tears n s b e w a z = go (pass-all (not (same b (storeBytes tears n))) (not (same w (workBytesFor n))) (not (same (e % s) 0) || under (longest * s) e) (under a (2 * (e / s))) z)
   where
-    go : Passed (not (same b (storeBytes tears n))) (not (same w (workBytes n))) (not (same (e % s) 0) || under (longest * s) e) (under a (2 * (e / s))) → Lengths tears n s b e w a
+    go : Passed (not (same b (storeBytes tears n))) (not (same w (workBytesFor n))) (not (same (e % s) 0) || under (longest * s) e) (under a (2 * (e / s))) → Lengths tears n s b e w a
     go (passed p q r t) = record {
       none-is = rw (p, q, r, t);
       store = same-eq b (storeBytes tears n) (not-false _ p);
-      work = same-eq w (workBytes n) (not-false _ q);
+      work = same-eq w (workBytesFor n) (not-false _ q);
       whole = same-eq (e % s) 0 (not-false _ (or-false-left _ _ r));
       short = not-under (longest * s) e (or-false-right (not (same (e % s) 0)) _ r);
       room = not-under a (2 * (e / s)) t;
@@ -106,38 +106,38 @@ module _ (tears : Bool) (n s : ℕ) where
   unfolding questionRefused refusalNumber firstOf
   asks-store b e w p h = rw (ne-false b (storeBytes tears n) h)
 
-  pub asks-work : (b e w p : ℕ) → b ≡ storeBytes tears n → w ≢ workBytes n → 24 ≡ refusalNumber (questionRefused tears n s b e w p)
+  pub asks-work : (b e w p : ℕ) → b ≡ storeBytes tears n → w ≢ workBytesFor n → 24 ≡ refusalNumber (questionRefused tears n s b e w p)
   unfolding questionRefused refusalNumber firstOf
-  asks-work b e w p h k = rw (h, same-refl (storeBytes tears n), ne-false w (workBytes n) k)
+  asks-work b e w p h k = rw (h, same-refl (storeBytes tears n), ne-false w (workBytesFor n) k)
 
-  pub asks-event : (b e w p : ℕ) → b ≡ storeBytes tears n → w ≡ workBytes n → e ≢ s → 20 ≡ refusalNumber (questionRefused tears n s b e w p)
+  pub asks-event : (b e w p : ℕ) → b ≡ storeBytes tears n → w ≡ workBytesFor n → e ≢ s → 20 ≡ refusalNumber (questionRefused tears n s b e w p)
   unfolding questionRefused refusalNumber firstOf
-  asks-event b e w p h k m = rw (h, k, same-refl (storeBytes tears n), same-refl (workBytes n), ne-false e s m)
+  asks-event b e w p h k m = rw (h, k, same-refl (storeBytes tears n), same-refl (workBytesFor n), ne-false e s m)
 
-  pub asks-write : (b e w p : ℕ) → b ≡ storeBytes tears n → w ≡ workBytes n → e ≡ s → p ≢ writeBytes tears → 21 ≡ refusalNumber (questionRefused tears n s b e w p)
+  pub asks-write : (b e w p : ℕ) → b ≡ storeBytes tears n → w ≡ workBytesFor n → e ≡ s → p ≢ writeBytes tears → 21 ≡ refusalNumber (questionRefused tears n s b e w p)
   unfolding questionRefused refusalNumber firstOf
-  asks-write b e w p h k m q = rw (h, k, m, same-refl (storeBytes tears n), same-refl (workBytes n), same-refl s, ne-false p (writeBytes tears) q)
+  asks-write b e w p h k m q = rw (h, k, m, same-refl (storeBytes tears n), same-refl (workBytesFor n), same-refl s, ne-false p (writeBytes tears) q)
 
-  pub asks-well : (b e w p : ℕ) → b ≡ storeBytes tears n → w ≡ workBytes n → e ≡ s → p ≡ writeBytes tears → 0 ≡ refusalNumber (questionRefused tears n s b e w p)
+  pub asks-well : (b e w p : ℕ) → b ≡ storeBytes tears n → w ≡ workBytesFor n → e ≡ s → p ≡ writeBytes tears → 0 ≡ refusalNumber (questionRefused tears n s b e w p)
   unfolding questionRefused refusalNumber firstOf
-  asks-well b e w p h k m q = rw (h, k, m, q, same-refl (storeBytes tears n), same-refl (workBytes n), same-refl s, same-refl (writeBytes tears))
+  asks-well b e w p h k m q = rw (h, k, m, q, same-refl (storeBytes tears n), same-refl (workBytesFor n), same-refl s, same-refl (writeBytes tears))
 
 pub record Question (tears : Bool) (n s b e w p : ℕ) : Type 0 where
   pub none-is : questionRefused tears n s b e w p ≡ none
   pub store : b ≡ storeBytes tears n
-  pub work : w ≡ workBytes n
+  pub work : w ≡ workBytesFor n
   pub event : e ≡ s
   pub write : p ≡ writeBytes tears
 
 pub question-of : (tears : Bool) (n s b e w p : ℕ) → refusalNumber (questionRefused tears n s b e w p) ≡ 0 → Question tears n s b e w p
 unfolding questionRefused firstOf tests
-question-of tears n s b e w p z = go (pass-all (not (same b (storeBytes tears n))) (not (same w (workBytes n))) (not (same e s)) (not (same p (writeBytes tears))) z)
+question-of tears n s b e w p z = go (pass-all (not (same b (storeBytes tears n))) (not (same w (workBytesFor n))) (not (same e s)) (not (same p (writeBytes tears))) z)
   where
-    go : Passed (not (same b (storeBytes tears n))) (not (same w (workBytes n))) (not (same e s)) (not (same p (writeBytes tears))) → Question tears n s b e w p
+    go : Passed (not (same b (storeBytes tears n))) (not (same w (workBytesFor n))) (not (same e s)) (not (same p (writeBytes tears))) → Question tears n s b e w p
     go (passed h q r t) = record {
       none-is = rw (h, q, r, t);
       store = same-eq b (storeBytes tears n) (not-false _ h);
-      work = same-eq w (workBytes n) (not-false _ q);
+      work = same-eq w (workBytesFor n) (not-false _ q);
       event = same-eq e s (not-false _ r);
       write = same-eq p (writeBytes tears) (not-false _ t);
     }

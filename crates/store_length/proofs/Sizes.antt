@@ -5,7 +5,7 @@ use Prim.Native.Nat.{ℕ, _+_, _*_}
 use native.Mathlib.Omega.{arith}
 use Rattle.rules.specs.Geometry.{Geometry, records, pageCount, workSize}
 use Rattle.rules.specs.Editions.{depths, mediumOf}
-use Rattle.store_length.specs.Lengths.{storeBytes, workBytes}
+use Rattle.store_length.specs.Lengths.{storeBytes, workBytesFor}
 
 module _ (n : ℕ) (g : Geometry) (many : records g ≡ n) where
   pub store-size : (tears : Bool) → mediumOf tears g .size ≡ storeBytes tears n
@@ -18,6 +18,6 @@ module _ (n : ℕ) (g : Geometry) (many : records g ≡ n) where
   unfolding pageCount
   pages-are = let h : 1 + (records g + records g) ≡ 1 + (n + n) = omega (arith, many) in h
 
-  pub work-size : g .depthLimit ≡ depths → workSize g ≡ workBytes n
+  pub work-size : g .depthLimit ≡ depths → workSize g ≡ workBytesFor n
   unfolding workSize
-  work-size deep = ap (λ (d : ℕ). records g * d * 32) deep ∙ (let h : records g * depths * 32 ≡ workBytes n = omega (arith, many) in h)
+  work-size deep = ap (λ (d : ℕ). records g * d * 32) deep ∙ (let h : records g * depths * 32 ≡ workBytesFor n = omega (arith, many) in h)

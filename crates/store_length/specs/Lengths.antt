@@ -12,15 +12,15 @@ use Rattle.store_write.specs.Phase.{strideOf}
 abbrev pub storeBytes : Bool → ℕ → ℕ
 storeBytes tears n = strideOf tears * (1 + (n + n))
 
-abbrev pub workBytes : ℕ → ℕ
-workBytes n = 512 * n
+abbrev pub workBytesFor : ℕ → ℕ
+workBytesFor n = 512 * n
 
 -- the refusals before the first event, by the lengths of store, events, working buffer and answer buffer
 unfoldable pub lengthsRefused : Bool → ℕ → ℕ → ℕ → ℕ → ℕ → ℕ → Option ℕ
 lengthsRefused tears n s store events work answers =
     firstOf (
     (22, not (same store (storeBytes tears n))) ∷
-    (24, not (same work (workBytes n))) ∷
+    (24, not (same work (workBytesFor n))) ∷
     (20, not (same (events % s) 0) || under (longest * s) events) ∷
     (21, under answers (2 * (events / s))) ∷
     [])
@@ -35,7 +35,7 @@ unfoldable pub questionRefused : Bool → ℕ → ℕ → ℕ → ℕ → ℕ �
 questionRefused tears n s store event work write =
     firstOf (
     (22, not (same store (storeBytes tears n))) ∷
-    (24, not (same work (workBytes n))) ∷
+    (24, not (same work (workBytesFor n))) ∷
     (20, not (same event s)) ∷
     (21, not (same write (writeBytes tears))) ∷
     [])

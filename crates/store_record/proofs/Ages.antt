@@ -29,7 +29,7 @@ use Rattle.store_length.specs.Lengths.{storeBytes}
 use Rattle.store_length.proofs.Sizes.{store-size, pages-are}
 use Rattle.leaf_commit_page.specs.Heard.{understood}
 use Rattle.leaf_commit_page.specs.declared.CommitMap.{CommitMap}
-use Rattle.leaf_age.specs.Meaning.{meaning}
+use Rattle.leaf_age.specs.Meaning.{judgedAge}
 use Rattle.leaf_age.specs.declared.Judged.{Judged}
 use Rattle.store_record.specs.Ages.{ageIn, toldAs, ageNumber, ageLeft}
 use Rattle.store_record.specs.declared.Told.{Told}
@@ -145,9 +145,9 @@ tag-none R.NoSuchRecord e = refl
 
 -- the exported answer, by the case of what was told
 pub answered-judged : (a : Age) (old new : ℤ) (t : Told) (j : Judged) (n : ℕ) → t ≡ T.Judged j → toldAs t ≡ a
-    → (n ≡ ageNumber (meaning j)) × (new ≡ ageLeft (meaning j) old) → (n ≡ ageNumber a) × (new ≡ ageLeft a old)
+    → (n ≡ ageNumber (judgedAge j)) × (new ≡ ageLeft (judgedAge j) old) → (n ≡ ageNumber a) × (new ≡ ageLeft a old)
 unfolding toldAs
-answered-judged a old new t j n e q h = let is : meaning j ≡ a = rw e at q in rw (← is) h
+answered-judged a old new t j n e q h = let is : judgedAge j ≡ a = rw e at q in rw (← is) h
 
 pub answered-refused : (a : Age) (old : ℤ) (t : Told) (n : ℕ) → t ≡ T.Refused n → toldAs t ≡ a → (n ≡ ageNumber a) × (old ≡ ageLeft a old)
 unfolding toldAs ageNumber ageLeft

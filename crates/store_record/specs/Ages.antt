@@ -8,13 +8,13 @@ use Rattle.laws.specs.Bytes.{number}
 use Rattle.rules.specs.Geometry.{Geometry}
 use Rattle.rules.specs.Age.{Age, ahead, live, stale, refused, judged}
 use Rattle.rules.specs.Editions.{mediumOf}
-use Rattle.leaf_age.specs.Meaning.{meaning}
+use Rattle.leaf_age.specs.Meaning.{judgedAge}
 use Rattle.store_record.specs.declared.Told.{Told}
 use Rattle.store_record.specs.declared.Told.the-variants as T
 
 -- the answer as the rules have it
 unfoldable pub toldAs : Told → Age
-toldAs (T.Judged j) = meaning j
+toldAs (T.Judged j) = judgedAge j
 toldAs (T.Refused n) = refused n
 
 -- The number of each case: 0 live, 1 ahead, 2 stale, or the number of the refusal.

@@ -11,15 +11,15 @@ use Rattle.rules.specs.Editions.{mediumOf}
 use Rattle.store_write.specs.Phase.{StoreOf, storeOf}
 
 -- a page as a store keeps it: as it is, or in both copies of a pair that is good
-abbrev pub Kept : Bool → Type 0
-Kept false = Page
-Kept true = Pair
+abbrev pub StoredPage : Bool → Type 0
+StoredPage false = Page
+StoredPage true = Pair
 
-abbrev pub keptAs : (tears : Bool) → Page → Kept tears
+abbrev pub keptAs : (tears : Bool) → Page → StoredPage tears
 keptAs false page = page
 keptAs true page = whole page
 
-abbrev pub keptAt : (tears : Bool) → StoreOf tears → ℕ → Kept tears
+abbrev pub keptAt : (tears : Bool) → StoreOf tears → ℕ → StoredPage tears
 keptAt false s p = s p
 keptAt true s p = s p
 

@@ -16,7 +16,7 @@ ghost use Rattle.store_length.specs.Lengths.{storeBytes};
 ghost use Rattle.leaf_number.specs.Named.{recordOf};
 ghost use Rattle.store_record.specs.Ages.{toldAs, ageIn, ageNumber, ageLeft};
 ghost use Rattle.store_record.specs.Laying.{LaidTo};
-ghost use Rattle.leaf_age.specs.Meaning.{meaning};
+ghost use Rattle.leaf_age.specs.Meaning.{judgedAge};
 
 // No cut comes before a page write is whole.
 const UNCUT: u8 = 255;
@@ -133,7 +133,7 @@ pub fn age_of(
 
 // The judgement's number, with its age left at the given place.
 pub fn leave(judged: leaf_age::Judged, age: &mut i64) -> u8
-    ensures { λ r. ⌜ (r ≡ ageNumber (meaning judged)) × (now (age .exit) ≡ ageLeft (meaning judged) (now (age .entry))) ⌝ }
+    ensures { λ r. ⌜ (r ≡ ageNumber (judgedAge judged)) × (now (age .exit) ≡ ageLeft (judgedAge judged) (now (age .entry))) ⌝ }
 {
     match judged {
         leaf_age::Judged::Live(m) => {

@@ -18,7 +18,7 @@ use Rattle.rules.specs.Pairs.{Pairs, isNew, counted, cutPairs, putAll, tearFirs
 use Rattle.rules.proofs.Cuts.{not-lt-under}
 use Rattle.rules.proofs.Shows.{applied-append}
 use Rattle.rules.proofs.Pairs.{cut-append}
-use Rattle.store_write.specs.Phase.{StoreOf, cutOn, leftBy, share, shares, Phase, madeOf, Leaves}
+use Rattle.store_write.specs.Phase.{StoreOf, cutOn, leftBy, writeShare, cutUsed, WritesPhase, madeOf, PageWritesDone}
 
 take-both : (k : ℕ) (p q : List PageWrite) → take k (p ++ q) ≡ take k p ++ take (k - length p) q
 take-both k p q =
@@ -31,27 +31,27 @@ take-both k p q =
     let e : 0 ≡ k - length p = omega arith in
     take-append-le k p q (omega arith) ∙ sym (append-nil (take k p)) ∙ ap (λ (n : ℕ). take k p ++ take n q) e)
 
-cut-then : (b : Bool) (k : ℕ) (p q : List PageWrite) (s : StoreOf b) → leftBy b k (p ++ q) s ≡ leftBy b (k - shares b (length p)) q (leftBy b k p s)
+cut-then : (b : Bool) (k : ℕ) (p q : List PageWrite) (s : StoreOf b) → leftBy b k (p ++ q) s ≡ leftBy b (k - cutUsed b (length p)) q (leftBy b k p s)
 cut-then false k p q s = ap (λ (l : List PageWrite). applied l s) (take-both k p q) ∙ applied-append (take k p) (take (k - length p) q) s
 cut-then true k p q s = cut-append k p q s
 
-count-then : (b : Bool) (k i j l : ℕ) → l ≡ i + j → k - shares b i - shares b j ≡ k - shares b l
+count-then : (b : Bool) (k i j l : ℕ) → l ≡ i + j → k - cutUsed b i - cutUsed b j ≡ k - cutUsed b l
 count-then false k i j l e = omega arith
 count-then true k i j l e = omega arith
 
 -- one phase and then another
-pub phase-then : {b : Bool} {k : ℕ} {p q : List PageWrite} {s s′ s″ : StoreOf b} {a c : ℕ} → Phase b k p s s′ a → Phase b a q s′ s″ c → Phase b k (p ++ q) s s″ c
+pub phase-then : {b : Bool} {k : ℕ} {p q : List PageWrite} {s s′ s″ : StoreOf b} {a c : ℕ} → WritesPhase b k p s s′ a → WritesPhase b a q s′ s″ c → WritesPhase b k (p ++ q) s s″ c
 phase-then {b} {k} {p} {q} {s} {s′} {s″} {a} {c} h g = record {
   store = g .store ∙ ap₂ (λ (n : ℕ) (t : StoreOf b). leftBy b n q t) (h .count) (h .store) ∙ sym (cut-then b k p q s);
-  count = g .count ∙ ap (λ (n : ℕ). n - shares b (length q)) (h .count) ∙ count-then b k (length p) (length q) (length (p ++ q)) (length-append p q);
+  count = g .count ∙ ap (λ (n : ℕ). n - cutUsed b (length q)) (h .count) ∙ count-then b k (length p) (length q) (length (p ++ q)) (length-append p q);
 }
 
-pub within : {b : Bool} {k : ℕ} {ws : List PageWrite} {s t : StoreOf b} {a : ℕ} → Phase b k ws s t a → a ≤ k
+pub within : {b : Bool} {k : ℕ} {ws : List PageWrite} {s t : StoreOf b} {a : ℕ} → WritesPhase b k ws s t a → a ≤ k
 within h = omega (arith, h .count)
 
 -- a page write of a page that is known otherwise
-pub phase-page : {b : Bool} {k n : ℕ} {p q : Page} {s t : StoreOf b} {a : ℕ} → p ≡ q → Phase b k (sets n p ∷ []) s t a → Phase b k (sets n q ∷ []) s t a
-phase-page {b} {k} {n} {p} {q} {s} {t} {a} e h = subst (λ (x : Page). Phase b k (sets n x ∷ []) s t a) e h
+pub phase-page : {b : Bool} {k n : ℕ} {p q : Page} {s t : StoreOf b} {a : ℕ} → p ≡ q → WritesPhase b k (sets n p ∷ []) s t a → WritesPhase b k (sets n q ∷ []) s t a
+phase-page {b} {k} {n} {p} {q} {s} {t} {a} e h = subst (λ (x : Page). WritesPhase b k (sets n x ∷ []) s t a) e h
 
 -- no page write
 cut-nothing : (b : Bool) (k : ℕ) (s : StoreOf b) → leftBy b k [] s ≡ s
@@ -59,31 +59,31 @@ unfolding applied cutPairs putAll tearFirst
 cut-nothing false k s = ap (λ (l : List PageWrite). applied l s) (take-nil k)
 cut-nothing true k s = ap₂ (λ (a b : List PageWrite). tearFirst (k % 4) a (putAll b s)) (drop-nil (k / 4)) (take-nil (k / 4))
 
-none-of : (b : Bool) (k : ℕ) → k ≡ k - shares b 0
+none-of : (b : Bool) (k : ℕ) → k ≡ k - cutUsed b 0
 none-of false k = omega arith
 none-of true k = omega arith
 
-pub phase-none : {b : Bool} {k : ℕ} {s : StoreOf b} → Phase b k [] s s k
+pub phase-none : {b : Bool} {k : ℕ} {s : StoreOf b} → WritesPhase b k [] s s k
 phase-none {b} {k} {s} = record { store = sym (cut-nothing b k s); count = none-of b k }
 
 -- one page write of atomic pages: made, or nothing is left of the cut
-pub phase-one : {k n : ℕ} {p : Page} {s t : Pages} → 0 < k → t ≡ updated n p s → Phase false k (sets n p ∷ []) s t (k - 1)
+pub phase-one : {k n : ℕ} {p : Page} {s t : Pages} → 0 < k → t ≡ updated n p s → WritesPhase false k (sets n p ∷ []) s t (k - 1)
 unfolding applied written
 phase-one {k = k} {n = n} {p = p} {s = s} h e =
     record { store = e ∙ ap (λ (l : List PageWrite). applied l s) (sym (take-all k (sets n p ∷ []) h)); count = omega arith }
 
-pub phase-spent : {n : ℕ} {p : Page} {s : Pages} {k : ℕ} → k ≡ 0 → Phase false k (sets n p ∷ []) s s k
+pub phase-spent : {n : ℕ} {p : Page} {s : Pages} {k : ℕ} → k ≡ 0 → WritesPhase false k (sets n p ∷ []) s s k
 unfolding applied
 phase-spent {n = n} {p = p} {s = s} {k = k} e =
     record { store = ap (λ (m : ℕ). applied (take m (sets n p ∷ [])) s) (sym e); count = omega arith }
 
 -- A whole list of page writes within one cut, where all but the last left `last` of it: what the rules' cut says.
 module _ (k last left m : ℕ) (ws : List PageWrite) (long : length ws ≡ m + 1) where
-  atomic-last : (s t : Pages) → last ≡ k - m → Phase false k ws s t left → Leaves (cutAt k ws s) t (k - left) (under last 1)
+  atomic-last : (s t : Pages) → last ≡ k - m → WritesPhase false k ws s t left → PageWritesDone (cutAt k ws s) t (k - left) (under last 1)
   unfolding cutAt
   atomic-last s t e P = go (is? (under last 1))
     where
-      go : Is (under last 1) → Leaves (cutAt k ws s) t (k - left) (under last 1)
+      go : Is (under last 1) → PageWritesDone (cutAt k ws s) t (k - left) (under last 1)
       go (yes′ d) =
           let lt : last < 1 = under-lt last 1 d in
           let u = lt-under k (length ws) (omega arith) in
@@ -95,11 +95,11 @@ module _ (k last left m : ℕ) (ws : List PageWrite) (long : length ws ≡ m + 1
           let n : k - left ≡ length ws = omega (arith, P .count) in
           record { store = P .store; made = n ∙ sym (ap (λ (x : Bool). cond x k (length ws)) u); crashed = d ∙ sym u }
 
-  paired-last : (s t : Pairs) → last ≡ k - 4 * m → Phase true k ws s t left → Leaves (cutPairs k ws s) t (madeOf true k last left) (under last 4)
+  paired-last : (s t : Pairs) → last ≡ k - 4 * m → WritesPhase true k ws s t left → PageWritesDone (cutPairs k ws s) t (madeOf true k last left) (under last 4)
   unfolding cutPairs
   paired-last s t e P = go (is? (under last 4))
     where
-      go : Is (under last 4) → Leaves (cutPairs k ws s) t (madeOf true k last left) (under last 4)
+      go : Is (under last 4) → PageWritesDone (cutPairs k ws s) t (madeOf true k last left) (under last 4)
       go (yes′ d) =
           let lt : last < 4 = under-lt last 4 d in
           let u = lt-under (k / 4) (length ws) (omega arith) in
@@ -118,18 +118,18 @@ module _ (k last left m : ℕ) (ws : List PageWrite) (long : length ws ≡ m + 1
             crashed = d ∙ sym u;
           }
 
-  last-of : (b : Bool) (s t : StoreOf b) → last ≡ k - shares b m → Phase b k ws s t left → Leaves (cutOn b k ws s) t (madeOf b k last left) (under last (share b))
+  last-of : (b : Bool) (s t : StoreOf b) → last ≡ k - cutUsed b m → WritesPhase b k ws s t left → PageWritesDone (cutOn b k ws s) t (madeOf b k last left) (under last (writeShare b))
   last-of false s t e P = atomic-last s t e P
   last-of true s t e P = paired-last s t e P
 
 -- all phases but the last page write, and then it
-pub phase-last : {b : Bool} {k n : ℕ} {ws : List PageWrite} {p : Page} {s s′ s″ : StoreOf b} {a c : ℕ} → Phase b k ws s s′ a → Phase b a (sets n p ∷ []) s′ s″ c
-    → Leaves (cutOn b k (ws ++ (sets n p ∷ [])) s) s″ (madeOf b k a c) (under a (share b))
+pub phase-last : {b : Bool} {k n : ℕ} {ws : List PageWrite} {p : Page} {s s′ s″ : StoreOf b} {a c : ℕ} → WritesPhase b k ws s s′ a → WritesPhase b a (sets n p ∷ []) s′ s″ c
+    → PageWritesDone (cutOn b k (ws ++ (sets n p ∷ [])) s) s″ (madeOf b k a c) (under a (writeShare b))
 phase-last {b} {k} {n} {ws} {p} {s} {s′} {s″} {a} {c} h g =
     last-of k a c (length ws) (ws ++ (sets n p ∷ [])) (length-append ws (sets n p ∷ [])) b s s″ (h .count) (phase-then h g)
 
 -- nothing to write
-pub none-left : (b : Bool) (k : ℕ) (s : StoreOf b) {ws : List PageWrite} → ws ≡ [] → Leaves (cutOn b k ws s) s 0 false
+pub none-left : (b : Bool) (k : ℕ) (s : StoreOf b) {ws : List PageWrite} → ws ≡ [] → PageWritesDone (cutOn b k ws s) s 0 false
 unfolding cutAt cutPairs
 none-left false k s {ws} e =
     let u : under k (length ws) ≡ false = ap (λ (l : List PageWrite). under k (length l)) e ∙ not-lt-under k 0 (omega arith) in
@@ -154,7 +154,7 @@ spent-is a = go (same? a 0)
     go (is e q _) = lt-under a 1 (omega arith) ∙ sym q
     go (isnt e q _) = not-lt-under a 1 (omega (arith, e)) ∙ sym q
 
-pub as-spent : {S : Type 0} {c : Cut S} {t : S} {m : ℕ} (a : ℕ) → Leaves c t m (under a 1) → Leaves c t m (same a 0)
+pub as-spent : {S : Type 0} {c : Cut S} {t : S} {m : ℕ} (a : ℕ) → PageWritesDone c t m (under a 1) → PageWritesDone c t m (same a 0)
 as-spent a L = record { store = L .store; made = L .made; crashed = sym (spent-is a) ∙ L .crashed }
 
 -- what a torn write counts, as the code has it

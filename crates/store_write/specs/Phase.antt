@@ -52,18 +52,18 @@ leftBy false k ws s = applied (take k ws) s
 leftBy true k ws s = cutPairs k ws s .store
 
 -- what one whole page write takes of a cut, and what some take: a cut of pages that can tear is told in quarters of a page write
-abbrev pub share : Bool → ℕ
-share false = 1
-share true = 4
+abbrev pub writeShare : Bool → ℕ
+writeShare false = 1
+writeShare true = 4
 
-abbrev pub shares : Bool → ℕ → ℕ
-shares false n = n
-shares true n = 4 * n
+abbrev pub cutUsed : Bool → ℕ → ℕ
+cutUsed false n = n
+cutUsed true n = 4 * n
 
 -- Of these page writes those happen that the cut allows: the store after them, and what they leave of the cut.
-pub record Phase (tears : Bool) (k : ℕ) (ws : List PageWrite) (before after : StoreOf tears) (left : ℕ) : Type 0 where
+pub record WritesPhase (tears : Bool) (k : ℕ) (ws : List PageWrite) (before after : StoreOf tears) (left : ℕ) : Type 0 where
   pub store : after ≡ leftBy tears k ws before
-  pub count : left ≡ k - shares tears (length ws)
+  pub count : left ≡ k - cutUsed tears (length ws)
 
 -- How many page writes were made, by the cut, by what all but the last of them left of it, and by what all left. Where less than a whole write was left for the
 -- last one a crash came: so many were made as the cut tells, with a torn one that counts.
@@ -72,7 +72,7 @@ madeOf false k last left = k - left
 madeOf true k last left = cond (under last 4) (k / 4 + counted (k % 4)) ((k - left) / 4)
 
 -- a store, a count of page writes and whether a crash came are what the rules say
-pub record Leaves {S : Type 0} (c : Cut S) (after : S) (n : ℕ) (down : Bool) : Type 0 where
+pub record PageWritesDone {S : Type 0} (c : Cut S) (after : S) (n : ℕ) (down : Bool) : Type 0 where
   pub store : after ≡ c .store
   pub made : n ≡ c .made
   pub crashed : down ≡ c .crashed

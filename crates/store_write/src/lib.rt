@@ -8,7 +8,7 @@ ghost use Prim.Native.Nat.{_+_, _*_, _<_, _≤_};
 ghost use lib.ListN.{length};
 ghost use Rattle.laws.specs.Tests.{under};
 ghost use Rattle.rules.specs.Commit.{sets};
-ghost use Rattle.store_write.specs.Phase.{Phase, storeOf, strideOf, placeOf, shownIn, lostIn, mendedIn, share, madeOf};
+ghost use Rattle.store_write.specs.Phase.{WritesPhase, storeOf, strideOf, placeOf, shownIn, lostIn, mendedIn, writeShare, madeOf};
 
 // Page n becomes `page`, as far as the cut allows. Returns what is left of the cut.
 pub fn write_counted(store: &mut [u8], tears: bool, n: usize, page: [u8; 32], left: u8) -> u8
@@ -16,7 +16,7 @@ pub fn write_counted(store: &mut [u8], tears: bool, n: usize, page: [u8; 32], le
     ensures { λ r.
         let before = storeOf tears (now (store .entry)) in
         let after = storeOf tears (now (store .exit)) in
-        ⌜ Phase tears left (sets n page ∷ []) before after r × (r ≤ left) ⌝ }
+        ⌜ WritesPhase tears left (sets n page ∷ []) before after r × (r ≤ left) ⌝ }
 {
     if tears {
         return store_pair::write_counted(store, n, page, left);
@@ -30,7 +30,7 @@ pub fn write_counted(store: &mut [u8], tears: bool, n: usize, page: [u8; 32], le
 
 // Whether the cut came before the last of some page writes was whole, where all but the last left `last` of it.
 pub fn is_cut(tears: bool, last: u8) -> bool
-    ensures { λ r. ⌜ r ≡ under last (share tears) ⌝ }
+    ensures { λ r. ⌜ r ≡ under last (writeShare tears) ⌝ }
 {
     if tears {
         return last < 4;

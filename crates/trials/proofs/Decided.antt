@@ -18,7 +18,7 @@ use Rattle.rules.specs.State.{Bearer, free, active, depthIn, lineOf, mem, nothi
 use Rattle.rules.specs.Versions.{isSome, open-versions}
 use Rattle.rules.specs.Sound.{inLine, isCalm, Sound}
 use Rattle.rules.specs.Editions.{edition1}
-use Rattle.trials.specs.SoundTrials.{Desk, everyone, everywhere, implied, isParented, isLevel, isPaged, numbered, parented, level, shallow, holder-live, retainer-live, on-one-line, beneath, one-holder, beneath-writing, by-lock, ranged, paged, idle, calm, reserved, clauses, allTrue, isSound, Sketch, sketched}
+use Rattle.trials.specs.SoundTrials.{Desk, everyone, everywhere, implied, isParented, isLevel, isPaged, numbered, parented, level, shallow, holder-live, retainer-live, on-one-line, beneath, one-holder, beneath-writing, by-lock, ranged, paged, idle, calm, reserved-clause, clauses, allTrue, isSound, Sketch, sketched}
 
 -- an implication as a test
 applies : (a b : Bool) → implied a b ≡ true → a ≡ true → b ≡ true
@@ -166,7 +166,7 @@ module _ (s : Desk) where
         not-true (live s t) (or-cases (s .up) (not (live s t)) f (λ u. clash u d) (λ u. u))
 
     reserved-of : (r t : ℕ) → isSome (edition1 .medium .pending (s .store) r) ≡ true → (holds s r t || retains s r t) ≡ false
-    unfolding reserved
+    unfolding reserved-clause
     reserved-of r t h =
         let a : ℕ → Bool = λ q. isSome (edition1 .medium .pending (s .store) q) in
         let f = from-everywhere (λ q u. not (a q) || not (holds s q u || retains s q u)) (clause (clauses s) 15 e)
@@ -226,7 +226,7 @@ module _ (s : Desk) where
     shallow-under t = let h = S .shallow t in lt-under (depthIn (s .bearer t)) 17 (omega (arith, h))
 
     every-clause : AllTrue (clauses s)
-    unfolding numbered parented level shallow holder-live retainer-live on-one-line beneath one-holder beneath-writing by-lock ranged paged idle calm reserved open-geometry
+    unfolding numbered parented level shallow holder-live retainer-live on-one-line beneath one-holder beneath-writing by-lock ranged paged idle calm reserved-clause open-geometry
     every-clause =
         all-of 25 (λ t. implied (live s t) (under t 24)) (λ t. implies (live s t) (under t 24) (λ h. lt-under t 24 (S .numbered t h)))
         and all-of 25 (λ t. isParented s (s .bearer t)) (λ t. is-parented t (s .bearer t) refl)

@@ -15,9 +15,9 @@ use Rattle.rules.specs.Step.{open-step}
 use Rattle.rules.specs.Run.{open-run}
 use Rattle.rules.specs.Portion.{open-portion}
 use Rattle.trials.specs.Trials.{firstTrials}
-use Rattle.trials.specs.PortionTrials.{oneByOne, worked, allPass, portionTrials}
+use Rattle.trials.specs.PortionTrials.{oneByOne, worked, portionTrialsPass, portionTrials}
 
-pub portion-trials-hold : T (allPass portionTrials)
+pub portion-trials-hold : T (portionTrialsPass portionTrials)
 unfolding open-tests open-counting open-functions open-bytes open-geometry open-store open-event open-state open-locks open-versions open-commit open-step open-run open-portion
 portion-trials-hold = tt
 

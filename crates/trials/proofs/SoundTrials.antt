@@ -19,7 +19,7 @@ use Rattle.trials.specs.StateTrials as states
 use Rattle.trials.specs.SoundTrials.{allAgree, soundTrials, open-clauses}
 
 -- states that lists of events leave
-pub state-trials-hold : T (states.allPass states.stateTrials)
+pub state-trials-hold : T (states.stateTrialsPass states.stateTrials)
 unfolding open-tests open-counting open-functions open-bytes open-geometry open-store open-event open-state open-locks open-versions open-commit open-step open-run open-portion
 state-trials-hold = tt
 

@@ -14,8 +14,8 @@ use Rattle.rules.specs.Commit.{open-commit}
 use Rattle.rules.specs.Step.{open-step}
 use Rattle.rules.specs.Run.{open-run}
 use Rattle.rules.specs.Waiting.{open-waiting}
-use Rattle.trials.specs.WaitingTrials.{allPass, waitingTrials}
+use Rattle.trials.specs.WaitingTrials.{waitingTrialsPass, waitingTrials}
 
-pub waiting-trials-hold : T (allPass waitingTrials)
+pub waiting-trials-hold : T (waitingTrialsPass waitingTrials)
 unfolding open-tests open-counting open-functions open-bytes open-geometry open-store open-event open-state open-locks open-versions open-commit open-step open-run open-waiting
 waiting-trials-hold = tt

@@ -5,7 +5,7 @@ use lib.ListN.{take, set, replicate}
 use lib.IntN.{pos, negsuc}
 use Rattle.rules.specs.Event.{write, read, commit, crash, recover, query}
 use Rattle.rules.specs.Age.{ahead, live, stale, refused}
-use Rattle.trials_rows.specs.Rows.{Due, page, value, Trial, plays, refuses, takes, lays, ages, freshBytes, blank, emptyPage, withA5, on, top, locks, onFresh, put, flipped, damagedAt, writesAll}
+use Rattle.trials_rows.specs.Rows.{StoreDue, page, value, Trial, plays, refuses, takes, lays, ages, freshBytes, zeroPage, emptyPage, withA5, on, top, locks, onFresh, put, flipped, damagedAt, writesAll}
 
 -- page 0 as committed for records 0 and 3, for records 3 and 9, and for all
 abbrev pub committed03 : List ℕ
@@ -27,22 +27,22 @@ under0 head = put 0 head freshBytes
 
 -- so is this one, for a recovery: it changes nothing and leaves the store down
 abbrev pub stays : List ℕ → Trial
-stays head = plays (under0 head) (on (recover 63) 0x0400 ∷ on top 0x0200 ∷ on crash 0x0000 ∷ on (recover 0) 0x0400 ∷ on (query 0) 0x0200 ∷ []) (page 0 head ∷ page 1 blank ∷ [])
+stays head = plays (under0 head) (on (recover 63) 0x0400 ∷ on top 0x0200 ∷ on crash 0x0000 ∷ on (recover 0) 0x0400 ∷ on (query 0) 0x0200 ∷ []) (page 0 head ∷ page 1 zeroPage ∷ [])
 
 -- transaction 0 writes A5 at 2 into record 9, then into 3, and commits with count k
-abbrev pub nineThenThree : ℕ → ℕ → List Due → Trial
-nineThenThree k a ds =
+abbrev pub nineThenThreeRow : ℕ → ℕ → List StoreDue → Trial
+nineThenThreeRow k a ds =
     onFresh (on top 0x0000 ∷ on (locks 0 9) 0x0000 ∷ on (write 0 9 2 0xA5) 0x0000 ∷ on (locks 0 3) 0x0000 ∷ on (write 0 3 2 0xA5) 0x0000 ∷ on (commit 0 k) a ∷ []) ds
 
 -- the pages that it writes: page 0, the intention pages, the home pages
-abbrev pub five : List ℕ → List ℕ → List ℕ → List ℕ → List ℕ → List Due
-five p0 p4 p10 p20 p26 = page 0 p0 ∷ page 4 p4 ∷ page 10 p10 ∷ page 20 p20 ∷ page 26 p26 ∷ []
+abbrev pub fivePages : List ℕ → List ℕ → List ℕ → List ℕ → List ℕ → List StoreDue
+fivePages p0 p4 p10 p20 p26 = page 0 p0 ∷ page 4 p4 ∷ page 10 p10 ∷ page 20 p20 ∷ page 26 p26 ∷ []
 
 -- records 3 and 9 are committed and not yet home
 abbrev pub owed : List ℕ
 owed = put 0 committed39 (set (set freshBytes (32 * 4 + 2) 0xA5) (32 * 10 + 2) 0xA5)
 
-abbrev pub recoversOwed : ℕ → ℕ → List Due → Trial
+abbrev pub recoversOwed : ℕ → ℕ → List StoreDue → Trial
 recoversOwed k a ds = plays owed (on (recover k) a ∷ []) ds
 
 -- the bytes 0, 1, .. as a page
@@ -81,25 +81,25 @@ pageTrials =
     onFresh (on top 0x0000 ∷ on (locks 0 3) 0x0000 ∷ on (write 0 3 2 7) 0x0000 ∷ on (locks 0 0) 0x0000 ∷ on (write 0 0 2 7) 0x0000 ∷ on (commit 0 3) 0x0B03 ∷ []) (page 0 committed03 ∷ []) ∷
     onFresh (on top 0x0000 ∷ writesAll 0 16 ++ (on (commit 0 33) 0x0B21 ∷ [])) (page 0 committedAll ∷ page 16 withA5 ∷ page 17 withA5 ∷ page 32 withA5 ∷ []) ∷
     onFresh (on top 0x0000 ∷ writesAll 0 16 ++ (on (commit 0 34) 0x0022 ∷ [])) (page 0 emptyPage ∷ page 1 withA5 ∷ page 32 withA5 ∷ []) ∷
-    onFresh (on top 0x0000 ∷ writesAll 0 16 ++ (on (commit 0 16) 0x0B10 ∷ on (recover 63) 0x0000 ∷ [])) (page 0 emptyPage ∷ page 16 withA5 ∷ page 17 blank ∷ []) ∷
+    onFresh (on top 0x0000 ∷ writesAll 0 16 ++ (on (commit 0 16) 0x0B10 ∷ on (recover 63) 0x0000 ∷ [])) (page 0 emptyPage ∷ page 16 withA5 ∷ page 17 zeroPage ∷ []) ∷
     onFresh (on top 0x0000 ∷ writesAll 0 16 ++ (on (commit 0 17) 0x0B11 ∷ on (recover 16) 0x0B10 ∷ on (recover 17) 0x0011 ∷ [])) (page 0 emptyPage ∷ page 17 withA5 ∷ page 32 withA5 ∷ []) ∷
     -- Two records at every cut, by rising record whichever was written first.
-    nineThenThree 0 0x0B00 (five emptyPage blank blank blank blank) ∷ nineThenThree 1 0x0B01 (five emptyPage withA5 blank blank blank) ∷
-    nineThenThree 2 0x0B02 (five emptyPage withA5 withA5 blank blank) ∷ nineThenThree 3 0x0B03 (five committed39 withA5 withA5 blank blank) ∷
-    nineThenThree 4 0x0B04 (five committed39 withA5 withA5 withA5 blank) ∷ nineThenThree 5 0x0B05 (five committed39 withA5 withA5 withA5 withA5) ∷
-    nineThenThree 6 0x0006 (five emptyPage withA5 withA5 withA5 withA5) ∷
+    nineThenThreeRow 0 0x0B00 (fivePages emptyPage zeroPage zeroPage zeroPage zeroPage) ∷ nineThenThreeRow 1 0x0B01 (fivePages emptyPage withA5 zeroPage zeroPage zeroPage) ∷
+    nineThenThreeRow 2 0x0B02 (fivePages emptyPage withA5 withA5 zeroPage zeroPage) ∷ nineThenThreeRow 3 0x0B03 (fivePages committed39 withA5 withA5 zeroPage zeroPage) ∷
+    nineThenThreeRow 4 0x0B04 (fivePages committed39 withA5 withA5 withA5 zeroPage) ∷ nineThenThreeRow 5 0x0B05 (fivePages committed39 withA5 withA5 withA5 withA5) ∷
+    nineThenThreeRow 6 0x0006 (fivePages emptyPage withA5 withA5 withA5 withA5) ∷
     -- A recovery at every cut.
-    recoversOwed 0 0x0B00 (five committed39 withA5 withA5 blank blank) ∷ recoversOwed 1 0x0B01 (five committed39 withA5 withA5 withA5 blank) ∷
-    recoversOwed 2 0x0B02 (five committed39 withA5 withA5 withA5 withA5) ∷ recoversOwed 3 0x0003 (five emptyPage withA5 withA5 withA5 withA5) ∷
+    recoversOwed 0 0x0B00 (fivePages committed39 withA5 withA5 zeroPage zeroPage) ∷ recoversOwed 1 0x0B01 (fivePages committed39 withA5 withA5 withA5 zeroPage) ∷
+    recoversOwed 2 0x0B02 (fivePages committed39 withA5 withA5 withA5 withA5) ∷ recoversOwed 3 0x0003 (fivePages emptyPage withA5 withA5 withA5 withA5) ∷
     -- Settled values: by the intention page where the map names the record, by the home page where it doesn't or page 0 is damaged.
     plays stamped [] (value 0 (0 ∷ 0 ∷ 0 ∷ 9 ∷ 5 ∷ replicate 27 0) ∷ value 4 (0 ∷ 0 ∷ 0 ∷ 11 ∷ replicate 28 0) ∷ []) ∷
     plays (set stamped 31 1) (on (recover 63) 0x0400 ∷ []) (value 0 (0 ∷ 0 ∷ 0 ∷ 2 ∷ replicate 28 0) ∷ value 4 (0 ∷ 0 ∷ 0 ∷ 11 ∷ replicate 28 0) ∷ []) ∷
     -- A read shows the home page, not what stands in the intention page. A version is a copy of it with one byte changed.
     plays (put (32 * 4) (replicate 32 0xEE) (put (32 * 20) (rising 100 32) freshBytes)) (
     on (recover 63) 0x0000 ∷ on top 0x0000 ∷ on (locks 0 3) 0x0000 ∷ on (read 0 3 0) 0x0064 ∷ on (read 0 3 31) 0x0083 ∷ on (write 0 3 1 7) 0x0000 ∷ on (read 0 3 0) 0x0064 ∷ on (read 0 3 1) 0x0007 ∷
-    on (commit 0 63) 0x0004 ∷ []) (page 4 (100 ∷ 7 ∷ rising 102 30) ∷ page 20 (100 ∷ 7 ∷ rising 102 30) ∷ page 5 blank ∷ page 21 blank ∷ []) ∷
+    on (commit 0 63) 0x0004 ∷ []) (page 4 (100 ∷ 7 ∷ rising 102 30) ∷ page 20 (100 ∷ 7 ∷ rising 102 30) ∷ page 5 zeroPage ∷ page 21 zeroPage ∷ []) ∷
     -- A recover writes nothing over an empty page, whatever its count, and whatever the intention pages have.
-    plays (put (32 * 4) (replicate 32 0xEE) freshBytes) (on (recover 0) 0x0000 ∷ on top 0x0000 ∷ []) (page 0 emptyPage ∷ page 20 blank ∷ []) ∷
+    plays (put (32 * 4) (replicate 32 0xEE) freshBytes) (on (recover 0) 0x0000 ∷ on top 0x0000 ∷ []) (page 0 emptyPage ∷ page 20 zeroPage ∷ []) ∷
     -- A damaged page stops a recovery, and nothing changes.
     stays (0x15 ∷ 0x90 ∷ 0x00 ∷ 0x08 ∷ replicate 28 0) ∷ stays (0x15 ∷ 0x90 ∷ 0x00 ∷ 0x11 ∷ replicate 28 0) ∷ stays (0x10 ∷ 0x00 ∷ 0x00 ∷ 0x08 ∷ replicate 28 0) ∷
     stays (0x25 ∷ 0x90 ∷ 0x00 ∷ 0x10 ∷ replicate 28 0) ∷ stays (0x15 ∷ 0x90 ∷ 0x00 ∷ 0x10 ∷ replicate 27 0 ++ (1 ∷ [])) ∷ stays (0x15 ∷ replicate 31 0) ∷ stays (replicate 32 0) ∷

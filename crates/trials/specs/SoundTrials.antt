@@ -14,7 +14,7 @@ use Rattle.rules.specs.Versions.{isSome}
 use Rattle.rules.specs.Step.{StateOf}
 use Rattle.rules.specs.Sound.{inLine, isCalm}
 use Rattle.rules.specs.Editions.{edition1}
-use Rattle.trials_rows.specs.Rows.{freshBytes, blank}
+use Rattle.trials_rows.specs.Rows.{freshBytes, zeroPage}
 
 abbrev pub Desk : Type 0
 Desk = StateOf edition1
@@ -89,13 +89,13 @@ idle s = everyone (λ t. s .up || not (live s t))
 unfoldable pub calm : Desk → Bool
 calm s = implied (s .up) (isCalm (edition1 .medium) (s .store))
 
-unfoldable pub reserved : Desk → Bool
-reserved s = everywhere (λ r t. not (isSome (edition1 .medium .pending (s .store) r)) || not (holds s r t || retains s r t))
+unfoldable pub reserved-clause : Desk → Bool
+reserved-clause s = everywhere (λ r t. not (isSome (edition1 .medium .pending (s .store) r)) || not (holds s r t || retains s r t))
 
 abbrev pub clauses : Desk → List Bool
 clauses s =
     numbered s ∷ parented s ∷ level s ∷ shallow s ∷ holder-live s ∷ retainer-live s ∷ on-one-line s ∷ beneath s ∷ one-holder s ∷ beneath-writing s ∷ by-lock s ∷ ranged s ∷ paged s ∷ idle s ∷
-    calm s ∷ reserved s ∷ []
+    calm s ∷ reserved-clause s ∷ []
 
 unfoldable pub allTrue : List Bool → Bool
 allTrue [] = true
@@ -106,7 +106,7 @@ isSound s = allTrue (clauses s)
 
 -- opens the clauses: for what is proved by computing
 unfoldable pub open-clauses : Unit {0}
-unfolding isParented isLevel isPaged numbered parented level shallow holder-live retainer-live on-one-line beneath one-holder beneath-writing by-lock ranged paged idle calm reserved allTrue
+unfolding isParented isLevel isPaged numbered parented level shallow holder-live retainer-live on-one-line beneath one-holder beneath-writing by-lock ranged paged idle calm reserved-clause allTrue
 open-clauses = tt
 
 -- A state by what there is: who bears which number, from 0 on; by record and transaction, locks held, locks retained; versions by transaction
@@ -145,14 +145,14 @@ sketched k = record {
 }
 
 -- Rows: a state and whether it is sound.
-abbrev pub Row : Type 0
-Row = Sketch × Bool
+abbrev pub SoundRow : Type 0
+SoundRow = Sketch × Bool
 
 abbrev pub agrees : Bool → Bool → Bool
 agrees true b = b
 agrees false b = not b
 
-abbrev pub allAgree : List Row → Bool
+abbrev pub allAgree : List SoundRow → Bool
 allAgree [] = true
 allAgree (x ∷ xs) = agrees (x .1) (isSound (sketched (x .0))) && allAgree xs
 
@@ -169,30 +169,30 @@ abbrev pub seated : List Bearer → Sketch
 seated seats = record { up = true; seats = seats; held = []; retained = []; versions = []; store = freshBytes }
 
 -- the five with these locks, held and retained
-abbrev pub locked : List Lock → List Lock → Sketch
-locked held retained = record { up = true; seats = five; held = held; retained = retained; versions = []; store = freshBytes }
+abbrev pub withLocks : List Lock → List Lock → Sketch
+withLocks held retained = record { up = true; seats = five; held = held; retained = retained; versions = []; store = freshBytes }
 
 -- with a version
 abbrev pub versioned : List Lock → List Lock → Version → Sketch
 versioned held retained v = record { up = true; seats = five; held = held; retained = retained; versions = v ∷ []; store = freshBytes }
 
 -- up or down, with page 0 beginning so
-abbrev pub over : Bool → List Bearer → List Lock → List Lock → List ℕ → Sketch
-over up seats held retained head = record { up = up; seats = seats; held = held; retained = retained; versions = []; store = head ++ replicate 1050 0 }
+abbrev pub overHead : Bool → List Bearer → List Lock → List Lock → List ℕ → Sketch
+overHead up seats held retained head = record { up = up; seats = seats; held = held; retained = retained; versions = []; store = head ++ replicate 1050 0 }
 
-abbrev pub emptied : List ℕ
-emptied = 0x10 ∷ 0 ∷ 0 ∷ 0 ∷ 0 ∷ 0 ∷ []
+abbrev pub emptiedHead : List ℕ
+emptiedHead = 0x10 ∷ 0 ∷ 0 ∷ 0 ∷ 0 ∷ 0 ∷ []
 
-abbrev pub committed : List ℕ
-committed = 0x15 ∷ 0x10 ∷ 0 ∷ 0x08 ∷ 0 ∷ 0 ∷ []
+abbrev pub committedHead : List ℕ
+committedHead = 0x15 ∷ 0x10 ∷ 0 ∷ 0x08 ∷ 0 ∷ 0 ∷ []
 
-abbrev pub prepared : List ℕ
-prepared = 0x13 ∷ 0x10 ∷ 0 ∷ 0x08 ∷ 7 ∷ 0 ∷ []
+abbrev pub preparedHead : List ℕ
+preparedHead = 0x13 ∷ 0x10 ∷ 0 ∷ 0x08 ∷ 7 ∷ 0 ∷ []
 
-abbrev pub damaged : List ℕ
-damaged = 0x13 ∷ 0x10 ∷ 0 ∷ 0x10 ∷ 7 ∷ 0 ∷ []
+abbrev pub damagedHead : List ℕ
+damagedHead = 0x13 ∷ 0x10 ∷ 0 ∷ 0x10 ∷ 7 ∷ 0 ∷ []
 
-abbrev pub soundTrials : List Row
+abbrev pub soundTrials : List SoundRow
 soundTrials =
     (seated [], true) ∷ (seated five, true) ∷
     -- numbered: 23 is the last number
@@ -204,32 +204,32 @@ soundTrials =
     -- shallow: at most 16
     (seated (nestedFrom 0 16), true) ∷ (seated (nestedFrom 0 17), false) ∷
     -- holders and retainers are live
-    (locked ((3, 1, reading) ∷ []) [], true) ∷ (locked ((3, 5, reading) ∷ []) [], false) ∷ (locked [] ((3, 1, reading) ∷ []), true) ∷ (locked [] ((3, 5, reading) ∷ []), false) ∷
+    (withLocks ((3, 1, reading) ∷ []) [], true) ∷ (withLocks ((3, 5, reading) ∷ []) [], false) ∷ (withLocks [] ((3, 1, reading) ∷ []), true) ∷ (withLocks [] ((3, 5, reading) ∷ []), false) ∷
     -- on one line: every retainer with each that retains to write
-    (locked [] ((3, 0, writing) ∷ (3, 2, reading) ∷ []), true) ∷ (locked [] ((3, 2, writing) ∷ (3, 0, reading) ∷ []), true) ∷ (locked [] ((3, 0, writing) ∷ (3, 3, reading) ∷ []), false) ∷
-    (locked [] ((3, 0, reading) ∷ (3, 3, reading) ∷ []), true) ∷ (locked [] ((3, 1, writing) ∷ (3, 4, writing) ∷ []), false) ∷ (locked [] ((3, 0, writing) ∷ (4, 3, writing) ∷ []), true) ∷
+    (withLocks [] ((3, 0, writing) ∷ (3, 2, reading) ∷ []), true) ∷ (withLocks [] ((3, 2, writing) ∷ (3, 0, reading) ∷ []), true) ∷ (withLocks [] ((3, 0, writing) ∷ (3, 3, reading) ∷ []), false) ∷
+    (withLocks [] ((3, 0, reading) ∷ (3, 3, reading) ∷ []), true) ∷ (withLocks [] ((3, 1, writing) ∷ (3, 4, writing) ∷ []), false) ∷ (withLocks [] ((3, 0, writing) ∷ (4, 3, writing) ∷ []), true) ∷
     -- beneath: every holder is at or beneath all that retain to write
-    (locked ((3, 2, reading) ∷ []) ((3, 0, writing) ∷ (3, 1, writing) ∷ []), true) ∷ (locked ((3, 1, reading) ∷ []) ((3, 1, writing) ∷ []), true) ∷
-    (locked ((3, 3, reading) ∷ []) ((3, 0, writing) ∷ []), false) ∷ (locked ((3, 1, reading) ∷ []) ((3, 2, writing) ∷ []), false) ∷ (locked ((3, 1, reading) ∷ []) ((3, 2, reading) ∷ []), true) ∷
-    (locked ((3, 4, reading) ∷ []) ((3, 0, writing) ∷ (3, 1, writing) ∷ []), false) ∷
+    (withLocks ((3, 2, reading) ∷ []) ((3, 0, writing) ∷ (3, 1, writing) ∷ []), true) ∷ (withLocks ((3, 1, reading) ∷ []) ((3, 1, writing) ∷ []), true) ∷
+    (withLocks ((3, 3, reading) ∷ []) ((3, 0, writing) ∷ []), false) ∷ (withLocks ((3, 1, reading) ∷ []) ((3, 2, writing) ∷ []), false) ∷ (withLocks ((3, 1, reading) ∷ []) ((3, 2, reading) ∷ []), true) ∷
+    (withLocks ((3, 4, reading) ∷ []) ((3, 0, writing) ∷ (3, 1, writing) ∷ []), false) ∷
     -- one holder: who holds to write is alone
-    (locked ((3, 0, reading) ∷ (3, 3, reading) ∷ []) [], true) ∷ (locked ((3, 0, writing) ∷ (3, 3, reading) ∷ []) [], false) ∷ (locked ((3, 0, writing) ∷ (4, 3, writing) ∷ []) [], true) ∷
-    (locked ((3, 0, writing) ∷ (3, 1, writing) ∷ []) [], false) ∷
+    (withLocks ((3, 0, reading) ∷ (3, 3, reading) ∷ []) [], true) ∷ (withLocks ((3, 0, writing) ∷ (3, 3, reading) ∷ []) [], false) ∷ (withLocks ((3, 0, writing) ∷ (4, 3, writing) ∷ []) [], true) ∷
+    (withLocks ((3, 0, writing) ∷ (3, 1, writing) ∷ []) [], false) ∷
     -- beneath to write: and at or beneath every retainer
-    (locked ((3, 2, writing) ∷ []) ((3, 0, reading) ∷ []), true) ∷ (locked ((3, 0, writing) ∷ []) ((3, 0, reading) ∷ []), true) ∷ (locked ((3, 3, writing) ∷ []) ((3, 0, reading) ∷ []), false) ∷
-    (locked ((3, 3, reading) ∷ []) ((3, 0, reading) ∷ []), true) ∷ (locked ((3, 0, writing) ∷ []) ((3, 1, reading) ∷ []), false) ∷
+    (withLocks ((3, 2, writing) ∷ []) ((3, 0, reading) ∷ []), true) ∷ (withLocks ((3, 0, writing) ∷ []) ((3, 0, reading) ∷ []), true) ∷ (withLocks ((3, 3, writing) ∷ []) ((3, 0, reading) ∷ []), false) ∷
+    (withLocks ((3, 3, reading) ∷ []) ((3, 0, reading) ∷ []), true) ∷ (withLocks ((3, 0, writing) ∷ []) ((3, 1, reading) ∷ []), false) ∷
     -- by lock: who has a version holds or retains the lock of that record to write
-    (versioned ((3, 1, writing) ∷ []) [] (1, 3, blank), true) ∷ (versioned [] ((3, 1, writing) ∷ []) (1, 3, blank), true) ∷ (versioned ((3, 1, reading) ∷ []) [] (1, 3, blank), false) ∷
-    (versioned ((3, 1, reading) ∷ []) ((3, 1, reading) ∷ []) (1, 3, blank), false) ∷ (versioned ((4, 1, writing) ∷ []) [] (1, 3, blank), false) ∷ (versioned [] ((3, 0, writing) ∷ []) (1, 3, blank), false) ∷
-    (versioned [] [] (1, 3, blank), false) ∷
+    (versioned ((3, 1, writing) ∷ []) [] (1, 3, zeroPage), true) ∷ (versioned [] ((3, 1, writing) ∷ []) (1, 3, zeroPage), true) ∷ (versioned ((3, 1, reading) ∷ []) [] (1, 3, zeroPage), false) ∷
+    (versioned ((3, 1, reading) ∷ []) ((3, 1, reading) ∷ []) (1, 3, zeroPage), false) ∷ (versioned ((4, 1, writing) ∷ []) [] (1, 3, zeroPage), false) ∷ (versioned [] ((3, 0, writing) ∷ []) (1, 3, zeroPage), false) ∷
+    (versioned [] [] (1, 3, zeroPage), false) ∷
     -- ranged and paged: a version is a page of a record
-    (versioned ((15, 1, writing) ∷ []) [] (1, 15, blank), true) ∷ (versioned ((16, 1, writing) ∷ []) [] (1, 16, blank), false) ∷
+    (versioned ((15, 1, writing) ∷ []) [] (1, 15, zeroPage), true) ∷ (versioned ((16, 1, writing) ∷ []) [] (1, 16, zeroPage), false) ∷
     (versioned ((3, 1, writing) ∷ []) [] (1, 3, replicate 31 0), false) ∷ (versioned ((3, 1, writing) ∷ []) [] (1, 3, replicate 33 0), false) ∷
     -- idle: nothing is live while down, and page 0 may be anything
-    (over false [] [] [] emptied, true) ∷ (over false five [] [] emptied, false) ∷ (over false [] [] [] committed, true) ∷ (over false [] [] [] damaged, true) ∷ (over false [] [] [] prepared, true) ∷
+    (overHead false [] [] [] emptiedHead, true) ∷ (overHead false five [] [] emptiedHead, false) ∷ (overHead false [] [] [] committedHead, true) ∷ (overHead false [] [] [] damagedHead, true) ∷ (overHead false [] [] [] preparedHead, true) ∷
     -- calm: while up page 0 is empty or prepared
-    (over true five [] [] emptied, true) ∷ (over true five [] [] committed, false) ∷ (over true [] [] [] damaged, false) ∷ (over true five [] [] prepared, true) ∷
+    (overHead true five [] [] emptiedHead, true) ∷ (overHead true five [] [] committedHead, false) ∷ (overHead true [] [] [] damagedHead, false) ∷ (overHead true five [] [] preparedHead, true) ∷
     -- reserved: nobody has a lock of what the prepared transaction changed
-    (over true five ((4, 1, writing) ∷ []) ((4, 0, writing) ∷ []) prepared, true) ∷ (over true five ((3, 1, reading) ∷ []) [] prepared, false) ∷
-    (over true five [] ((3, 0, reading) ∷ []) prepared, false) ∷ (over true five ((3, 1, reading) ∷ []) [] emptied, true) ∷
+    (overHead true five ((4, 1, writing) ∷ []) ((4, 0, writing) ∷ []) preparedHead, true) ∷ (overHead true five ((3, 1, reading) ∷ []) [] preparedHead, false) ∷
+    (overHead true five [] ((3, 0, reading) ∷ []) preparedHead, false) ∷ (overHead true five ((3, 1, reading) ∷ []) [] emptiedHead, true) ∷
     []

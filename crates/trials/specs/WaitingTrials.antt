@@ -13,7 +13,7 @@ use Rattle.rules.specs.Step.{firstOf}
 use Rattle.rules.specs.Run.{answerBytes, Played, play}
 use Rattle.rules.specs.Waiting.{WaitingRow, Pointings, pointsTo, isCycle, reportRefusals}
 use Rattle.rules.specs.Editions.{edition1}
-use Rattle.trials_rows.specs.Rows.{Line, numbers1, wordsOf, answersOf, on, top, locks, shares}
+use Rattle.trials_rows.specs.Rows.{Line, numbers1, wordsOf, answersDue, on, top, locks, shares}
 
 -- On a fresh store, events with the answers due, and waiting rows. Then: of each transaction from 0, to whom it points, and nobody else points; a
 -- list that is a cycle, or is none; or the refusal due, with a state that is taken for sound or for unsound.
@@ -30,8 +30,8 @@ abbrev pointsFrom : Pointings → ℕ → List (List ℕ) → Bool
 pointsFrom p t [] = true
 pointsFrom p t (us ∷ uss) = sameList (those few (p t)) us && pointsFrom p (suc t) uss
 
-abbrev alike : Bool → Bool → Bool
-alike b c = (b && c) || (not b && not c)
+abbrev sameBool : Bool → Bool → Bool
+sameBool b c = (b && c) || (not b && not c)
 
 abbrev sameOption : Option ℕ → Option ℕ → Bool
 sameOption none none = true
@@ -43,17 +43,17 @@ abbrev playedOn : List Line → Played edition1
 playedOn ls = play edition1 (down (edition1 .medium .fresh)) (wordsOf numbers1 ls)
 
 -- the events are answered so
-abbrev answered : List Line → Played edition1 → Bool
-answered ls p = sameList (answerBytes (p .answers)) (answersOf ls)
+abbrev answersMatch : List Line → Played edition1 → Bool
+answersMatch ls p = sameList (answerBytes (p .answers)) (answersDue ls)
 
-abbrev pub passes : WaitingTrial → Bool
-passes (points ls rows due) = answered ls (playedOn ls) && pointsFrom (pointsTo (playedOn ls .state) rows) 0 (due ++ replicate 6 [])
-passes (turns ls rows l b) = alike (isCycle (pointsTo (playedOn ls .state) rows) l) b
-passes (refuses ls sound rows n) = answered ls (playedOn ls) && sameOption (firstOf (reportRefusals edition1 (playedOn ls .state) sound rows)) n
+abbrev pub waitingTrialPasses : WaitingTrial → Bool
+waitingTrialPasses (points ls rows due) = answersMatch ls (playedOn ls) && pointsFrom (pointsTo (playedOn ls .state) rows) 0 (due ++ replicate 6 [])
+waitingTrialPasses (turns ls rows l b) = sameBool (isCycle (pointsTo (playedOn ls .state) rows) l) b
+waitingTrialPasses (refuses ls sound rows n) = answersMatch ls (playedOn ls) && sameOption (firstOf (reportRefusals edition1 (playedOn ls .state) sound rows)) n
 
-abbrev pub allPass : List WaitingTrial → Bool
-allPass [] = true
-allPass (t ∷ ts) = passes t && allPass ts
+abbrev pub waitingTrialsPass : List WaitingTrial → Bool
+waitingTrialsPass [] = true
+waitingTrialsPass (t ∷ ts) = waitingTrialPasses t && waitingTrialsPass ts
 
 -- t waits to write record r, to read it
 abbrev writes : ℕ → ℕ → WaitingRow

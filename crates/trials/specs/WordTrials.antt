@@ -3,39 +3,39 @@
 use Prim.Native.Nat.{_+_}
 use mathlib.Core.List.{List, [], _∷_, _++_}
 use Rattle.rules.specs.Event.{write, read, commit}
-use Rattle.trials_rows.specs.Rows.{Line, word, Trial, plays, page, freshBytes, emptyPage, on, top, locks, onFresh, bits, tops}
+use Rattle.trials_rows.specs.Rows.{Line, word, Trial, plays, page, freshBytes, emptyPage, on, top, locks, onFresh, wordsWithBit, tops}
 
-abbrev pub whileDown : List Line → Trial
-whileDown ls = plays freshBytes ls (page 0 emptyPage ∷ [])
+abbrev pub whileDownOnBytes : List Line → Trial
+whileDownOnBytes ls = plays freshBytes ls (page 0 emptyPage ∷ [])
 
 unfoldable pub wordTrials : List Trial
 wordTrials =
     -- begin: the transaction, bits 23 to 27
-    whileDown (bits 0x10000000 0 23 0x0100 ++ bits 0x10000000 23 5 0x0200) ∷
+    whileDownOnBytes (wordsWithBit 0x10000000 0 23 0x0100 ++ wordsWithBit 0x10000000 23 5 0x0200) ∷
     -- lock: transaction, record, and the value to 1
-    whileDown (bits 0x20000000 0 1 0x0200 ++ (bits 0x20000000 1 18 0x0100 ++ bits 0x20000000 19 9 0x0200)) ∷
+    whileDownOnBytes (wordsWithBit 0x20000000 0 1 0x0200 ++ (wordsWithBit 0x20000000 1 18 0x0100 ++ wordsWithBit 0x20000000 19 9 0x0200)) ∷
     -- write: all but the count
-    whileDown (bits 0x30000000 0 8 0x0200 ++ (bits 0x30000000 8 6 0x0100 ++ bits 0x30000000 14 14 0x0200)) ∷
+    whileDownOnBytes (wordsWithBit 0x30000000 0 8 0x0200 ++ (wordsWithBit 0x30000000 8 6 0x0100 ++ wordsWithBit 0x30000000 14 14 0x0200)) ∷
     -- read: neither count nor value
-    whileDown (bits 0x40000000 0 14 0x0100 ++ bits 0x40000000 14 14 0x0200) ∷
+    whileDownOnBytes (wordsWithBit 0x40000000 0 14 0x0100 ++ wordsWithBit 0x40000000 14 14 0x0200) ∷
     -- commit: transaction and count
-    whileDown (bits 0x50000000 0 8 0x0100 ++ (bits 0x50000000 8 6 0x0200 ++ (bits 0x50000000 14 9 0x0100 ++ bits 0x50000000 23 5 0x0200))) ∷
+    whileDownOnBytes (wordsWithBit 0x50000000 0 8 0x0100 ++ (wordsWithBit 0x50000000 8 6 0x0200 ++ (wordsWithBit 0x50000000 14 9 0x0100 ++ wordsWithBit 0x50000000 23 5 0x0200))) ∷
     -- abort: transaction, and the value to 1
-    whileDown (bits 0x60000000 0 1 0x0200 ++ (bits 0x60000000 1 22 0x0100 ++ bits 0x60000000 23 5 0x0200)) ∷
+    whileDownOnBytes (wordsWithBit 0x60000000 0 1 0x0200 ++ (wordsWithBit 0x60000000 1 22 0x0100 ++ wordsWithBit 0x60000000 23 5 0x0200)) ∷
     -- crash: nothing
-    whileDown (bits 0x70000000 0 28 0x0100 ++ (word 0x70000000 0x0000 ∷ [])) ∷
+    whileDownOnBytes (wordsWithBit 0x70000000 0 28 0x0100 ++ (word 0x70000000 0x0000 ∷ [])) ∷
     -- recover: the count; each bit of it is a count that an empty commit page doesn't ask for, and then the store is up
-    whileDown (bits 0x80000000 0 8 0x0100 ++ (bits 0x80000000 14 14 0x0100 ++ (bits 0x80000000 8 1 0x0000 ++ bits 0x80000000 9 5 0x0300))) ∷
+    whileDownOnBytes (wordsWithBit 0x80000000 0 8 0x0100 ++ (wordsWithBit 0x80000000 14 14 0x0100 ++ (wordsWithBit 0x80000000 8 1 0x0000 ++ wordsWithBit 0x80000000 9 5 0x0300))) ∷
     -- prepare: transaction, count and value
-    whileDown (bits 0x90000000 0 14 0x0200 ++ (bits 0x90000000 14 9 0x0100 ++ bits 0x90000000 23 5 0x0200)) ∷
+    whileDownOnBytes (wordsWithBit 0x90000000 0 14 0x0200 ++ (wordsWithBit 0x90000000 14 9 0x0100 ++ wordsWithBit 0x90000000 23 5 0x0200)) ∷
     -- decide: count and value, and the offset to 1
-    whileDown (bits 0xA0000000 0 15 0x0200 ++ bits 0xA0000000 15 13 0x0100) ∷
+    whileDownOnBytes (wordsWithBit 0xA0000000 0 15 0x0200 ++ wordsWithBit 0xA0000000 15 13 0x0100) ∷
     -- query: the value
-    whileDown (bits 0xB0000000 0 8 0x0200 ++ bits 0xB0000000 8 20 0x0100) ∷
+    whileDownOnBytes (wordsWithBit 0xB0000000 0 8 0x0200 ++ wordsWithBit 0xB0000000 8 20 0x0100) ∷
     -- there is no other kind
-    whileDown (
-    word 0x00000000 0x0100 ∷ word 0xC0000000 0x0100 ∷ word 0xD0000000 0x0100 ∷ word 0xE0000000 0x0100 ∷ word 0xF0000000 0x0100 ∷ bits 0x00000000 0 28 0x0100 ++
-    (bits 0xC0000000 0 28 0x0100)) ∷
+    whileDownOnBytes (
+    word 0x00000000 0x0100 ∷ word 0xC0000000 0x0100 ∷ word 0xD0000000 0x0100 ∷ word 0xE0000000 0x0100 ∷ word 0xF0000000 0x0100 ∷ wordsWithBit 0x00000000 0 28 0x0100 ++
+    (wordsWithBit 0xC0000000 0 28 0x0100)) ∷
     -- The last of each field: transaction 23, record 15, offset 31, value FF. A field is neither wider nor narrower, and stands beside its neighbour.
     onFresh (tops 0 24 ++ (
     word 0x2BF80000 0x0000 ∷ word 0x3BFFC0FF 0x0000 ∷ word 0x4BFFC000 0x00FF ∷ word 0x4BFF8000 0x0000 ∷ word 0x4BF80000 0x0000 ∷ word 0x4BF7C000 0x0900 ∷ word 0x4B7FC000 0x0900 ∷

@@ -5,7 +5,7 @@ use lib.ListN.{replicate}
 use lib.IntN.{pos, negsuc}
 use Rattle.rules.specs.Event.{write, commit, crash, recover}
 use Rattle.rules.specs.Age.{ahead, live, refused}
-use Rattle.trials_rows.specs.Rows.{Numbers, Line, word, fields, page, home, emptied, value, Trial, plays, playsFresh, refuses, takes, lays, ages, damages, blank, withA5, on, top, locks, onFresh, bits, tops, put, damagedAt, writesAll}
+use Rattle.trials_rows.specs.Rows.{Numbers, Line, word, fields, page, home, emptied, value, Trial, plays, refuses, takes, lays, ages, damages, zeroPage, withA5, on, top, locks, onFresh, wordsWithBit, tops, put, damagedAt, writesAll, whileDown}
 use Rattle.trials_rows.specs.CommonTrials.{commonTrials}
 use Rattle.trials_rows.specs.EdgeTrials.{edgeTrials}
 
@@ -28,44 +28,41 @@ numbers2 = record {
 abbrev pub empty2 : List ℕ
 empty2 = 0x20 ∷ replicate 31 0
 
-abbrev pub committed03 : List ℕ
-committed03 = 0x25 ∷ 0x90 ∷ 0x00 ∷ 0x00 ∷ 0x00 ∷ 0x00 ∷ 0x00 ∷ 0x00 ∷ 0x00 ∷ 0x04 ∷ replicate 22 0
+abbrev pub committed03Edition2 : List ℕ
+committed03Edition2 = 0x25 ∷ 0x90 ∷ 0x00 ∷ 0x00 ∷ 0x00 ∷ 0x00 ∷ 0x00 ∷ 0x00 ∷ 0x00 ∷ 0x04 ∷ replicate 22 0
 
 abbrev pub committed63 : List ℕ
 committed63 = 0x25 ∷ 0x00 ∷ 0x00 ∷ 0x00 ∷ 0x00 ∷ 0x00 ∷ 0x00 ∷ 0x00 ∷ 0x01 ∷ 0x02 ∷ replicate 22 0
 
-abbrev pub committedAll : List ℕ
-committedAll = 0x25 ∷ 0xFF ∷ 0xFF ∷ 0xFF ∷ 0xFF ∷ 0xFF ∷ 0xFF ∷ 0xFF ∷ 0xFF ∷ 0x80 ∷ replicate 22 0
-
-abbrev pub whileDown : List Line → Trial
-whileDown ls = playsFresh ls (emptied ∷ [])
+abbrev pub committedAllEdition2 : List ℕ
+committedAllEdition2 = 0x25 ∷ 0xFF ∷ 0xFF ∷ 0xFF ∷ 0xFF ∷ 0xFF ∷ 0xFF ∷ 0xFF ∷ 0xFF ∷ 0x80 ∷ replicate 22 0
 
 -- every bit of every kind: while down a bad word is 1 and any other but a crash and a recover is 2
 unfoldable pub wordTrials2 : List Trial
 wordTrials2 =
     -- begin: the transaction, bits 55 to 59
-    whileDown (bits 0x1000000000000000 0 55 0x0100 ++ bits 0x1000000000000000 55 5 0x0200) ∷
+    whileDown (wordsWithBit 0x1000000000000000 0 55 0x0100 ++ wordsWithBit 0x1000000000000000 55 5 0x0200) ∷
     -- lock: transaction, record, and the value to 1
-    whileDown (bits 0x2000000000000000 0 28 0x0100 ++ (bits 0x2000000000000000 28 1 0x0200 ++ (bits 0x2000000000000000 29 20 0x0100 ++ bits 0x2000000000000000 49 11 0x0200))) ∷
+    whileDown (wordsWithBit 0x2000000000000000 0 28 0x0100 ++ (wordsWithBit 0x2000000000000000 28 1 0x0200 ++ (wordsWithBit 0x2000000000000000 29 20 0x0100 ++ wordsWithBit 0x2000000000000000 49 11 0x0200))) ∷
     -- write: all but the count
-    whileDown (bits 0x3000000000000000 0 28 0x0100 ++ (bits 0x3000000000000000 28 8 0x0200 ++ (bits 0x3000000000000000 36 8 0x0100 ++ bits 0x3000000000000000 44 16 0x0200))) ∷
+    whileDown (wordsWithBit 0x3000000000000000 0 28 0x0100 ++ (wordsWithBit 0x3000000000000000 28 8 0x0200 ++ (wordsWithBit 0x3000000000000000 36 8 0x0100 ++ wordsWithBit 0x3000000000000000 44 16 0x0200))) ∷
     -- read: neither count nor value
-    whileDown (bits 0x4000000000000000 0 44 0x0100 ++ bits 0x4000000000000000 44 16 0x0200) ∷
+    whileDown (wordsWithBit 0x4000000000000000 0 44 0x0100 ++ wordsWithBit 0x4000000000000000 44 16 0x0200) ∷
     -- commit: transaction and count
-    whileDown (bits 0x5000000000000000 0 36 0x0100 ++ (bits 0x5000000000000000 36 8 0x0200 ++ (bits 0x5000000000000000 44 11 0x0100 ++ bits 0x5000000000000000 55 5 0x0200))) ∷
+    whileDown (wordsWithBit 0x5000000000000000 0 36 0x0100 ++ (wordsWithBit 0x5000000000000000 36 8 0x0200 ++ (wordsWithBit 0x5000000000000000 44 11 0x0100 ++ wordsWithBit 0x5000000000000000 55 5 0x0200))) ∷
     -- abort: transaction, and the value to 1
-    whileDown (bits 0x6000000000000000 0 28 0x0100 ++ (bits 0x6000000000000000 28 1 0x0200 ++ (bits 0x6000000000000000 29 26 0x0100 ++ bits 0x6000000000000000 55 5 0x0200))) ∷
+    whileDown (wordsWithBit 0x6000000000000000 0 28 0x0100 ++ (wordsWithBit 0x6000000000000000 28 1 0x0200 ++ (wordsWithBit 0x6000000000000000 29 26 0x0100 ++ wordsWithBit 0x6000000000000000 55 5 0x0200))) ∷
     -- crash: nothing
-    whileDown (bits 0x7000000000000000 0 60 0x0100 ++ (word 0x7000000000000000 0x0000 ∷ [])) ∷
+    whileDown (wordsWithBit 0x7000000000000000 0 60 0x0100 ++ (word 0x7000000000000000 0x0000 ∷ [])) ∷
     -- recover: the count
-    whileDown (bits 0x8000000000000000 0 36 0x0100 ++ (bits 0x8000000000000000 44 16 0x0100 ++ (bits 0x8000000000000000 36 1 0x0000 ++ bits 0x8000000000000000 37 7 0x0300))) ∷
+    whileDown (wordsWithBit 0x8000000000000000 0 36 0x0100 ++ (wordsWithBit 0x8000000000000000 44 16 0x0100 ++ (wordsWithBit 0x8000000000000000 36 1 0x0000 ++ wordsWithBit 0x8000000000000000 37 7 0x0300))) ∷
     -- there is no other kind: 9 to 11 are bad with any field, and while up too
     whileDown (
-    word 0x9000000000000000 0x0100 ∷ word 0xA000000000000000 0x0100 ∷ word 0xB000000000000000 0x0100 ∷ bits 0x9000000000000000 0 60 0x0100 ++
-    (bits 0xA000000000000000 0 60 0x0100 ++ bits 0xB000000000000000 0 60 0x0100)) ∷
+    word 0x9000000000000000 0x0100 ∷ word 0xA000000000000000 0x0100 ∷ word 0xB000000000000000 0x0100 ∷ wordsWithBit 0x9000000000000000 0 60 0x0100 ++
+    (wordsWithBit 0xA000000000000000 0 60 0x0100 ++ wordsWithBit 0xB000000000000000 0 60 0x0100)) ∷
     whileDown (
     word 0x0000000000000000 0x0100 ∷ word 0xC000000000000000 0x0100 ∷ word 0xD000000000000000 0x0100 ∷ word 0xE000000000000000 0x0100 ∷ word 0xF000000000000000 0x0100 ∷
-    bits 0x0000000000000000 0 60 0x0100 ++ bits 0xC000000000000000 0 60 0x0100) ∷
+    wordsWithBit 0x0000000000000000 0 60 0x0100 ++ wordsWithBit 0xC000000000000000 0 60 0x0100) ∷
     onFresh (
     on top 0x0000 ∷ on (locks 0 3) 0x0000 ∷ on (write 0 3 2 7) 0x0000 ∷ fields 9 0 0 0 255 7 0x0100 ∷ fields 10 0 0 1 255 7 0x0100 ∷ fields 10 0 0 0 255 7 0x0100 ∷ fields 11 0 0 0 0 7 0x0100 ∷
     on (commit 0 255) 0x0004 ∷ []) [] ∷
@@ -79,12 +76,12 @@ commitsAll k a = on top 0x0000 ∷ writesAll 0 64 ++ (on (commit 0 k) a ∷ [])
 -- intention page and 11 in its home page.
 abbrev pub stamped2 : List ℕ
 stamped2 =
-    put 0 committed03 (put (32 * 1) (0 ∷ 0 ∷ 0 ∷ 9 ∷ 5 ∷ []) (put (32 * 65) (0 ∷ 0 ∷ 0 ∷ 2 ∷ []) (put (32 * 4) (1 ∷ 2 ∷ 3 ∷ 4 ∷ 5 ∷ []) (put (32 * 68) (0 ∷ 0 ∷ 0 ∷ 7 ∷ []) (
+    put 0 committed03Edition2 (put (32 * 1) (0 ∷ 0 ∷ 0 ∷ 9 ∷ 5 ∷ []) (put (32 * 65) (0 ∷ 0 ∷ 0 ∷ 2 ∷ []) (put (32 * 4) (1 ∷ 2 ∷ 3 ∷ 4 ∷ 5 ∷ []) (put (32 * 68) (0 ∷ 0 ∷ 0 ∷ 7 ∷ []) (
     put (32 * 64) (0 ∷ 0 ∷ 0 ∷ 13 ∷ []) (put (32 * 128) (0 ∷ 0 ∷ 0 ∷ 11 ∷ []) fresh2))))))
 
 -- this page 0 is damaged: nothing changes and the store stays down; an age is 4
 abbrev pub stays2 : List ℕ → Trial
-stays2 head = plays (put 0 head fresh2) (on (recover 255) 0x0400 ∷ on top 0x0200 ∷ on crash 0x0000 ∷ on (recover 0) 0x0400 ∷ []) (page 0 head ∷ page 1 blank ∷ [])
+stays2 head = plays (put 0 head fresh2) (on (recover 255) 0x0400 ∷ on top 0x0200 ∷ on crash 0x0000 ∷ on (recover 0) 0x0400 ∷ []) (page 0 head ∷ page 1 zeroPage ∷ [])
 
 -- on bytes
 unfoldable pub byteTrials2 : List Trial
@@ -99,17 +96,17 @@ byteTrials2 =
     fields 2 23 63 0 0 0 0x0000 ∷ fields 3 23 63 31 0 255 0x0000 ∷ fields 4 23 63 31 0 0 0x00FF ∷ fields 4 23 63 30 0 0 0x0000 ∷ fields 4 23 62 31 0 0 0x0900 ∷ fields 4 22 63 31 0 0 0x0900 ∷
     fields 5 23 0 0 255 0 0x0004 ∷ fields 4 23 63 31 0 0 0x0500 ∷ [])) (page 128 (replicate 31 0 ++ (255 ∷ [])) ∷ page 64 (replicate 31 0 ++ (255 ∷ [])) ∷ page 0 empty2 ∷ []) ∷
     -- The commit page for records 0 and 3, for record 63, for all.
-    onFresh (on top 0x0000 ∷ on (locks 0 3) 0x0000 ∷ on (write 0 3 2 7) 0x0000 ∷ on (locks 0 0) 0x0000 ∷ on (write 0 0 2 7) 0x0000 ∷ on (commit 0 3) 0x0B03 ∷ []) (page 0 committed03 ∷ []) ∷
+    onFresh (on top 0x0000 ∷ on (locks 0 3) 0x0000 ∷ on (write 0 3 2 7) 0x0000 ∷ on (locks 0 0) 0x0000 ∷ on (write 0 0 2 7) 0x0000 ∷ on (commit 0 3) 0x0B03 ∷ []) (page 0 committed03Edition2 ∷ []) ∷
     onFresh (on top 0x0000 ∷ on (locks 0 63) 0x0000 ∷ on (write 0 63 2 0xA5) 0x0000 ∷ on (commit 0 3) 0x0B03 ∷ []) (page 0 committed63 ∷ page 64 withA5 ∷ page 128 withA5 ∷ home 63 withA5 ∷ []) ∷
-    onFresh (commitsAll 129 0x0B81) (page 0 committedAll ∷ page 1 withA5 ∷ page 64 withA5 ∷ page 65 withA5 ∷ page 128 withA5 ∷ []) ∷
+    onFresh (commitsAll 129 0x0B81) (page 0 committedAllEdition2 ∷ page 1 withA5 ∷ page 64 withA5 ∷ page 65 withA5 ∷ page 128 withA5 ∷ []) ∷
     []
 
 -- all sixty-four records changed, of the words
 unfoldable pub commitTrials2 : List Trial
 commitTrials2 =
     -- Lost at 64, there from 65 on; k = 129 is cut, k = 130 and above whole.
-    onFresh (commitsAll 64 0x0B40 ++ (on (recover 255) 0x0000 ∷ [])) (emptied ∷ value 0 blank ∷ value 63 blank ∷ []) ∷
-    onFresh (commitsAll 65 0x0B41) (value 0 withA5 ∷ value 63 withA5 ∷ home 0 blank ∷ home 63 blank ∷ []) ∷
+    onFresh (commitsAll 64 0x0B40 ++ (on (recover 255) 0x0000 ∷ [])) (emptied ∷ value 0 zeroPage ∷ value 63 zeroPage ∷ []) ∷
+    onFresh (commitsAll 65 0x0B41) (value 0 withA5 ∷ value 63 withA5 ∷ home 0 zeroPage ∷ home 63 zeroPage ∷ []) ∷
     onFresh (commitsAll 129 0x0B81) (value 0 withA5 ∷ home 0 withA5 ∷ home 63 withA5 ∷ []) ∷
     onFresh (commitsAll 130 0x0082) (emptied ∷ home 0 withA5 ∷ home 63 withA5 ∷ []) ∷
     onFresh (commitsAll 255 0x0082) (emptied ∷ home 0 withA5 ∷ home 63 withA5 ∷ []) ∷
@@ -150,7 +147,7 @@ ageTrials2 =
 
 -- any one bit of a page 0 that is empty or committed makes it damaged
 unfoldable pub bitTrials2 : List Trial
-bitTrials2 = damagedAt empty2 0 256 ++ (damagedAt committed03 0 256 ++ damagedAt committedAll 0 256)
+bitTrials2 = damagedAt empty2 0 256 ++ (damagedAt committed03Edition2 0 256 ++ damagedAt committedAllEdition2 0 256)
 
 -- THE TABLES of edition 2, on bytes; and of the words, with those that hold in every edition
 abbrev pub trials2 : List (List Trial)

@@ -20,7 +20,7 @@ use Rattle.trials_rows.specs.Rows.{allPass, AllHold, allGo, AllGo}
 use Rattle.trials_rows.specs.CommonTrials.{commonTrials}
 use Rattle.trials_rows.specs.EdgeTrials.{edgeTrials}
 use Rattle.trials_pairs.specs.TornRows.{numbersPairs, allHold, allSo}
-use Rattle.trials_pairs.specs.PairTrials.{vectorTrials, wordTrials, mendRows, calmRows, lostTrials, lengthTrials, ageTrials, trialsOfPairs, playedPairs}
+use Rattle.trials_pairs.specs.PairTrials.{vectorTrials, pairWordTrials, mendRows, calmRows, lostTrials, lengthTrials, pairAgeTrials, trialsOfPairs, playedPairs}
 
 mends-hold : T (allHold editionPairs mendRows)
 unfolding open-tests open-counting open-functions open-bytes open-geometry open-store open-event open-state open-locks open-versions open-commit open-pairs open-step open-run open-age mendRows
@@ -38,8 +38,8 @@ lengths-hold : T (allPass editionPairs numbersPairs lengthTrials)
 unfolding open-tests open-counting open-functions open-bytes open-geometry open-store open-event open-state open-locks open-versions open-commit open-pairs open-step open-run open-age lengthTrials
 lengths-hold = tt
 
-ages-hold : T (allPass editionPairs numbersPairs ageTrials)
-unfolding open-tests open-counting open-functions open-bytes open-geometry open-store open-event open-state open-locks open-versions open-commit open-pairs open-step open-run open-age ageTrials
+ages-hold : T (allPass editionPairs numbersPairs pairAgeTrials)
+unfolding open-tests open-counting open-functions open-bytes open-geometry open-store open-event open-state open-locks open-versions open-commit open-pairs open-step open-run open-age pairAgeTrials
 ages-hold = tt
 
 common-goes : T (allGo editionPairs numbersPairs commonTrials)
@@ -54,8 +54,8 @@ vectors-go : T (allGo editionPairs numbersPairs vectorTrials)
 unfolding open-tests open-counting open-functions open-bytes open-geometry open-store open-event open-state open-locks open-versions open-commit open-pairs open-step open-run open-age vectorTrials
 vectors-go = tt
 
-words-go : T (allGo editionPairs numbersPairs wordTrials)
-unfolding open-tests open-counting open-functions open-bytes open-geometry open-store open-event open-state open-locks open-versions open-commit open-pairs open-step open-run open-age wordTrials
+words-go : T (allGo editionPairs numbersPairs pairWordTrials)
+unfolding open-tests open-counting open-functions open-bytes open-geometry open-store open-event open-state open-locks open-versions open-commit open-pairs open-step open-run open-age pairWordTrials
 words-go = tt
 
 -- THE CLAIM

@@ -4,7 +4,7 @@ use Prim.Native.Nat.{ℕ}
 use mathlib.Core.List.{List, [], _∷_, _++_}
 use lib.ListN.{set}
 use Rattle.rules.specs.Event.{begin, write, read, commit, crash, recover}
-use Rattle.trials_rows.specs.Rows.{Line, fields, Due, emptied, home, value, Trial, playsFresh, blank, withA5, on, top, locks, shares, aborts, reports, onFresh, nested, writesA5, childWrites11, writesTwo, bothA5, neither}
+use Rattle.trials_rows.specs.Rows.{Line, fields, StoreDue, emptied, home, value, Trial, playsFresh, zeroPage, withA5, on, top, locks, shares, aborts, reports, onFresh, nested, writesA5, childWrites11, writesTwo, bothA5, neither}
 
 -- document 01's worked list, to its eleventh event and from there
 abbrev pub workedToCut : List Line
@@ -20,8 +20,8 @@ abbrev pub nineThenThree : ℕ → ℕ → List Line
 nineThenThree k a = on top 0x0000 ∷ on (locks 0 9) 0x0000 ∷ on (write 0 9 2 0xA5) 0x0000 ∷ on (locks 0 3) 0x0000 ∷ on (write 0 3 2 0xA5) 0x0000 ∷ on (commit 0 k) a ∷ []
 
 -- the home pages of both records, and what is settled of both
-abbrev pub written : List ℕ → List ℕ → List Due → List Due
-written h3 h9 settled = home 3 h3 ∷ home 9 h9 ∷ settled
+abbrev pub homesDue : List ℕ → List ℕ → List StoreDue → List StoreDue
+homesDue h3 h9 settled = home 3 h3 ∷ home 9 h9 ∷ settled
 
 -- the commit is cut behind its commit record, and a recovery has count k
 abbrev pub recoversTwo : ℕ → ℕ → List Line
@@ -30,7 +30,7 @@ recoversTwo k a = nineThenThree 3 0x0B03 ++ (on (recover k) a ∷ [])
 unfoldable pub commonTrials : List Trial
 commonTrials =
     -- 1: the list in full
-    playsFresh workedToCut (value 3 withA5 ∷ home 3 blank ∷ []) ∷
+    playsFresh workedToCut (value 3 withA5 ∷ home 3 zeroPage ∷ []) ∷
     playsFresh (workedToCut ++ workedFromCut) (emptied ∷ value 3 withA5 ∷ home 3 withA5 ∷ []) ∷
     -- 2: begin as first event
     playsFresh (on top 0x0200 ∷ []) [] ∷
@@ -43,8 +43,8 @@ commonTrials =
     on top 0x0000 ∷ on (locks 0 3) 0x0000 ∷ on (begin 0) 0x0001 ∷ on (locks 1 3) 0x0800 ∷
     on (locks 1 4) 0x0000 ∷ on (commit 1 0) 0x0000 ∷ on (begin 0) 0x0001 ∷ on (locks 1 4) 0x0000 ∷ []) [] ∷
     -- 7: one record, cut after 1 write: lost; after 2: survives
-    onFresh (writesA5 ++ (on (commit 0 1) 0x0B01 ∷ [])) (value 3 blank ∷ []) ∷
-    onFresh (writesA5 ++ (on (commit 0 1) 0x0B01 ∷ on (recover 63) 0x0000 ∷ [])) (value 3 blank ∷ []) ∷
+    onFresh (writesA5 ++ (on (commit 0 1) 0x0B01 ∷ [])) (value 3 zeroPage ∷ []) ∷
+    onFresh (writesA5 ++ (on (commit 0 1) 0x0B01 ∷ on (recover 63) 0x0000 ∷ [])) (value 3 zeroPage ∷ []) ∷
     onFresh (writesA5 ++ (on (commit 0 2) 0x0B02 ∷ [])) (value 3 withA5 ∷ []) ∷
     onFresh (writesA5 ++ (on (commit 0 2) 0x0B02 ∷ on (recover 63) 0x0002 ∷ [])) (value 3 withA5 ∷ emptied ∷ []) ∷
     -- 8: one record, cut after 3 writes; whole after 4
@@ -70,8 +70,8 @@ commonTrials =
     -- Shortcut 1, a child's locks freed when it commits: a stranger is refused what the parent now retains.
     onFresh (childWrites11 ++ (on top 0x0001 ∷ on (locks 1 3) 0x0800 ∷ [])) [] ∷
     -- Shortcut 2, home pages before the commit page: at every cut both records or neither.
-    onFresh (writesTwo ++ (on (commit 0 2) 0x0B02 ∷ [])) (value 3 blank ∷ value 9 blank ∷ home 3 blank ∷ []) ∷
-    onFresh (writesTwo ++ (on (commit 0 3) 0x0B03 ∷ [])) (value 3 withA5 ∷ value 9 withA5 ∷ home 3 blank ∷ []) ∷
+    onFresh (writesTwo ++ (on (commit 0 2) 0x0B02 ∷ [])) (value 3 zeroPage ∷ value 9 zeroPage ∷ home 3 zeroPage ∷ []) ∷
+    onFresh (writesTwo ++ (on (commit 0 3) 0x0B03 ∷ [])) (value 3 withA5 ∷ value 9 withA5 ∷ home 3 zeroPage ∷ []) ∷
     onFresh (writesTwo ++ (on (commit 0 4) 0x0B04 ∷ [])) bothA5 ∷
     -- Shortcut 3, the commit page emptied before the last home page is copied, by a commit and by a recovery.
     onFresh (writesTwo ++ (on (commit 0 5) 0x0B05 ∷ [])) bothA5 ∷
@@ -88,7 +88,7 @@ commonTrials =
     -- A parent that has a version takes its child's newer one.
     onFresh (childWrites11 ++ (
     on (begin 0) 0x0001 ∷ on (locks 1 3) 0x0000 ∷ on (write 1 3 2 0x22) 0x0000 ∷ on (commit 1 0) 0x0000 ∷
-    on (commit 0 63) 0x0004 ∷ [])) (value 3 (set blank 2 0x22) ∷ []) ∷
+    on (commit 0 63) 0x0004 ∷ [])) (value 3 (set zeroPage 2 0x22) ∷ []) ∷
     -- No changed record, no page write and no cut; a write of the byte that is there already counts; a child's count has no effect.
     onFresh (on top 0x0000 ∷ on (locks 0 3) 0x0000 ∷ on (commit 0 0) 0x0000 ∷ on top 0x0000 ∷ []) [] ∷
     onFresh (on top 0x0000 ∷ on (locks 0 3) 0x0000 ∷ on (write 0 3 2 0) 0x0000 ∷ on (commit 0 63) 0x0004 ∷ []) [] ∷
@@ -126,7 +126,7 @@ commonTrials =
     onFresh (writesA5 ++ (
     on (begin 0) 0x0001 ∷ on (begin 1) 0x0002 ∷ on (locks 2 4) 0x0000 ∷ on (write 2 4 2 0x11) 0x0000 ∷ on (commit 2 0) 0x0000 ∷
     on (reports 1) 0x0000 ∷ on top 0x0001 ∷ on (shares 1 4) 0x0800 ∷ on (locks 0 4) 0x0000 ∷ on (read 0 4 2) 0x0000 ∷ on (commit 0 63) 0x0004 ∷ [])) (
-    value 3 withA5 ∷ value 4 blank ∷ []) ∷
+    value 3 withA5 ∷ value 4 zeroPage ∷ []) ∷
     -- What live descendants had is discarded; without a report so is what the child had.
     onFresh (
     on top 0x0000 ∷ on (begin 0) 0x0001 ∷ on (shares 1 3) 0x0000 ∷ on (begin 1) 0x0002 ∷ on (shares 2 3) 0x0000 ∷ on (locks 2 4) 0x0000 ∷ on (reports 1) 0x0000 ∷
@@ -158,11 +158,11 @@ commonTrials =
     on top 0x0000 ∷ fields 2 0 3 0 0 2 0x0100 ∷ fields 2 0 3 0 0 255 0x0100 ∷ fields 2 0 3 0 0 1 0x0000 ∷ fields 6 0 0 0 0 2 0x0100 ∷ fields 6 0 0 0 0 255 0x0100 ∷
     fields 6 0 0 0 0 0 0x0000 ∷ []) [] ∷
     -- Two records at every cut, by rising record whichever was written first.
-    onFresh (nineThenThree 0 0x0B00) (written blank blank neither) ∷ onFresh (nineThenThree 1 0x0B01) (written blank blank neither) ∷
-    onFresh (nineThenThree 2 0x0B02) (written blank blank neither) ∷ onFresh (nineThenThree 3 0x0B03) (written blank blank bothA5) ∷
-    onFresh (nineThenThree 4 0x0B04) (written withA5 blank bothA5) ∷ onFresh (nineThenThree 5 0x0B05) (written withA5 withA5 bothA5) ∷
-    onFresh (nineThenThree 6 0x0006) (emptied ∷ written withA5 withA5 bothA5) ∷
+    onFresh (nineThenThree 0 0x0B00) (homesDue zeroPage zeroPage neither) ∷ onFresh (nineThenThree 1 0x0B01) (homesDue zeroPage zeroPage neither) ∷
+    onFresh (nineThenThree 2 0x0B02) (homesDue zeroPage zeroPage neither) ∷ onFresh (nineThenThree 3 0x0B03) (homesDue zeroPage zeroPage bothA5) ∷
+    onFresh (nineThenThree 4 0x0B04) (homesDue withA5 zeroPage bothA5) ∷ onFresh (nineThenThree 5 0x0B05) (homesDue withA5 withA5 bothA5) ∷
+    onFresh (nineThenThree 6 0x0006) (emptied ∷ homesDue withA5 withA5 bothA5) ∷
     -- A recovery at every cut.
-    onFresh (recoversTwo 0 0x0B00) (written blank blank bothA5) ∷ onFresh (recoversTwo 1 0x0B01) (written withA5 blank bothA5) ∷
-    onFresh (recoversTwo 2 0x0B02) (written withA5 withA5 bothA5) ∷ onFresh (recoversTwo 3 0x0003) (emptied ∷ written withA5 withA5 bothA5) ∷
+    onFresh (recoversTwo 0 0x0B00) (homesDue zeroPage zeroPage bothA5) ∷ onFresh (recoversTwo 1 0x0B01) (homesDue withA5 zeroPage bothA5) ∷
+    onFresh (recoversTwo 2 0x0B02) (homesDue withA5 withA5 bothA5) ∷ onFresh (recoversTwo 3 0x0003) (emptied ∷ homesDue withA5 withA5 bothA5) ∷
     []

@@ -3,12 +3,12 @@ use Prim.Native.Nat.{ℕ, zero, suc, _+_}
 use mathlib.Core.List.{List, [], _∷_, _++_}
 use lib.ListN.{set}
 use Rattle.rules.specs.Event.{begin, write, read, commit, crash, recover}
-use Rattle.trials_rows.specs.Rows.{Line, Trial, playsFresh, home, emptied, value, blank, withA5, on, top, locks, shares, aborts, reports, onFresh, nested, writesA5, childWrites11, tops}
+use Rattle.trials_rows.specs.Rows.{Line, Trial, playsFresh, home, emptied, value, zeroPage, withA5, on, top, locks, shares, aborts, reports, onFresh, nested, writesA5, childWrites11, tops}
 
 -- n transactions nested beneath t, which get the numbers from i on
-abbrev pub beneath : ℕ → ℕ → ℕ → List Line
-beneath t i zero = []
-beneath t i (suc n) = on (begin t) i ∷ beneath i (suc i) n
+abbrev pub nestedBeneath : ℕ → ℕ → ℕ → List Line
+nestedBeneath t i zero = []
+nestedBeneath t i (suc n) = on (begin t) i ∷ nestedBeneath i (suc i) n
 
 unfoldable pub edgeTrials : List Trial
 edgeTrials =
@@ -21,7 +21,7 @@ edgeTrials =
     -- 6 before 7: with 24 live, beneath one of depth 16; beneath one of depth 15, and at the top, 7; 5 before both.
     onFresh (nested 15 ++ (tops 16 8 ++ (on (begin 15) 0x0600 ∷ on (begin 14) 0x0700 ∷ on top 0x0700 ∷ on (begin 30) 0x0500 ∷ []))) [] ∷
     -- A top transaction has depth 1, whatever the number had before: sixteen fit beneath it again.
-    onFresh (nested 15 ++ (on (aborts 3) 0x0000 ∷ on top 0x0003 ∷ beneath 3 4 15 ++ (on (begin 18) 0x0600 ∷ on (begin 2) 0x0013 ∷ []))) [] ∷
+    onFresh (nested 15 ++ (on (aborts 3) 0x0000 ∷ on top 0x0003 ∷ nestedBeneath 3 4 15 ++ (on (begin 18) 0x0600 ∷ on (begin 2) 0x0013 ∷ []))) [] ∷
     -- What a child retained, and not only what it held, goes to its parent: to write, and to read.
     onFresh (
     on top 0x0000 ∷ on (begin 0) 0x0001 ∷ on (begin 1) 0x0002 ∷ on (locks 2 3) 0x0000 ∷ on (shares 2 4) 0x0000 ∷ on (commit 2 0) 0x0000 ∷ on (commit 1 0) 0x0000 ∷ on top 0x0001 ∷
@@ -47,11 +47,11 @@ edgeTrials =
     on top 0x0000 ∷ on (begin 0) 0x0001 ∷ on (begin 1) 0x0002 ∷ on (locks 2 3) 0x0000 ∷ on (write 2 3 2 0x11) 0x0000 ∷ on (commit 2 0) 0x0000 ∷ on (commit 1 0) 0x0000 ∷ on (begin 0) 0x0001 ∷
     on (begin 1) 0x0002 ∷ on (locks 2 3) 0x0000 ∷ on (read 2 3 2) 0x0011 ∷ on (write 2 3 4 0x44) 0x0000 ∷ on (read 2 3 2) 0x0011 ∷ on (commit 2 0) 0x0000 ∷ on (locks 1 3) 0x0000 ∷
     on (read 1 3 4) 0x0044 ∷ on (write 1 3 2 0x22) 0x0000 ∷ on (aborts 1) 0x0000 ∷ on (locks 0 3) 0x0000 ∷ on (read 0 3 2) 0x0011 ∷ on (read 0 3 4) 0x0000 ∷ on (commit 0 63) 0x0004 ∷ []) (
-    home 3 (set blank 2 0x11) ∷ []) ∷
+    home 3 (set zeroPage 2 0x11) ∷ []) ∷
     -- The parent takes the child's versions in place of its own of the same records, and keeps its others.
     onFresh (writesA5 ++ (
     on (locks 0 4) 0x0000 ∷ on (write 0 4 2 1) 0x0000 ∷ on (begin 0) 0x0001 ∷ on (locks 1 5) 0x0000 ∷ on (write 1 5 2 2) 0x0000 ∷ on (commit 1 5) 0x0000 ∷ on (commit 0 63) 0x0008 ∷ [])) (
-    home 3 withA5 ∷ home 4 (set blank 2 1) ∷ home 5 (set blank 2 2) ∷ emptied ∷ []) ∷
+    home 3 withA5 ∷ home 4 (set zeroPage 2 1) ∷ home 5 (set zeroPage 2 2) ∷ emptied ∷ []) ∷
     -- A top commit ends that one: the others keep number, locks and versions.
     onFresh (writesA5 ++ (
     on top 0x0001 ∷ on (locks 1 4) 0x0000 ∷ on (write 1 4 2 7) 0x0000 ∷ on (commit 0 63) 0x0004 ∷ on (locks 0 3) 0x0500 ∷ on (read 1 4 2) 0x0007 ∷ on top 0x0000 ∷ on (locks 0 4) 0x0800 ∷
@@ -59,7 +59,7 @@ edgeTrials =
     -- A cut commit is a crash: all others end too, with locks and versions; numbers are given from 0 again.
     onFresh (writesA5 ++ (
     on top 0x0001 ∷ on (locks 1 4) 0x0000 ∷ on (write 1 4 2 7) 0x0000 ∷ on (commit 0 0) 0x0B00 ∷ on (locks 1 4) 0x0200 ∷ on (recover 63) 0x0000 ∷ on (locks 1 4) 0x0500 ∷ on top 0x0000 ∷
-    on (locks 0 4) 0x0000 ∷ on (read 0 4 2) 0x0000 ∷ on (locks 0 3) 0x0000 ∷ on (read 0 3 2) 0x0000 ∷ on (commit 0 0) 0x0000 ∷ [])) (home 3 blank ∷ value 3 blank ∷ []) ∷
+    on (locks 0 4) 0x0000 ∷ on (read 0 4 2) 0x0000 ∷ on (locks 0 3) 0x0000 ∷ on (read 0 3 2) 0x0000 ∷ on (commit 0 0) 0x0000 ∷ [])) (home 3 zeroPage ∷ value 3 zeroPage ∷ []) ∷
     -- A crash: the same; only a recover brings it up.
     onFresh (writesA5 ++ (
     on (begin 0) 0x0001 ∷ on crash 0x0000 ∷ on (aborts 0) 0x0200 ∷ on (read 0 3 2) 0x0200 ∷ on (commit 0 63) 0x0200 ∷ on (write 0 3 2 1) 0x0200 ∷ on crash 0x0000 ∷ on (recover 0) 0x0000 ∷
@@ -69,7 +69,7 @@ edgeTrials =
     -- A child's commit takes any count and writes no page.
     onFresh (
     on top 0x0000 ∷ on (begin 0) 0x0001 ∷ on (locks 1 3) 0x0000 ∷ on (write 1 3 2 0xA5) 0x0000 ∷ on (commit 1 5) 0x0000 ∷ on (begin 0) 0x0001 ∷ on (commit 1 0) 0x0000 ∷ on (commit 0 0) 0x0B00 ∷ []) (
-    home 3 blank ∷ []) ∷
+    home 3 zeroPage ∷ []) ∷
     -- 2 before 5; 5 before 14, 10, 8 and 9; 31 is a name, never live, in all but a begin.
     playsFresh (
     on (begin 30) 0x0200 ∷ on (locks 31 3) 0x0200 ∷ on (commit 31 0) 0x0200 ∷ on (recover 63) 0x0000 ∷ on (locks 31 3) 0x0500 ∷ on (write 31 3 2 7) 0x0500 ∷ on (read 31 3 2) 0x0500 ∷
@@ -85,5 +85,5 @@ edgeTrials =
     -- A refused commit changes nothing: the child goes on, and so does its parent.
     onFresh (childWrites11 ++ (
     on (begin 0) 0x0001 ∷ on (commit 0 2) 0x0A00 ∷ on (locks 1 3) 0x0000 ∷ on (read 1 3 2) 0x0011 ∷ on (commit 1 63) 0x0000 ∷ on (commit 0 2) 0x0B02 ∷ on (recover 63) 0x0002 ∷ [])) (
-    home 3 (set blank 2 0x11) ∷ []) ∷
+    home 3 (set zeroPage 2 0x11) ∷ []) ∷
     []

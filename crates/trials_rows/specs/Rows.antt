@@ -34,18 +34,18 @@ pub data Line : Type 0 where
 
 -- Of the store at the end: how a page begins, and how the home page of a record does; that the commit page is the empty one; what the settled value of a
 -- record is.
-pub data Due : Type 0 where
-  page : ℕ → List ℕ → Due
-  home : ℕ → List ℕ → Due
-  emptied : Due
-  value : ℕ → Page → Due
+pub data StoreDue : Type 0 where
+  page : ℕ → List ℕ → StoreDue
+  home : ℕ → List ℕ → StoreDue
+  emptied : StoreDue
+  value : ℕ → Page → StoreDue
 
 -- A row: a start store, events with the answers due, and what is due of the store at the end; the same from a fresh store; or the lengths of store,
 -- events, working buffer and answer buffer with the refusal due, or with none due; or the length of a store that is laid down, with the answer due; or
 -- an age; or a page 0 that is damaged. A row with neither a word nor a page by its number nor a store's bytes holds in any edition.
 pub data Trial : Type 0 where
-  plays : List ℕ → List Line → List Due → Trial
-  playsFresh : List Line → List Due → Trial
+  plays : List ℕ → List Line → List StoreDue → Trial
+  playsFresh : List Line → List StoreDue → Trial
   refuses : ℕ → ℕ → ℕ → ℕ → ℕ → Trial
   takes : ℕ → ℕ → ℕ → ℕ → Trial
   lays : ℕ → ℕ → Trial
@@ -93,21 +93,21 @@ abbrev pub eventsOf : Numbers → List Line → List ℕ
 eventsOf n [] = []
 eventsOf n (l ∷ ls) = bytesOf (n .wordBytes) (wordIn n l) ++ eventsOf n ls
 
-abbrev pub answersOf : List Line → List ℕ
-answersOf [] = []
-answersOf (l ∷ ls) = answerIn l / 256 ∷ answerIn l % 256 ∷ answersOf ls
+abbrev pub answersDue : List Line → List ℕ
+answersDue [] = []
+answersDue (l ∷ ls) = answerIn l / 256 ∷ answerIn l % 256 ∷ answersDue ls
 
 -- a store has these bytes at a place
 abbrev pub has : List ℕ → ℕ → List ℕ → Bool
 has store at bs = alike (take (length bs) (drop at store)) bs
 
-abbrev pub isDue : Form → Numbers → List ℕ → Due → Bool
+abbrev pub isDue : Form → Numbers → List ℕ → StoreDue → Bool
 isDue f n store (page p bs) = has store (n .pageAt p) bs
 isDue f n store (home r bs) = has store (n .pageAt (n .firstHome + r)) bs
 isDue f n store emptied = has store (n .pageAt 0) (take 32 (drop (n .pageAt 0) (n .freshStore)))
 isDue f n store (value r bs) = alike (f .medium .settled (f .medium .fromBytes store) r) bs
 
-abbrev pub allDue : Form → Numbers → List ℕ → List Due → Bool
+abbrev pub allDue : Form → Numbers → List ℕ → List StoreDue → Bool
 allDue f n store [] = true
 allDue f n store (d ∷ ds) = isDue f n store d && allDue f n store ds
 
@@ -136,27 +136,27 @@ sameAge (refused a) (stale b) = false
 sameAge (refused a) (refused b) = eqb a b
 
 -- the answers to events that are all bad
-abbrev pub allBad : ℕ → List ℕ
-allBad zero = []
-allBad (suc n) = 1 ∷ 0 ∷ allBad n
+abbrev pub badAnswers : ℕ → List ℕ
+badAnswers zero = []
+badAnswers (suc n) = 1 ∷ 0 ∷ badAnswers n
 
 -- a run over this store has these answers, and leaves what is due
-abbrev pub played : Form → Numbers → List ℕ → List Line → List Due → Bool
-played f n store ls ds =
+abbrev pub runPasses : Form → Numbers → List ℕ → List Line → List StoreDue → Bool
+runPasses f n store ls ds =
     let r = run f store (eventsOf n ls) (replicate (n .workBytes) 0) (replicate (2 * length ls) 255) in
-    eqb (r .answer) 0 && alike (r .answers) (answersOf ls) && eqb (length (r .store)) (length (n .freshStore)) && allDue f n (r .store) ds
+    eqb (r .answer) 0 && alike (r .answers) (answersDue ls) && eqb (length (r .store)) (length (n .freshStore)) && allDue f n (r .store) ds
 
 -- The row holds of the run on bytes. A buffer of sevens is a damaged store, and a list of bad events.
 abbrev pub passes : Form → Numbers → Trial → Bool
-passes f n (plays store ls ds) = played f n store ls ds
-passes f n (playsFresh ls ds) = played f n (n .freshStore) ls ds
+passes f n (plays store ls ds) = runPasses f n store ls ds
+passes f n (playsFresh ls ds) = runPasses f n (n .freshStore) ls ds
 passes f n (refuses store events work answers a) =
     let r = run f (replicate store 7) (replicate events 7) (replicate work 7) (replicate answers 7) in
     eqb (r .answer) a && alike (r .store) (replicate store 7) && alike (r .answers) (replicate answers 7)
 passes f n (takes store events work answers) =
     let r = run f (replicate store 7) (replicate events 7) (replicate work 7) (replicate answers 7) in
     let count : ℕ = events / n .wordBytes in
-    eqb (r .answer) 0 && alike (r .store) (replicate store 7) && alike (r .answers) (allBad count ++ drop (2 * count) (replicate answers 7))
+    eqb (r .answer) 0 && alike (r .store) (replicate store 7) && alike (r .answers) (badAnswers count ++ drop (2 * count) (replicate answers 7))
 passes f n (lays store a) =
     let l = layFresh f (replicate store 7) in
     eqb (l .answer) a && alike (l .store) (cond (eqb a 0) (n .freshStore) (replicate store 7))
@@ -172,7 +172,7 @@ abbrev pub wordsOf : Numbers → List Line → List ℕ
 wordsOf n [] = []
 wordsOf n (l ∷ ls) = wordIn n l ∷ wordsOf n ls
 
-abbrev pub allTold : (f : Form) → f .medium .Store → List Due → Bool
+abbrev pub allTold : (f : Form) → f .medium .Store → List StoreDue → Bool
 allTold f s [] = true
 allTold f s (page p bs ∷ ds) = false
 allTold f s (home r bs ∷ ds) = alike (take (length bs) (f .medium .home s r)) bs && allTold f s ds
@@ -182,7 +182,7 @@ allTold f s (value r bs ∷ ds) = alike (f .medium .settled s r) bs && allTold f
 abbrev pub goes : Form → Numbers → Trial → Bool
 goes f n (playsFresh ls ds) =
     let p : Played f = play f (down (f .medium .fromBytes (n .freshStore))) (wordsOf n ls) in
-    alike (answerBytes (p .answers)) (answersOf ls) && allTold f (p .state .store) ds
+    alike (answerBytes (p .answers)) (answersDue ls) && allTold f (p .state .store) ds
 goes f n (plays store ls ds) = false
 goes f n (refuses store events work answers a) = false
 goes f n (takes store events work answers) = false
@@ -217,14 +217,14 @@ numbers1 = record {
   firstHome = 17;
 }
 
-abbrev pub blank : Page
-blank = replicate 32 0
+abbrev pub zeroPage : Page
+zeroPage = replicate 32 0
 
 abbrev pub emptyPage : Page
 emptyPage = 0x10 ∷ replicate 31 0
 
 abbrev pub withA5 : Page
-withA5 = set blank 2 0xA5
+withA5 = set zeroPage 2 0xA5
 
 abbrev pub top : Event
 top = begin 31
@@ -244,8 +244,12 @@ abbrev pub reports : ℕ → Event
 reports t = abort t true
 
 -- a row on a fresh store that is brought up first
-abbrev pub onFresh : List Line → List Due → Trial
+abbrev pub onFresh : List Line → List StoreDue → Trial
 onFresh ls ds = playsFresh (on (recover 63) 0x0000 ∷ ls) ds
+
+-- a row on a fresh store that stays down, with page 0 empty
+abbrev pub whileDown : List Line → Trial
+whileDown ls = playsFresh ls (emptied ∷ [])
 
 -- transactions nested n deep below the first, each with its number
 abbrev pub nested : ℕ → List Line
@@ -263,16 +267,16 @@ childWrites11 = on top 0x0000 ∷ on (begin 0) 0x0001 ∷ on (locks 1 3) 0x0000 
 abbrev pub writesTwo : List Line
 writesTwo = writesA5 ++ (on (locks 0 9) 0x0000 ∷ on (write 0 9 2 0xA5) 0x0000 ∷ [])
 
-abbrev pub bothA5 : List Due
+abbrev pub bothA5 : List StoreDue
 bothA5 = value 3 withA5 ∷ value 9 withA5 ∷ []
 
-abbrev pub neither : List Due
-neither = value 3 blank ∷ value 9 blank ∷ []
+abbrev pub neither : List StoreDue
+neither = value 3 zeroPage ∷ value 9 zeroPage ∷ []
 
 -- the words that have one more bit than this one, at n places from i on, and their answer
-abbrev pub bits : ℕ → ℕ → ℕ → ℕ → List Line
-bits w i zero a = []
-bits w i (suc n) a = word (w + 2 ^ i) a ∷ bits w (suc i) n a
+abbrev pub wordsWithBit : ℕ → ℕ → ℕ → ℕ → List Line
+wordsWithBit w i zero a = []
+wordsWithBit w i (suc n) a = word (w + 2 ^ i) a ∷ wordsWithBit w (suc i) n a
 
 -- n top transactions, the first of which gets number i
 abbrev pub tops : ℕ → ℕ → List Line

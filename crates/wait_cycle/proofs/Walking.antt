@@ -25,7 +25,7 @@ use Rattle.leaf_set.specs.Sets.{sets}
 use Rattle.rules.specs.Geometry.{transactions}
 use Rattle.rules.specs.State.{mem}
 use Rattle.rules.specs.Waiting.{Pointings, leads, distinct, isCycle, Found, cyclic}
-use Rattle.wait_cycle.specs.Search.{goesOn, Core, trail, Path, Walked}
+use Rattle.wait_cycle.specs.Search.{goesOn, Core, trail, Path, PathReturns}
 
 mem-more : (l : List ℕ) (t y : ℕ) → mem y (l ++ (t ∷ [])) ≡ (mem y l || same y t)
 unfolding mem
@@ -173,7 +173,7 @@ module _ {p : Pointings} {core : ℕ → Bool} {path : List ℕ} {seen n t : ℕ
         counted = ap (count 24) f ∙ count-more 24 (bits seen) t (g .low) e ∙ ap suc (g .counted) ∙ sym (add-one n);
       }
 
-  pub going-done : bits seen t ≡ true → n ≤ 24 → Walked p path n t
+  pub going-done : bits seen t ≡ true → n ≤ 24 → PathReturns p path n t
   going-done e h = record { short = h; long = g .long; path-to = g .path-to; again = ap (λ (s : ℕ → Bool). s t) (sym (g .saw)) ∙ e }
 
   pub going-short : n ≤ 24
@@ -224,7 +224,7 @@ shown-long path k n l h e =
     omega arith
 
 -- what the walk found
-pub found-cycle : (p : Pointings) (path ring : List ℕ) (n t k : ℕ) → Walked p path n t → k < n → getD path k 0 ≡ t → ring ≡ drop k (take n path) ++ replicate (24 - (n - k)) 0 → Found p ((n - k) % 256) ring
+pub found-cycle : (p : Pointings) (path ring : List ℕ) (n t k : ℕ) → PathReturns p path n t → k < n → getD path k 0 ≡ t → ring ≡ drop k (take n path) ++ replicate (24 - (n - k)) 0 → Found p ((n - k) % 256) ring
 found-cycle p path ring n t k w h e q =
     let a : length (take n path) ≡ n = omega (arith, length-take n path, w .long, w .short) in
     let b : length (drop k (take n path)) ≡ n - k = length-drop k (take n path) ∙ ap (λ (m : ℕ). m - k) a in

@@ -34,7 +34,7 @@ pub record Path (p : Pointings) (l : List ℕ) (t : ℕ) : Type 0 where
   pub small : (y : ℕ) → mem y l ≡ true → y < transactions
 
 -- a path of n transactions that comes back to one of its own, t
-pub record Walked (p : Pointings) (path : List ℕ) (n t : ℕ) : Type 0 where
+pub record PathReturns (p : Pointings) (path : List ℕ) (n t : ℕ) : Type 0 where
   pub short : n ≤ transactions
   pub long : length path ≡ 24
   pub path-to : Path p (take n path) t

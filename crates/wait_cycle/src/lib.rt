@@ -10,7 +10,7 @@ ghost use Rattle.laws.specs.Bits.{bits};
 ghost use Rattle.rules.specs.State.{mem};
 ghost use Rattle.leaf_set.specs.Sets.{sets};
 ghost use Rattle.rules.specs.Waiting.{Found};
-ghost use Rattle.wait_cycle.specs.Search.{goesOn, Core, Walked};
+ghost use Rattle.wait_cycle.specs.Search.{goesOn, Core, PathReturns};
 
 // t is in m and points into m.
 fn goes_on(points: &[u32; 24], m: u32, t: u8) -> bool
@@ -66,7 +66,7 @@ pub struct Trail {
 // From transaction to transaction within the core, until one comes again.
 fn walk(points: &[u32; 24], core: u32) -> Trail
     requires { ⌜ Core (sets (now points)) (bits core) × (any 24 (bits core) ≡ true) ⌝ }
-    ensures { λ r. ⌜ Walked (sets (now (points .entry))) (r .path) (r .n) (r .t) ⌝ }
+    ensures { λ r. ⌜ PathReturns (sets (now (points .entry))) (r .path) (r .n) (r .t) ⌝ }
 {
     let mut path = [0u8; 24];
     let mut seen = 0u32;

@@ -21,7 +21,7 @@ use Rattle.state_array.specs.Kin.{livesIn, childIn}
 use Rattle.state_array.specs.View.{Owners}
 use Rattle.state_array.specs.Changes.{Rows}
 use Rattle.rules.specs.Waiting.{WaitingRow}
-use Rattle.wait_graph.specs.Pointing.{childPoints, rowOf, numberIn, numbersIn, reached, rowIn, rowsIn}
+use Rattle.wait_graph.specs.Pointing.{childPoints, rowOf, rowRefusal, rowsRefusal, pointedTo, rowIn, rowsIn}
 
 -- what the first j that block reach
 abbrev pub reachedTo : ℕ → Owners → (ℕ → Bool) → (ℕ → Bool) → ℕ → Bool
@@ -35,8 +35,8 @@ pub reached-more : (j : ℕ) (line : Owners) (above by : ℕ → Bool) (m m′ :
     → bits m′ ≡ (λ u. bits m u || (b && ((not (above u) && w u) || same u j))) → bits m′ ≡ reachedTo (j + 1) line above by
 reached-more j line above by m m′ b w e f g h = h ∙ fun-ext (λ u. ap₂ (λ (x y : Bool). x || y) (ap (λ (s : ℕ → Bool). s u) e) (ap₂ (λ (x : Bool) (s : ℕ → Bool). x && ((not (above u) && s u) || same u j)) f g) ∙ sym (any-next j (λ b. by b && ((not (above u) && line b u) || same u b))))
 
-pub reached-all : (line : Owners) (above by : ℕ → Bool) (m j : ℕ) → j ≡ 24 → bits m ≡ reachedTo j line above by → bits m ≡ reached line above by
-unfolding reached
+pub reached-all : (line : Owners) (above by : ℕ → Bool) (m j : ℕ) → j ≡ 24 → bits m ≡ reachedTo j line above by → bits m ≡ pointedTo line above by
+unfolding pointedTo
 reached-all line above by m j e q = q ∙ ap (λ (n : ℕ). reachedTo n line above by) e
 
 -- one row more at one transaction
@@ -91,35 +91,35 @@ lives-more depth t n = ap not (ne-false (getD depth t 0) 0 n)
 
 -- a row's refusal, by the tests
 module _ (lives : ℕ → Bool) (w : WaitingRow) where
-  pub number-dead : lives (w .transaction) ≡ false → numberIn lives w ≡ 5
-  unfolding numberIn
+  pub number-dead : lives (w .transaction) ≡ false → rowRefusal lives w ≡ 5
+  unfolding rowRefusal
   number-dead e = rw e
 
-  pub number-record : lives (w .transaction) ≡ true → 16 ≤ w .rec → numberIn lives w ≡ 23
-  unfolding numberIn
+  pub number-record : lives (w .transaction) ≡ true → 16 ≤ w .rec → rowRefusal lives w ≡ 23
+  unfolding rowRefusal
   number-record e h = simp (e, not-lt (w .rec) 16 h)
 
-  pub number-mode : lives (w .transaction) ≡ true → w .rec < 16 → 1 < w .mode → numberIn lives w ≡ 1
-  unfolding numberIn
+  pub number-mode : lives (w .transaction) ≡ true → w .rec < 16 → 1 < w .mode → rowRefusal lives w ≡ 1
+  unfolding rowRefusal
   number-mode e h k = simp (e, lt-under (w .rec) 16 h, lt-under 1 (w .mode) k)
 
-  pub number-fine : lives (w .transaction) ≡ true → w .rec < 16 → w .mode ≤ 1 → numberIn lives w ≡ 0
-  unfolding numberIn
+  pub number-fine : lives (w .transaction) ≡ true → w .rec < 16 → w .mode ≤ 1 → rowRefusal lives w ≡ 0
+  unfolding rowRefusal
   number-fine e h k = simp (e, lt-under (w .rec) 16 h, not-lt 1 (w .mode) k)
 
 -- rows that are fine so far
-pub numbers-next : (lives : ℕ → Bool) (words : List ℕ) (i n : ℕ) → i < n → numberIn lives (rowOf (getD words i 0)) ≡ 0 → numbersIn lives words i (n - i) ≡ numbersIn lives words (i + 1) (n - (i + 1))
-unfolding numbersIn
+pub numbers-next : (lives : ℕ → Bool) (words : List ℕ) (i n : ℕ) → i < n → rowRefusal lives (rowOf (getD words i 0)) ≡ 0 → rowsRefusal lives words i (n - i) ≡ rowsRefusal lives words (i + 1) (n - (i + 1))
+unfolding rowsRefusal
 numbers-next lives words i n h e =
     let a : n - i ≡ suc (n - (i + 1)) = omega arith in
-    ap (numbersIn lives words i) a ∙ ap (λ (x : ℕ). cond (same x 0) (numbersIn lives words (suc i) (n - (i + 1))) x) e ∙ ap (λ (b : Bool). cond b (numbersIn lives words (suc i) (n - (i + 1))) 0) (same-refl 0) ∙ ap (λ (j : ℕ). numbersIn lives words j (n - (i + 1))) (sym (add-one i))
+    ap (rowsRefusal lives words i) a ∙ ap (λ (x : ℕ). cond (same x 0) (rowsRefusal lives words (suc i) (n - (i + 1))) x) e ∙ ap (λ (b : Bool). cond b (rowsRefusal lives words (suc i) (n - (i + 1))) 0) (same-refl 0) ∙ ap (λ (j : ℕ). rowsRefusal lives words j (n - (i + 1))) (sym (add-one i))
 
-pub numbers-stop : (lives : ℕ → Bool) (words : List ℕ) (i n m : ℕ) → i < n → numberIn lives (rowOf (getD words i 0)) ≡ m → m ≢ 0 → numbersIn lives words i (n - i) ≡ m
-unfolding numbersIn
+pub numbers-stop : (lives : ℕ → Bool) (words : List ℕ) (i n m : ℕ) → i < n → rowRefusal lives (rowOf (getD words i 0)) ≡ m → m ≢ 0 → rowsRefusal lives words i (n - i) ≡ m
+unfolding rowsRefusal
 numbers-stop lives words i n m h e k =
     let a : n - i ≡ suc (n - (i + 1)) = omega arith in
-    ap (numbersIn lives words i) a ∙ ap (λ (x : ℕ). cond (same x 0) (numbersIn lives words (suc i) (n - (i + 1))) x) e ∙ ap (λ (b : Bool). cond b (numbersIn lives words (suc i) (n - (i + 1))) m) (ne-false m 0 k)
+    ap (rowsRefusal lives words i) a ∙ ap (λ (x : ℕ). cond (same x 0) (rowsRefusal lives words (suc i) (n - (i + 1))) x) e ∙ ap (λ (b : Bool). cond b (rowsRefusal lives words (suc i) (n - (i + 1))) m) (ne-false m 0 k)
 
-pub numbers-end : (lives : ℕ → Bool) (words : List ℕ) (i n : ℕ) → n ≤ i → numbersIn lives words i (n - i) ≡ 0
-unfolding numbersIn
-numbers-end lives words i n h = let a : n - i ≡ 0 = omega arith in ap (numbersIn lives words i) a
+pub numbers-end : (lives : ℕ → Bool) (words : List ℕ) (i n : ℕ) → n ≤ i → rowsRefusal lives words i (n - i) ≡ 0
+unfolding rowsRefusal
+numbers-end lives words i n h = let a : n - i ≡ 0 = omega arith in ap (rowsRefusal lives words i) a

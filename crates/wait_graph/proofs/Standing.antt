@@ -30,7 +30,7 @@ use Rattle.state_array.proofs.Modes.{bars-is}
 use Rattle.state_array.proofs.View.{child-is, free-is}
 use Rattle.rules.specs.Waiting.{WaitingRow, blocks, waitsFor, isChild, rowPoints, pointsTo, rowRefusals, rowsRefusals}
 use Rattle.store_length.specs.Lengths.{refusalNumber}
-use Rattle.wait_graph.specs.Pointing.{childPoints, rowOf, blockersAt, reached, waitedOn, rowIn, rowsIn, numberIn, numbersIn}
+use Rattle.wait_graph.specs.Pointing.{childPoints, rowOf, blockersAt, pointedTo, waitedOn, rowIn, rowsIn, rowRefusal, rowsRefusal}
 
 not-not : (b : Bool) → not (not b) ≡ b
 not-not true = refl
@@ -71,7 +71,7 @@ module _ {f : Form} (s : StateOf f) (parent depth line held retained : List ℕ)
       (ap₂ (λ (x y : Bool). not x && y) (on-line w c) (ap (λ (m : ℕ → ℕ → _). bars a (m q c)) r ∙ bars-is a (sets retained) rn q c))
 
   waits-is : (a : Access) (w q u : ℕ) → waitsFor s a w q u ≡ waitedOn (sets line) (sets held) (sets retained) a w q u
-  unfolding waitsFor waitedOn reached
+  unfolding waitsFor waitedOn pointedTo
   waits-is a w q u = any-same transactions _ _ (λ c k. ap₂ _&&_ (blocks-is a w q c) (ap₂ (λ (x y : Bool). (not x && y) || same u c) (on-line w u) (on-line c u)))
 
   live-is : (t : ℕ) → live s t ≡ livesIn depth t
@@ -127,17 +127,17 @@ module _ {f : Form} (s : StateOf f) (parent depth line held retained : List ℕ)
       ∙ points-from words t u n 0 (omega arith)))
 
   -- rows are refused as they should be
-  numbers-from : (sixteen : records (f .geometry) ≡ 16) (words : List ℕ) (n i : ℕ) → i + n ≤ length words → numbersIn (livesIn depth) words i n ≡ refusalNumber (firstOf (rowsRefusals f s (map rowOf (take n (drop i words)))))
-  unfolding numbersIn numberIn rowsRefusals rowRefusals firstOf refusalNumber
+  numbers-from : (sixteen : records (f .geometry) ≡ 16) (words : List ℕ) (n i : ℕ) → i + n ≤ length words → rowsRefusal (livesIn depth) words i n ≡ refusalNumber (firstOf (rowsRefusals f s (map rowOf (take n (drop i words)))))
+  unfolding rowsRefusal rowRefusal rowsRefusals rowRefusals firstOf refusalNumber
   numbers-from sixteen words zero i k = refl
   numbers-from sixteen words (suc n) i k =
       let w = rowOf (getD words i 0) in
-      ap (λ (m : ℕ). cond (same (numberIn (livesIn depth) w) 0) m (numberIn (livesIn depth) w)) (numbers-from sixteen words n (suc i) (omega arith))
+      ap (λ (m : ℕ). cond (same (rowRefusal (livesIn depth) w) 0) m (rowRefusal (livesIn depth) w)) (numbers-from sixteen words n (suc i) (omega arith))
       ∙ one-first (not (livesIn depth (w .transaction))) (not (under (w .rec) 16)) (under 1 (w .mode)) (rowsRefusals f s (map rowOf (take n (drop (suc i) words))))
       ∙ ap₂ (λ (b : Bool) (m : ℕ). refusalNumber (firstOf ((5, not b) ∷ (23, not (under (w .rec) m)) ∷ (1, under 1 (w .mode)) ∷ rowsRefusals f s (map rowOf (take n (drop (suc i) words)))))) (sym (live-is (w .transaction))) (sym sixteen)
       ∙ ap (λ (l : List ℕ). refusalNumber (firstOf (rowsRefusals f s (map rowOf (take (suc n) l))))) (sym (drop-cons words i 0 (omega arith)))
 
-  pub numbers-are : records (f .geometry) ≡ 16 → (words : List ℕ) (n : ℕ) → n ≤ length words → numbersIn (livesIn depth) words 0 n ≡ refusalNumber (firstOf (rowsRefusals f s (map rowOf (take n words))))
+  pub numbers-are : records (f .geometry) ≡ 16 → (words : List ℕ) (n : ℕ) → n ≤ length words → rowsRefusal (livesIn depth) words 0 n ≡ refusalNumber (firstOf (rowsRefusals f s (map rowOf (take n words))))
   numbers-are sixteen words n k = numbers-from sixteen words n 0 (omega arith)
 
   -- only transactions are pointed to
@@ -146,7 +146,7 @@ module _ {f : Form} (s : StateOf f) (parent depth line held retained : List ℕ)
   line-small t u e = S .numbered u (line-of-member (locks.rooted-of S) t u (on-line t u ∙ e))
 
   waited-small : (a : Access) (w q u : ℕ) → waitedOn (sets line) (sets held) (sets retained) a w q u ≡ true → u < transactions
-  unfolding waitedOn reached
+  unfolding waitedOn pointedTo
   waited-small a w q u e =
       let c = some-of transactions _ e in
       or-cases (not (sets line w u) && sets line (c .at) u) (same u (c .at)) (and-right (blockersAt (sets held) (sets retained) (sets line w) w (barring a q) (c .at)) _ (c .is-so))

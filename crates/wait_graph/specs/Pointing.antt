@@ -21,12 +21,12 @@ unfoldable pub blockersAt : Owners → Owners → (ℕ → Bool) → ℕ → ℕ
 blockersAt held retained above t k b = (not (same b t) && held k b) || (not (above b) && retained k b)
 
 -- who is pointed to, where these block and the waiter's line is above
-unfoldable pub reached : Owners → (ℕ → Bool) → (ℕ → Bool) → ℕ → Bool
-reached line above by u = any transactions (λ b. by b && ((not (above u) && line b u) || same u b))
+unfoldable pub pointedTo : Owners → (ℕ → Bool) → (ℕ → Bool) → ℕ → Bool
+pointedTo line above by u = any transactions (λ b. by b && ((not (above u) && line b u) || same u b))
 
 -- t waits for the lock of r
 unfoldable pub waitedOn : Owners → Owners → Owners → Access → ℕ → ℕ → ℕ → Bool
-waitedOn line held retained a t r = reached line (line t) (blockersAt held retained (line t) t (barring a r))
+waitedOn line held retained a t r = pointedTo line (line t) (blockersAt held retained (line t) t (barring a r))
 
 -- each transaction number points to its live children
 abbrev pub childPoints : List ℕ → List ℕ → Owners
@@ -47,10 +47,10 @@ pub record RowInRange (w : WaitingRow) : Type 0 where
   pub mode : w .mode < 2
 
 -- a row's refusal, or 0, by who is live
-unfoldable pub numberIn : (ℕ → Bool) → WaitingRow → ℕ
-numberIn lives w = cond (not (lives (w .transaction))) 5 (cond (not (under (w .rec) 16)) 23 (cond (under 1 (w .mode)) 1 0))
+unfoldable pub rowRefusal : (ℕ → Bool) → WaitingRow → ℕ
+rowRefusal lives w = cond (not (lives (w .transaction))) 5 (cond (not (under (w .rec) 16)) 23 (cond (under 1 (w .mode)) 1 0))
 
 -- row by row, n rows from i on
-unfoldable pub numbersIn : (ℕ → Bool) → List ℕ → ℕ → ℕ → ℕ
-numbersIn lives words i zero = 0
-numbersIn lives words i (suc n) = cond (same (numberIn lives (rowOf (getD words i 0))) 0) (numbersIn lives words (suc i) n) (numberIn lives (rowOf (getD words i 0)))
+unfoldable pub rowsRefusal : (ℕ → Bool) → List ℕ → ℕ → ℕ → ℕ
+rowsRefusal lives words i zero = 0
+rowsRefusal lives words i (suc n) = cond (same (rowRefusal lives (rowOf (getD words i 0))) 0) (rowsRefusal lives words (suc i) n) (rowRefusal lives (rowOf (getD words i 0)))

@@ -8,7 +8,7 @@ ghost use Rattle.laws.specs.Bits.{bits};
 ghost use Rattle.leaf_set.specs.Sets.{sets};
 ghost use Rattle.state_array.specs.Changes.{accessWhen, Rows};
 ghost use Rattle.state_array.specs.Kin.{livesIn};
-ghost use Rattle.wait_graph.specs.Pointing.{childPoints, rowOf, numberIn, numbersIn, reached, waitedOn, rowIn, rowsIn, RowInRange};
+ghost use Rattle.wait_graph.specs.Pointing.{childPoints, rowOf, rowRefusal, rowsRefusal, pointedTo, waitedOn, rowIn, rowsIn, RowInRange};
 
 // Who blocks t: who holds the lock and isn't t, who retains it and isn't above t.
 fn blockers(held: u32, retained: u32, above: u32, t: u8) -> u32
@@ -31,7 +31,7 @@ fn reach_one(m: u32, blocking: bool, line: u32, above: u32, b: u8) -> u32
 
 // Those that block, and their ancestors that aren't above the waiter.
 fn reach(line: &[u32; 24], by: u32, above: u32) -> u32
-    ensures { λ r. ⌜ bits r ≡ reached (sets (now (line .entry))) (bits above) (bits by) ⌝ }
+    ensures { λ r. ⌜ bits r ≡ pointedTo (sets (now (line .entry))) (bits above) (bits by) ⌝ }
 {
     let mut m = 0u32;
     for b in 0..24u8 {
@@ -113,7 +113,7 @@ pub fn pointings(
 // A row's refusal: 5 for a dead transaction, 23 for a bad record, 1 for a bad mode; else 0.
 fn row_number(depth: &[u8; 24], w: u32) -> u8
     requires { ⌜ length (now depth) ≡ 24 ⌝ }
-    ensures { λ r. ⌜ (r ≡ numberIn (livesIn (now (depth .entry))) (rowOf w)) × (r ≡ 0 → RowInRange (rowOf w)) ⌝ }
+    ensures { λ r. ⌜ (r ≡ rowRefusal (livesIn (now (depth .entry))) (rowOf w)) × (r ≡ 0 → RowInRange (rowOf w)) ⌝ }
 {
     let t = (w / 65536) as usize;
     if 24 <= t {
@@ -134,7 +134,7 @@ fn row_number(depth: &[u8; 24], w: u32) -> u8
 // The refusal of the first row that has one, or 0.
 pub fn rows_number(depth: &[u8; 24], words: &[u32; 24], n: usize) -> u8
     requires { ⌜ (length (now depth) ≡ 24) × (n ≤ 24) × (length (now words) ≡ 24) ⌝ }
-    ensures { λ r. ⌜ (r ≡ numbersIn (livesIn (now (depth .entry))) (now (words .entry)) 0 n) × (r ≡ 0 → (i : ℕ) → i < n → RowInRange (rowOf (getD (now (words .entry)) i 0))) ⌝ }
+    ensures { λ r. ⌜ (r ≡ rowsRefusal (livesIn (now (depth .entry))) (now (words .entry)) 0 n) × (r ≡ 0 → (i : ℕ) → i < n → RowInRange (rowOf (getD (now (words .entry)) i 0))) ⌝ }
 {
     for i in 0..n {
         let m = row_number(depth, words[i]);

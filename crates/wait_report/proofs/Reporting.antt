@@ -19,7 +19,7 @@ use Rattle.engine_portion.specs.declared.Engine.{Engine}
 use Rattle.wait_row.specs.declared.Row.{Row}
 use Rattle.wait_row.specs.Copied.{wordOf, least, copiedOf, Small, Smalls, open-copied}
 use Rattle.rules.specs.Waiting.{WaitingRow, pointsTo, Found, rowsRefusals, reportRefusals}
-use Rattle.wait_graph.specs.Pointing.{childPoints, rowOf, rowsIn, numbersIn}
+use Rattle.wait_graph.specs.Pointing.{childPoints, rowOf, rowsIn, rowsRefusal}
 use Rattle.wait_graph.proofs.Standing as standing
 use Rattle.wait_report.specs.Reported.{aside, waitingRow, waitingRows, Reported, copiedRows, Reported-sound, Reported-copied}
 use Rattle.wait_report.specs.declared.Ring.{Ring}
@@ -29,7 +29,7 @@ unfolding records
 sixteen = refl
 
 module _ (x : Arrays) (I : Intact edition1 x) (words : List ℕ) (n : ℕ) (k : n ≤ length words) where
-  pub numbers-are : numbersIn (livesIn (x .depth)) words 0 n ≡ refusalNumber (firstOf (rowsRefusals edition1 (view edition1 x) (map rowOf (take n words))))
+  pub numbers-are : rowsRefusal (livesIn (x .depth)) words 0 n ≡ refusalNumber (firstOf (rowsRefusals edition1 (view edition1 x) (map rowOf (take n words))))
   unfolding view lineIn
   numbers-are = standing.numbers-are {f = edition1} (view edition1 x) (x .parent) (x .depth) (x .line) (x .held) (x .retained) refl refl refl (I .form .lines) (I .form .held-nested) (I .form .retained-nested) (I .sound) sixteen words n k
 

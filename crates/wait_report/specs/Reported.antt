@@ -10,7 +10,7 @@ use Rattle.rules.specs.Editions.{edition1, workBytes}
 use Rattle.rules.specs.Waiting.{WaitingRow, mostRows, pointsTo, Found, rowsRefusals, reportRefusals}
 use Rattle.state_whole.specs.Whole.{Arrays, view, Intact}
 use Rattle.sound_clause.specs.Decides.{Decides}
-use Rattle.engine_portion.specs.Portion.{whole}
+use Rattle.engine_portion.specs.Portion.{arraysOf}
 use Rattle.engine_portion.specs.declared.Engine.{Engine}
 use Rattle.store_length.specs.Lengths.{refusalNumber}
 use Rattle.wait_row.specs.declared.Row.{Row}
@@ -20,7 +20,7 @@ use Rattle.wait_report.specs.declared.Ring.{Ring}
 
 -- what is lent as a state, store aside: over a fresh store, and a blank working buffer
 abbrev pub aside : Engine → Arrays
-aside e = whole e (replicate workBytes 0) (edition1 .medium .toBytes (edition1 .medium .fresh))
+aside e = arraysOf e (replicate workBytes 0) (edition1 .medium .toBytes (edition1 .medium .fresh))
 
 -- it encodes a sound state
 abbrev pub Sound-aside : Engine → Type 0

@@ -7,7 +7,7 @@ use native.Mathlib.Omega.{arith}
 use lib.ListN.{length, take, replicate, set, getD, length-map, List·getD-map}
 use Rattle.wait_row.specs.declared.Row.{Row}
 use Rattle.wait_row.specs.declared.Rows.{Rows}
-use Rattle.wait_row.specs.Copied.{blank, wordOf, copiedTo, least, copiedOf, open-copied}
+use Rattle.wait_row.specs.Copied.{zeroRow, wordOf, copiedTo, least, copiedOf, open-copied}
 
 next : (ws : List ℕ) (i m : ℕ) → i < length ws → set (take i ws ++ replicate (suc m) 0) i (getD ws i 0) ≡ take (suc i) ws ++ replicate m 0
 next [] i m l = absurd (not-suc-le-zero l)
@@ -22,14 +22,14 @@ module _ (ys : List Row) where
   unfolding open-copied
   begun r p q = alike r p q
 
-  pub one-more : (r : Rows) (i : ℕ) → i < 24 → i < length ys → r .words ≡ set (copiedTo i ys .words) i (wordOf (getD ys i blank)) → r .count ≡ copiedTo i ys .count
+  pub one-more : (r : Rows) (i : ℕ) → i < 24 → i < length ys → r .words ≡ set (copiedTo i ys .words) i (wordOf (getD ys i zeroRow)) → r .count ≡ copiedTo i ys .count
       → r ≡ copiedTo (suc i) ys
   unfolding open-copied
   one-more r i small l p q =
       let room : 24 - i ≡ suc (24 - suc i) = omega arith in
       let long : i < length (map wordOf ys) = subst (λ (n : ℕ). i < n) (sym (length-map ys wordOf)) l in
       alike r
-      (p ∙ ap (λ (w : ℕ). set (take i (map wordOf ys) ++ replicate (24 - i) 0) i w) (sym (List·getD-map wordOf ys i blank))
+      (p ∙ ap (λ (w : ℕ). set (take i (map wordOf ys) ++ replicate (24 - i) 0) i w) (sym (List·getD-map wordOf ys i zeroRow))
       ∙ ap (λ (m : ℕ). set (take i (map wordOf ys) ++ replicate m 0) i (getD (map wordOf ys) i 0)) room ∙ next (map wordOf ys) i (24 - suc i) long) q
 
   pub in-all : copiedTo (least (length ys)) ys ≡ copiedOf ys

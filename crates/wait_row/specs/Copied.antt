@@ -25,8 +25,8 @@ unfoldable pub copiedOf : List Row → Rows
 copiedOf rows = copiedTo (least (length rows)) rows
 
 -- what an unread place is taken for
-abbrev pub blank : Row
-blank = record { transaction = 0; «record» = 0; mode = 0 }
+abbrev pub zeroRow : Row
+zeroRow = record { transaction = 0; «record» = 0; mode = 0 }
 
 -- the fields are bytes, so that a row can be told from its word
 pub record Small (r : Row) : Type 0 where
@@ -36,7 +36,7 @@ pub record Small (r : Row) : Type 0 where
 
 -- the first n rows are so
 abbrev pub Smalls : ℕ → List Row → Type 0
-Smalls n rows = (j : ℕ) → j < n → Small (getD rows j blank)
+Smalls n rows = (j : ℕ) → j < n → Small (getD rows j zeroRow)
 
 unfoldable pub open-copied : Unit {0}
 unfolding wordsTo copiedTo least copiedOf

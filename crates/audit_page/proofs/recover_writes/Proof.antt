@@ -12,7 +12,7 @@ use Rattle.laws.specs.Tests.{same}
 use Rattle.laws.specs.Counting.{those}
 use Rattle.rules.specs.Store.{pagesOf, named}
 use Rattle.rules.specs.Editions.{geometry1}
-use Rattle.store_write.specs.Phase.{Phase}
+use Rattle.store_write.specs.Phase.{WritesPhase}
 use Rattle.store_commit.specs.Phase.{sweep, copies}
 use Rattle.store_write.proofs.Phases.{phase-none, as-spent, phase-page}
 use Rattle.store_commit.proofs.Sweeps.{Kept, kept-none, kept-then, kept-row, home-more}
@@ -22,7 +22,7 @@ use Rattle.audit_page.proofs.recover_writes.Tie as tie
 
 abbrev Inv-loop : tie.InvT-loop
 Inv-loop store₀ map k rest₀ r₀ store rest r =
-    (r ≤ 16) × (length store ≡ 1056) × Kept false 17 (pagesOf store₀) (pagesOf store) × Phase false k (sweep (named geometry1 map) (copies 17 (λ j. pagesOf store₀ (1 + j))) r) (pagesOf store₀) (pagesOf store) rest
+    (r ≤ 16) × (length store ≡ 1056) × Kept false 17 (pagesOf store₀) (pagesOf store) × WritesPhase false k (sweep (named geometry1 map) (copies 17 (λ j. pagesOf store₀ (1 + j))) r) (pagesOf store₀) (pagesOf store) rest
 
 abbrev μ-loop : tie.MeasureT-loop
 μ-loop store₀ map k rest₀ r₀ store rest r = 16 - r

@@ -10,7 +10,7 @@ use Rattle.rules.specs.Store.{pagesOf, named}
 use Rattle.rules.specs.Editions.{geometry1}
 use Rattle.audit_rules.specs.Plain.{Ledger}
 use Rattle.audit_link.specs.Links.{Linked}
-use Rattle.store_write.specs.Phase.{Phase}
+use Rattle.store_write.specs.Phase.{WritesPhase}
 use Rattle.store_commit.specs.Phase.{sweep, copies}
 use Rattle.store_write.proofs.Phases.{phase-none}
 use Rattle.store_commit.proofs.Sweeps.{phase-more}
@@ -20,7 +20,7 @@ use Rattle.audit_page.proofs.write_records.Tie as tie
 
 abbrev Inv-loop : tie.InvT-loop
 Inv-loop store₀ start table events owner parent fate n me map first left rest₀ r₀ store rest r =
-    (r ≤ 16) × (length store ≡ 1056) × ((l : Ledger) → Linked l parent fate → Phase false left (sweep (named geometry1 map) (copies first (changedPage l start owner events n me)) r) (pagesOf store₀) (pagesOf store) rest)
+    (r ≤ 16) × (length store ≡ 1056) × ((l : Ledger) → Linked l parent fate → WritesPhase false left (sweep (named geometry1 map) (copies first (changedPage l start owner events n me)) r) (pagesOf store₀) (pagesOf store) rest)
 
 abbrev μ-loop : tie.MeasureT-loop
 μ-loop store₀ start table events owner parent fate n me map first left rest₀ r₀ store rest r = 16 - r

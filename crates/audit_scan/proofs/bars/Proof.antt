@@ -4,7 +4,7 @@ use mathlib.Core.Bool.{and-false, and-true}
 use Prim.Native.Nat.{_-_}
 use lib.ListN.{getD}
 use Rattle.laws.proofs.Tests.{same-refl, ne-false}
-use Rattle.audit_rules.specs.Plain.{blocks}
+use Rattle.audit_rules.specs.Plain.{grantBlocks}
 use borrow.Author.Needs.{needs}
 use Rattle.audit_scan.proofs.bars.Statement.{statement}
 use Rattle.audit_scan.proofs.bars.Tie as tie
@@ -31,7 +31,7 @@ blocks-requires c κs = search needs
 
 -- src/lib.rt:75:9
 returns-2 : tie.Need-returns-2
-returns-2 c = λ l K. let a = c .before .before .before .before .before .before .before .args in let z = ne-false (getD (a .owner .now) (a .k) 0) 0 (λ q. c .before .before .before .before .if1 .left (c .before .before .before .before .before .owner-of .ensures .0 ∙ q)) in let t = sym (c .before .before .locks .ensures) ∙ c .before .if2 .taken in rw (z, c .before .before .before .event-at .ensures .0, t) (c .blocks2 .ensures l K ∙ ap (blocks l (a .me)) (c .before .before .before .before .before .owner-of .ensures .0) ∙ sym (and-true _))
+returns-2 c = λ l K. let a = c .before .before .before .before .before .before .before .args in let z = ne-false (getD (a .owner .now) (a .k) 0) 0 (λ q. c .before .before .before .before .if1 .left (c .before .before .before .before .before .owner-of .ensures .0 ∙ q)) in let t = sym (c .before .before .locks .ensures) ∙ c .before .if2 .taken in rw (z, c .before .before .before .event-at .ensures .0, t) (c .blocks2 .ensures l K ∙ ap (grantBlocks l (a .me)) (c .before .before .before .before .before .owner-of .ensures .0) ∙ sym (and-true _))
 
 -- src/lib.rt:66:1
 returns-3 : tie.Need-returns-3

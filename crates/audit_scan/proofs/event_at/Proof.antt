@@ -3,7 +3,7 @@ use Rattle.rules.specs.Event.{decode}
 use Rattle.rules.specs.Editions.{geometry1}
 use mathlib.Core.Path.{sym, ap, _∙_}
 use Prim.Native.Nat.{_-_}
-use Rattle.audit_scan.specs.Scans.{eventAt}
+use Rattle.audit_scan.specs.Scans.{eventInBytes}
 use borrow.Author.Needs.{needs}
 use Rattle.audit_scan.proofs.event_at.Statement.{statement}
 use Rattle.audit_scan.proofs.event_at.Tie as tie
@@ -18,7 +18,7 @@ of-word-requires c κs = search needs
 
 -- src/lib.rt:19:1
 returns : tie.Need-returns
-unfolding eventAt
+unfolding eventInBytes
 returns c = (ap (decode geometry1) (sym (c .before .word-at .ensures)) ∙ c .of-word .ensures .0, c .of-word .ensures .1)
 
 pub event-at-spec : {M : Type 1} → statement M

@@ -7,7 +7,7 @@ use lib.ListN.{length}
 use borrow.Author.Needs.{needs}
 use Rattle.rules.specs.Editions.{geometryOf, formIn, editionOf}
 use Rattle.rules.proofs.Editions.{medium-laws}
-use Rattle.state_array.specs.Kin.{Kin}
+use Rattle.state_array.specs.Kin.{DerivedSets}
 use Rattle.state_whole.specs.Whole.{arrays, Reserves}
 use Rattle.state_whole.proofs.Parents.{parent-named}
 use Rattle.state_whole.proofs.Playing.{Playing, playing-none, playing-next, playing-all}
@@ -21,7 +21,7 @@ Inv-loop up₀ parent₀ depth₀ line₀ held₀ retained₀ writers₀ work₀
     let edition = editionOf records joint tears in
     (k ≤ n) × (n ≡ length events / word) × (n ≤ 4096) × (word * n ≤ length events) × (2 * n ≤ length answers₀)
     × Playing (formIn tears (geometryOf edition)) word (arrays up₀ parent₀ depth₀ line₀ held₀ retained₀ writers₀ work₀ store₀) events answers₀ n k (arrays up parent depth line held retained writers work store) answers
-    × Kin parent depth live children × Reserves tears (geometryOf edition) store reserved identity
+    × DerivedSets parent depth live children × Reserves tears (geometryOf edition) store reserved identity
 
 abbrev μ-loop : tie.MeasureT-loop
 μ-loop up₀ parent₀ depth₀ line₀ held₀ retained₀ writers₀ work₀ store₀ events answers₀ records word joint tears live₀ children₀ reserved₀ identity₀ narrow-table wide-table n k₀ up parent depth line held retained writers work store answers live children reserved identity k =

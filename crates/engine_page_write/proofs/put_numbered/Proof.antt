@@ -6,7 +6,7 @@ use native.Mathlib.Omega.{arith}
 use Rattle.leaf_commit_page.specs.Layout.{Layout}
 use Rattle.leaf_commit_page.proofs.Places.{known-small}
 use Rattle.store_commit.proofs.Room.{room}
-use Rattle.engine_page_write.specs.Phases.{bytesOf}
+use Rattle.engine_page_write.specs.Phases.{spelledWrite}
 use Rattle.engine_page_write.proofs.Numbered.{known-layout, ones-are, there-is, within, in-1, in-2, in-3, in-4, in-5, in-none, small-1, small-4, told-write, told-none}
 use borrow.Author.Needs.{needs}
 use Rattle.engine_page_write.proofs.put_numbered.Statement.{statement}
@@ -76,7 +76,7 @@ same-length-2 : tie.Need-same-length-2
 same-length-2 c = search needs
 
 returns-2 : tie.Need-returns-2
-returns-2 c = λ g L. told-write _ (c .before .before .before .before .before .before .before .before .before .before .before .before .before .before .before .before .before .args .tears) (c .before .before .before .before .before .before .before .before .before .before .before .before .before .before .before .before .before .args .index) (c .before .before .before .before .before .before .before .before .before .before .before .before .before .page-number .result) (c .before .before .before .before .before .before .before .before .before .before .before .before .before .page-number .ensures) (c .before .before .before .before .before .before .before .before .before .before .before .before .before .before .before .before .before .args .write .now) _ _ _ (in-2 (c .before .before .before .before .before .before .before .before .before .before .before .before .before .before .before .before .before .args .tears) g (c .before .before .before .before .before .before .before .before .before .before .before .before .before .before .before .before .before .args .records) (c .before .before .before .before .before .before .before .before .before .before .before .before .before .before .before .before .before .args .p) (c .before .before .before .before .before .before .before .before .before .before .before .before .before .before .before .before .before .args .work .now) (c .before .before .before .before .before .before .before .before .before .before .before .before .before .before .before .before .before .args .store .now) (c .before .before .before .before .before .before .before .before .before .before .before .before .before .page-number .result) (c .before .before .before .before .before .before .before .before .before .before .before .before .ones .result) (c .before .before .before .before .before .before .before .before .before .before .before .length-if .result) (c .before .before .before .before .before .before .before .before .before .before .length-if2 .result) (c .before .before .before .before .before .before .before .before .before .length-if3 .result) (c .before .before .before .before .before .before .before .before .length-if4 .result) (c .before .before .before .before .before .before .before .length-if5 .result) (ones-are g (c .before .before .before .before .before .before .before .before .before .before .before .before .before .before .before .before .before .args .records) (c .before .before .before .before .before .before .before .before .before .before .before .before .before .before .before .before .before .args .p .map) (c .before .before .before .before .before .before .before .before .before .before .before .before .ones .result) (L .many) (c .before .before .before .before .before .before .before .before .before .before .before .before .before .before .before .before .before .pre .1) (c .before .before .before .before .before .before .before .before .before .before .before .before .ones .ensures .0)) (record { intentions = c .before .before .before .before .before .before .before .before .before .before .before .length-if .ensures; committed = c .before .before .before .before .before .before .before .before .before .before .length-if2 .ensures; prepared = c .before .before .before .before .before .before .before .before .before .length-if3 .ensures; homes = c .before .before .before .before .before .before .before .before .length-if4 .ensures; emptied = c .before .before .before .before .before .before .before .length-if5 .ensures }) (omega (arith, c .before .before .before .before .before .before .if1 .left)) (omega (arith, c .before .before .before .before .before .if2 .taken))) (c .before .before .put-write2 .ensures ∙ ap (bytesOf (c .before .before .before .before .before .before .before .before .before .before .before .before .before .before .before .before .before .args .tears) (c .before .before .before .before .before .before .before .before .before .before .before .before .before .before .before .before .before .args .index) 0) (c .before .before .before .commit-page .ensures g L))
+returns-2 c = λ g L. told-write _ (c .before .before .before .before .before .before .before .before .before .before .before .before .before .before .before .before .before .args .tears) (c .before .before .before .before .before .before .before .before .before .before .before .before .before .before .before .before .before .args .index) (c .before .before .before .before .before .before .before .before .before .before .before .before .before .page-number .result) (c .before .before .before .before .before .before .before .before .before .before .before .before .before .page-number .ensures) (c .before .before .before .before .before .before .before .before .before .before .before .before .before .before .before .before .before .args .write .now) _ _ _ (in-2 (c .before .before .before .before .before .before .before .before .before .before .before .before .before .before .before .before .before .args .tears) g (c .before .before .before .before .before .before .before .before .before .before .before .before .before .before .before .before .before .args .records) (c .before .before .before .before .before .before .before .before .before .before .before .before .before .before .before .before .before .args .p) (c .before .before .before .before .before .before .before .before .before .before .before .before .before .before .before .before .before .args .work .now) (c .before .before .before .before .before .before .before .before .before .before .before .before .before .before .before .before .before .args .store .now) (c .before .before .before .before .before .before .before .before .before .before .before .before .before .page-number .result) (c .before .before .before .before .before .before .before .before .before .before .before .before .ones .result) (c .before .before .before .before .before .before .before .before .before .before .before .length-if .result) (c .before .before .before .before .before .before .before .before .before .before .length-if2 .result) (c .before .before .before .before .before .before .before .before .before .length-if3 .result) (c .before .before .before .before .before .before .before .before .length-if4 .result) (c .before .before .before .before .before .before .before .length-if5 .result) (ones-are g (c .before .before .before .before .before .before .before .before .before .before .before .before .before .before .before .before .before .args .records) (c .before .before .before .before .before .before .before .before .before .before .before .before .before .before .before .before .before .args .p .map) (c .before .before .before .before .before .before .before .before .before .before .before .before .ones .result) (L .many) (c .before .before .before .before .before .before .before .before .before .before .before .before .before .before .before .before .before .pre .1) (c .before .before .before .before .before .before .before .before .before .before .before .before .ones .ensures .0)) (record { intentions = c .before .before .before .before .before .before .before .before .before .before .before .length-if .ensures; committed = c .before .before .before .before .before .before .before .before .before .before .length-if2 .ensures; prepared = c .before .before .before .before .before .before .before .before .before .length-if3 .ensures; homes = c .before .before .before .before .before .before .before .before .length-if4 .ensures; emptied = c .before .before .before .before .before .before .before .length-if5 .ensures }) (omega (arith, c .before .before .before .before .before .before .if1 .left)) (omega (arith, c .before .before .before .before .before .if2 .taken))) (c .before .before .put-write2 .ensures ∙ ap (spelledWrite (c .before .before .before .before .before .before .before .before .before .before .before .before .before .before .before .before .before .args .tears) (c .before .before .before .before .before .before .before .before .before .before .before .before .before .before .before .before .before .args .index) 0) (c .before .before .before .commit-page .ensures g L))
 
 prepared-page-requires : tie.Need-prepared-page-requires
 prepared-page-requires c κs = subst (λ (k : ℕ). c .before .before .before .before .before .before .before .before .before .before .before .before .before .before .args .p .map < 2 ^ k) (c .before .before .before .before .before .before .before .before .before .before .before .before .before .before .pre .2 (there-is (c .before .before .before .before .before .before .before .before .before .before .before .before .before .before .args .p .prepared) _ 1 (c .before .before .before .before .before .before .length-if3 .ensures) (omega (arith, c .before .before .if2 .left, c .before .if3 .taken)))) (c .before .before .before .before .before .before .before .before .before .before .before .before .before .before .pre .1)
@@ -88,7 +88,7 @@ same-length-3 : tie.Need-same-length-3
 same-length-3 c = search needs
 
 returns-3 : tie.Need-returns-3
-returns-3 c = λ g L. told-write _ (c .before .before .before .before .before .before .before .before .before .before .before .before .before .before .before .before .before .before .args .tears) (c .before .before .before .before .before .before .before .before .before .before .before .before .before .before .before .before .before .before .args .index) (c .before .before .before .before .before .before .before .before .before .before .before .before .before .before .page-number .result) (c .before .before .before .before .before .before .before .before .before .before .before .before .before .before .page-number .ensures) (c .before .before .before .before .before .before .before .before .before .before .before .before .before .before .before .before .before .before .args .write .now) _ _ _ (in-3 (c .before .before .before .before .before .before .before .before .before .before .before .before .before .before .before .before .before .before .args .tears) g (c .before .before .before .before .before .before .before .before .before .before .before .before .before .before .before .before .before .before .args .records) (c .before .before .before .before .before .before .before .before .before .before .before .before .before .before .before .before .before .before .args .p) (c .before .before .before .before .before .before .before .before .before .before .before .before .before .before .before .before .before .before .args .work .now) (c .before .before .before .before .before .before .before .before .before .before .before .before .before .before .before .before .before .before .args .store .now) (c .before .before .before .before .before .before .before .before .before .before .before .before .before .before .page-number .result) (c .before .before .before .before .before .before .before .before .before .before .before .before .before .ones .result) (c .before .before .before .before .before .before .before .before .before .before .before .before .length-if .result) (c .before .before .before .before .before .before .before .before .before .before .before .length-if2 .result) (c .before .before .before .before .before .before .before .before .before .before .length-if3 .result) (c .before .before .before .before .before .before .before .before .before .length-if4 .result) (c .before .before .before .before .before .before .before .before .length-if5 .result) (ones-are g (c .before .before .before .before .before .before .before .before .before .before .before .before .before .before .before .before .before .before .args .records) (c .before .before .before .before .before .before .before .before .before .before .before .before .before .before .before .before .before .before .args .p .map) (c .before .before .before .before .before .before .before .before .before .before .before .before .before .ones .result) (L .many) (c .before .before .before .before .before .before .before .before .before .before .before .before .before .before .before .before .before .before .pre .1) (c .before .before .before .before .before .before .before .before .before .before .before .before .before .ones .ensures .0)) (record { intentions = c .before .before .before .before .before .before .before .before .before .before .before .before .length-if .ensures; committed = c .before .before .before .before .before .before .before .before .before .before .before .length-if2 .ensures; prepared = c .before .before .before .before .before .before .before .before .before .before .length-if3 .ensures; homes = c .before .before .before .before .before .before .before .before .before .length-if4 .ensures; emptied = c .before .before .before .before .before .before .before .before .length-if5 .ensures }) (omega (arith, c .before .before .before .before .before .before .if2 .left)) (omega (arith, c .before .before .before .before .before .if3 .taken))) (c .before .before .put-write3 .ensures ∙ ap (bytesOf (c .before .before .before .before .before .before .before .before .before .before .before .before .before .before .before .before .before .before .args .tears) (c .before .before .before .before .before .before .before .before .before .before .before .before .before .before .before .before .before .before .args .index) 0) (c .before .before .before .prepared-page .ensures g (subst (Layout g) (c .before .before .before .before .before .before .before .before .before .before .before .before .before .before .before .before .before .before .pre .2 (there-is (c .before .before .before .before .before .before .before .before .before .before .before .before .before .before .before .before .before .before .args .p .prepared) _ 1 (c .before .before .before .before .before .before .before .before .before .before .length-if3 .ensures) (omega (arith, c .before .before .before .before .before .before .if2 .left, c .before .before .before .before .before .if3 .taken)))) L)))
+returns-3 c = λ g L. told-write _ (c .before .before .before .before .before .before .before .before .before .before .before .before .before .before .before .before .before .before .args .tears) (c .before .before .before .before .before .before .before .before .before .before .before .before .before .before .before .before .before .before .args .index) (c .before .before .before .before .before .before .before .before .before .before .before .before .before .before .page-number .result) (c .before .before .before .before .before .before .before .before .before .before .before .before .before .before .page-number .ensures) (c .before .before .before .before .before .before .before .before .before .before .before .before .before .before .before .before .before .before .args .write .now) _ _ _ (in-3 (c .before .before .before .before .before .before .before .before .before .before .before .before .before .before .before .before .before .before .args .tears) g (c .before .before .before .before .before .before .before .before .before .before .before .before .before .before .before .before .before .before .args .records) (c .before .before .before .before .before .before .before .before .before .before .before .before .before .before .before .before .before .before .args .p) (c .before .before .before .before .before .before .before .before .before .before .before .before .before .before .before .before .before .before .args .work .now) (c .before .before .before .before .before .before .before .before .before .before .before .before .before .before .before .before .before .before .args .store .now) (c .before .before .before .before .before .before .before .before .before .before .before .before .before .before .page-number .result) (c .before .before .before .before .before .before .before .before .before .before .before .before .before .ones .result) (c .before .before .before .before .before .before .before .before .before .before .before .before .length-if .result) (c .before .before .before .before .before .before .before .before .before .before .before .length-if2 .result) (c .before .before .before .before .before .before .before .before .before .before .length-if3 .result) (c .before .before .before .before .before .before .before .before .before .length-if4 .result) (c .before .before .before .before .before .before .before .before .length-if5 .result) (ones-are g (c .before .before .before .before .before .before .before .before .before .before .before .before .before .before .before .before .before .before .args .records) (c .before .before .before .before .before .before .before .before .before .before .before .before .before .before .before .before .before .before .args .p .map) (c .before .before .before .before .before .before .before .before .before .before .before .before .before .ones .result) (L .many) (c .before .before .before .before .before .before .before .before .before .before .before .before .before .before .before .before .before .before .pre .1) (c .before .before .before .before .before .before .before .before .before .before .before .before .before .ones .ensures .0)) (record { intentions = c .before .before .before .before .before .before .before .before .before .before .before .before .length-if .ensures; committed = c .before .before .before .before .before .before .before .before .before .before .before .length-if2 .ensures; prepared = c .before .before .before .before .before .before .before .before .before .before .length-if3 .ensures; homes = c .before .before .before .before .before .before .before .before .before .length-if4 .ensures; emptied = c .before .before .before .before .before .before .before .before .length-if5 .ensures }) (omega (arith, c .before .before .before .before .before .before .if2 .left)) (omega (arith, c .before .before .before .before .before .if3 .taken))) (c .before .before .put-write3 .ensures ∙ ap (spelledWrite (c .before .before .before .before .before .before .before .before .before .before .before .before .before .before .before .before .before .before .args .tears) (c .before .before .before .before .before .before .before .before .before .before .before .before .before .before .before .before .before .before .args .index) 0) (c .before .before .before .prepared-page .ensures g (subst (Layout g) (c .before .before .before .before .before .before .before .before .before .before .before .before .before .before .before .before .before .before .pre .2 (there-is (c .before .before .before .before .before .before .before .before .before .before .before .before .before .before .before .before .before .before .args .p .prepared) _ 1 (c .before .before .before .before .before .before .before .before .before .before .length-if3 .ensures) (omega (arith, c .before .before .before .before .before .before .if2 .left, c .before .before .before .before .before .if3 .taken)))) L)))
 
 record-at-requires-2 : tie.Need-record-at-requires-2
 record-at-requires-2 c κs = known-small (c .before .before .before .before .before .before .before .before .before .before .before .before .before .before .args .records) (c .before .before .before .before .before .before .before .before .before .before .before .before .before .before .pre .0) .0
@@ -121,7 +121,7 @@ same-length-5 : tie.Need-same-length-5
 same-length-5 c = search needs
 
 returns-5 : tie.Need-returns-5
-returns-5 c = λ g L. told-write _ (c .before .before .before .before .before .before .before .before .before .before .before .before .before .before .before .before .before .before .before .before .args .tears) (c .before .before .before .before .before .before .before .before .before .before .before .before .before .before .before .before .before .before .before .before .args .index) (c .before .before .before .before .before .before .before .before .before .before .before .before .before .before .before .before .page-number .result) (c .before .before .before .before .before .before .before .before .before .before .before .before .before .before .before .before .page-number .ensures) (c .before .before .before .before .before .before .before .before .before .before .before .before .before .before .before .before .before .before .before .before .args .write .now) _ _ _ (in-5 (c .before .before .before .before .before .before .before .before .before .before .before .before .before .before .before .before .before .before .before .before .args .tears) g (c .before .before .before .before .before .before .before .before .before .before .before .before .before .before .before .before .before .before .before .before .args .records) (c .before .before .before .before .before .before .before .before .before .before .before .before .before .before .before .before .before .before .before .before .args .p) (c .before .before .before .before .before .before .before .before .before .before .before .before .before .before .before .before .before .before .before .before .args .work .now) (c .before .before .before .before .before .before .before .before .before .before .before .before .before .before .before .before .before .before .before .before .args .store .now) (c .before .before .before .before .before .before .before .before .before .before .before .before .before .before .before .before .page-number .result) (c .before .before .before .before .before .before .before .before .before .before .before .before .before .before .before .ones .result) (c .before .before .before .before .before .before .before .before .before .before .before .before .before .before .length-if .result) (c .before .before .before .before .before .before .before .before .before .before .before .before .before .length-if2 .result) (c .before .before .before .before .before .before .before .before .before .before .before .before .length-if3 .result) (c .before .before .before .before .before .before .before .before .before .before .before .length-if4 .result) (c .before .before .before .before .before .before .before .before .before .before .length-if5 .result) (ones-are g (c .before .before .before .before .before .before .before .before .before .before .before .before .before .before .before .before .before .before .before .before .args .records) (c .before .before .before .before .before .before .before .before .before .before .before .before .before .before .before .before .before .before .before .before .args .p .map) (c .before .before .before .before .before .before .before .before .before .before .before .before .before .before .before .ones .result) (L .many) (c .before .before .before .before .before .before .before .before .before .before .before .before .before .before .before .before .before .before .before .before .pre .1) (c .before .before .before .before .before .before .before .before .before .before .before .before .before .before .before .ones .ensures .0)) (record { intentions = c .before .before .before .before .before .before .before .before .before .before .before .before .before .before .length-if .ensures; committed = c .before .before .before .before .before .before .before .before .before .before .before .before .before .length-if2 .ensures; prepared = c .before .before .before .before .before .before .before .before .before .before .before .before .length-if3 .ensures; homes = c .before .before .before .before .before .before .before .before .before .before .before .length-if4 .ensures; emptied = c .before .before .before .before .before .before .before .before .before .before .length-if5 .ensures }) (omega (arith, c .before .before .before .before .before .before .if4 .left)) (omega (arith, c .before .before .before .before .before .if5 .taken))) (c .before .before .put-write5 .ensures ∙ ap (bytesOf (c .before .before .before .before .before .before .before .before .before .before .before .before .before .before .before .before .before .before .before .before .args .tears) (c .before .before .before .before .before .before .before .before .before .before .before .before .before .before .before .before .before .before .before .before .args .index) 0) (c .before .before .before .commit-page2 .ensures g L))
+returns-5 c = λ g L. told-write _ (c .before .before .before .before .before .before .before .before .before .before .before .before .before .before .before .before .before .before .before .before .args .tears) (c .before .before .before .before .before .before .before .before .before .before .before .before .before .before .before .before .before .before .before .before .args .index) (c .before .before .before .before .before .before .before .before .before .before .before .before .before .before .before .before .page-number .result) (c .before .before .before .before .before .before .before .before .before .before .before .before .before .before .before .before .page-number .ensures) (c .before .before .before .before .before .before .before .before .before .before .before .before .before .before .before .before .before .before .before .before .args .write .now) _ _ _ (in-5 (c .before .before .before .before .before .before .before .before .before .before .before .before .before .before .before .before .before .before .before .before .args .tears) g (c .before .before .before .before .before .before .before .before .before .before .before .before .before .before .before .before .before .before .before .before .args .records) (c .before .before .before .before .before .before .before .before .before .before .before .before .before .before .before .before .before .before .before .before .args .p) (c .before .before .before .before .before .before .before .before .before .before .before .before .before .before .before .before .before .before .before .before .args .work .now) (c .before .before .before .before .before .before .before .before .before .before .before .before .before .before .before .before .before .before .before .before .args .store .now) (c .before .before .before .before .before .before .before .before .before .before .before .before .before .before .before .before .page-number .result) (c .before .before .before .before .before .before .before .before .before .before .before .before .before .before .before .ones .result) (c .before .before .before .before .before .before .before .before .before .before .before .before .before .before .length-if .result) (c .before .before .before .before .before .before .before .before .before .before .before .before .before .length-if2 .result) (c .before .before .before .before .before .before .before .before .before .before .before .before .length-if3 .result) (c .before .before .before .before .before .before .before .before .before .before .before .length-if4 .result) (c .before .before .before .before .before .before .before .before .before .before .length-if5 .result) (ones-are g (c .before .before .before .before .before .before .before .before .before .before .before .before .before .before .before .before .before .before .before .before .args .records) (c .before .before .before .before .before .before .before .before .before .before .before .before .before .before .before .before .before .before .before .before .args .p .map) (c .before .before .before .before .before .before .before .before .before .before .before .before .before .before .before .ones .result) (L .many) (c .before .before .before .before .before .before .before .before .before .before .before .before .before .before .before .before .before .before .before .before .pre .1) (c .before .before .before .before .before .before .before .before .before .before .before .before .before .before .before .ones .ensures .0)) (record { intentions = c .before .before .before .before .before .before .before .before .before .before .before .before .before .before .length-if .ensures; committed = c .before .before .before .before .before .before .before .before .before .before .before .before .before .length-if2 .ensures; prepared = c .before .before .before .before .before .before .before .before .before .before .before .before .length-if3 .ensures; homes = c .before .before .before .before .before .before .before .before .before .before .before .length-if4 .ensures; emptied = c .before .before .before .before .before .before .before .before .before .before .length-if5 .ensures }) (omega (arith, c .before .before .before .before .before .before .if4 .left)) (omega (arith, c .before .before .before .before .before .if5 .taken))) (c .before .before .put-write5 .ensures ∙ ap (spelledWrite (c .before .before .before .before .before .before .before .before .before .before .before .before .before .before .before .before .before .before .before .before .args .tears) (c .before .before .before .before .before .before .before .before .before .before .before .before .before .before .before .before .before .before .before .before .args .index) 0) (c .before .before .before .commit-page2 .ensures g L))
 
 returns-6 : tie.Need-returns-6
 returns-6 c = λ g L. told-none _ (c .before .before .before .before .before .before .before .before .before .before .before .before .before .before .before .args .tears) (c .before .before .before .before .before .before .before .before .before .before .before .before .before .before .before .args .index) (c .before .before .before .before .before .before .before .before .before .before .before .page-number .result) (c .before .before .before .before .before .before .before .before .before .before .before .page-number .ensures) (c .before .before .before .before .before .before .before .before .before .before .before .before .before .before .before .args .write .now) (in-none (c .before .before .before .before .before .before .before .before .before .before .before .before .before .before .before .args .tears) g (c .before .before .before .before .before .before .before .before .before .before .before .before .before .before .before .args .records) (c .before .before .before .before .before .before .before .before .before .before .before .before .before .before .before .args .p) (c .before .before .before .before .before .before .before .before .before .before .before .before .before .before .before .args .work .now) (c .before .before .before .before .before .before .before .before .before .before .before .before .before .before .before .args .store .now) (c .before .before .before .before .before .before .before .before .before .before .before .page-number .result) (c .before .before .before .before .before .before .before .before .before .before .ones .result) (c .before .before .before .before .before .before .before .before .before .length-if .result) (c .before .before .before .before .before .before .before .before .length-if2 .result) (c .before .before .before .before .before .before .before .length-if3 .result) (c .before .before .before .before .before .before .length-if4 .result) (c .before .before .before .before .before .length-if5 .result) (ones-are g (c .before .before .before .before .before .before .before .before .before .before .before .before .before .before .before .args .records) (c .before .before .before .before .before .before .before .before .before .before .before .before .before .before .before .args .p .map) (c .before .before .before .before .before .before .before .before .before .before .ones .result) (L .many) (c .before .before .before .before .before .before .before .before .before .before .before .before .before .before .before .pre .1) (c .before .before .before .before .before .before .before .before .before .before .ones .ensures .0)) (record { intentions = c .before .before .before .before .before .before .before .before .before .length-if .ensures; committed = c .before .before .before .before .before .before .before .before .length-if2 .ensures; prepared = c .before .before .before .before .before .before .before .length-if3 .ensures; homes = c .before .before .before .before .before .before .length-if4 .ensures; emptied = c .before .before .before .before .before .length-if5 .ensures }) (omega (arith, c .if5 .left)))

@@ -28,12 +28,12 @@ element-copy-out-told c = search needs
 mul-places : tie.Need-mul-places
 mul-places c = search needs
 
-element-copy-out-report : tie.Need-element-copy-out-report
-element-copy-out-report c = search needs
+element-copy-out-inherit-on-abort : tie.Need-element-copy-out-inherit-on-abort
+element-copy-out-inherit-on-abort c = search needs
 
-report-requires : tie.Need-report-requires
+inherit-on-abort-requires : tie.Need-inherit-on-abort-requires
 unfolding under
-report-requires c κs = let a = c .before .before .before .before .before .before .before .before .args in let n = c .before .before .before .before .number .result in
+inherit-on-abort-requires c κs = let a = c .before .before .before .before .before .before .before .before .args in let n = c .before .before .before .before .number .result in
     (c .before .before .before .before .number .ensures .1, λ e. parent-below _ _ (c .before .before .before .before .before .before .before .before .pre .7) n (under-lt 1 (getD (a .depth .now) n 0) (and-right (a .report) (under 1 (getD (a .depth .now) n 0)) e)), search needs, search needs)
 
 descendants-requires : tie.Need-descendants-requires
@@ -42,8 +42,8 @@ descendants-requires c κs = search needs
 discard-requires : tie.Need-discard-requires
 discard-requires c κs = search needs
 
-end-requires : tie.Need-end-requires
-end-requires c κs = search needs
+free-numbers-requires : tie.Need-free-numbers-requires
+free-numbers-requires c κs = search needs
 
 minus-requires : tie.Need-minus-requires
 minus-requires c κs = search needs
@@ -62,8 +62,8 @@ same-length-3 c = search needs
 
 returns : tie.Need-returns
 unfolding under less
-returns c = let w = c .before .before .before .before .before .before .before .before .before .before .before .before .before .before .before .before .before .before .before .before .before .before .before .before .before .before .before .before .before .before .before .args .report in let e = c .before .before .before .before .end .ensures in let f = c .before .before .before .before .before .before .before .before .before .before .before .before .before .before .discard .ensures in
-    (λ k tears up work store I R. numbered (formIn tears (geometryOf k)) _ _ _ (λ t r. abort t w) (Ready (formIn tears (geometryOf k))) _ _ 0 0 (c .before .before .before .before .before .before .before .before .before .before .before .before .before .before .before .before .before .before .before .before .before .before .before .before .before .before .before .number .ensures .0) refl (λ R. abort-steps-of (formIn tears (geometryOf k)) _ (sym (c .before .before .before .before .before .before .before .before .before .before .before .before .before .before .before .before .before .before .before .before .before .before .before .before .before .before .before .before .before .before .before .pre .6) ∙ I .form .writerss) _ I _ _ w R (c .before .before .before .before .before .before .before .before .before .before .before .before .before .before .before .before .before .before .descendants .ensures) _ _ _ _ _ _ _ (c .before .before .before .before .before .before .before .before .before .before .before .before .before .before .before .before .before .before .before .before .before .before .report .ensures) (e .0) (e .1) (e .2) (f .0) (f .1) (f .2)) R, kin-cleared _ _ _ _ _ _ _ _ _ (c .before .before .before .before .before .before .before .before .before .before .before .before .before .before .before .before .before .before .before .before .before .before .before .before .before .before .before .before .before .before .before .pre .8) (e .0) (e .1) (c .before .before .minus .ensures) (c .leave .ensures))
+returns c = let w = c .before .before .before .before .before .before .before .before .before .before .before .before .before .before .before .before .before .before .before .before .before .before .before .before .before .before .before .before .before .before .before .args .report in let e = c .before .before .before .before .free-numbers .ensures in let f = c .before .before .before .before .before .before .before .before .before .before .before .before .before .before .discard .ensures in
+    (λ k tears up work store I R. numbered (formIn tears (geometryOf k)) _ _ _ (λ t r. abort t w) (Ready (formIn tears (geometryOf k))) _ _ 0 0 (c .before .before .before .before .before .before .before .before .before .before .before .before .before .before .before .before .before .before .before .before .before .before .before .before .before .before .before .number .ensures .0) refl (λ R. abort-steps-of (formIn tears (geometryOf k)) _ (sym (c .before .before .before .before .before .before .before .before .before .before .before .before .before .before .before .before .before .before .before .before .before .before .before .before .before .before .before .before .before .before .before .pre .6) ∙ I .form .writerss) _ I _ _ w R (c .before .before .before .before .before .before .before .before .before .before .before .before .before .before .before .before .before .before .descendants .ensures) _ _ _ _ _ _ _ (c .before .before .before .before .before .before .before .before .before .before .before .before .before .before .before .before .before .before .before .before .before .before .inherit-on-abort .ensures) (e .0) (e .1) (e .2) (f .0) (f .1) (f .2)) R, kin-cleared _ _ _ _ _ _ _ _ _ (c .before .before .before .before .before .before .before .before .before .before .before .before .before .before .before .before .before .before .before .before .before .before .before .before .before .before .before .before .before .before .before .pre .8) (e .0) (e .1) (c .before .before .minus .ensures) (c .leave .ensures))
 
 pub abort-event-spec : {M : Type 1} → statement M
 abort-event-spec =
@@ -73,11 +73,11 @@ abort-event-spec =
     cast-i
     element-copy-out-told
     mul-places
-    element-copy-out-report
-    report-requires
+    element-copy-out-inherit-on-abort
+    inherit-on-abort-requires
     descendants-requires
     discard-requires
-    end-requires
+    free-numbers-requires
     minus-requires
     leave-requires
     same-length

@@ -17,21 +17,21 @@ use Rattle.event_commit.proofs.commit_child.Tie as tie
 element-copy-out-p : tie.Need-element-copy-out-p
 element-copy-out-p c = search needs
 
-lift-requires : tie.Need-lift-requires
-lift-requires c κs = let a = c .before .before .before .before .before .before .before .args in let k = c .before .before .before .before .before .before .before .pre .11 .shallow (a .t) in let e = c .before .before .before .before .before .before .before .pre .10 in
+hand-up-requires : tie.Need-hand-up-requires
+hand-up-requires c κs = let a = c .before .before .before .before .before .before .before .args in let k = c .before .before .before .before .before .before .before .pre .11 .shallow (a .t) in let e = c .before .before .before .before .before .before .before .pre .10 in
     (omega arith, parent-below _ _ (c .before .before .before .before .before .before .before .pre .11) (a .t) (omega arith), omega arith, omega arith, c .before .before .before .before .before .before .before .pre .1, search needs, search needs)
 
 mul-places : tie.Need-mul-places
 mul-places c = search needs
 
-pass-requires : tie.Need-pass-requires
-pass-requires c κs = let e = c .before .before .before .before .before .before .before .before .before .before .before .before .before .before .pre .10 in (omega arith, parent-below _ _ (c .before .before .before .before .before .before .before .before .before .before .before .before .before .before .pre .11) (c .before .before .before .before .before .before .before .before .before .before .before .before .before .before .args .t) (omega arith), search needs, search needs)
+inherit-on-commit-requires : tie.Need-inherit-on-commit-requires
+inherit-on-commit-requires c κs = let e = c .before .before .before .before .before .before .before .before .before .before .before .before .before .before .pre .10 in (omega arith, parent-below _ _ (c .before .before .before .before .before .before .before .before .before .before .before .before .before .before .pre .11) (c .before .before .before .before .before .before .before .before .before .before .before .before .before .before .args .t) (omega arith), search needs, search needs)
 
-strike-requires : tie.Need-strike-requires
-strike-requires c κs = let p = c .before .before .before .before .before .before .before .before .before .before .before .before .before .before .before .before .before .before .before .before .before .pre .12 .named (c .before .before .before .before .before .before .before .before .before .before .before .before .before .before .before .before .before .before .before .before .before .args .t) in let h = c .before .before .before .before .before .before .before .before .before .before .before .before .before .before .before .before .before .before .before .before .before .pre .0 in (omega arith, omega arith)
+remove-child-requires : tie.Need-remove-child-requires
+remove-child-requires c κs = let p = c .before .before .before .before .before .before .before .before .before .before .before .before .before .before .before .before .before .before .before .before .before .pre .12 .named (c .before .before .before .before .before .before .before .before .before .before .before .before .before .before .before .before .before .before .before .before .before .args .t) in let h = c .before .before .before .before .before .before .before .before .before .before .before .before .before .before .before .before .before .before .before .before .before .pre .0 in (omega arith, omega arith)
 
-retire-requires : tie.Need-retire-requires
-retire-requires c κs = search needs
+free-number-requires : tie.Need-free-number-requires
+free-number-requires c κs = search needs
 
 same-length : tie.Need-same-length
 same-length c = search needs
@@ -46,7 +46,7 @@ same-length-4 : tie.Need-same-length-4
 same-length-4 c = search needs
 
 returns : tie.Need-returns
-returns c = let a = c .before .before .before .before .before .before .before .before .before .before .before .before .before .before .before .before .before .before .before .before .before .before .before .before .before .before .args in let e = c .retire .ensures in let f = c .before .before .before .before .before .before .before .before .before .before .before .pass .ensures in let g = c .before .before .before .before .before .before .before .before .before .before .before .before .before .before .before .before .before .before .lift .ensures in let q = c .before .before .before .before .before .before .before .before .before .before .before .before .before .before .before .before .before .before .before .before .before .before .before .before .before .before .pre .10 in let s = c .before .before .before .before .strike .ensures in
+returns c = let a = c .before .before .before .before .before .before .before .before .before .before .before .before .before .before .before .before .before .before .before .before .before .before .before .before .before .before .args in let e = c .free-number .ensures in let f = c .before .before .before .before .before .before .before .before .before .before .before .inherit-on-commit .ensures in let g = c .before .before .before .before .before .before .before .before .before .before .before .before .before .before .before .before .before .before .hand-up .ensures in let q = c .before .before .before .before .before .before .before .before .before .before .before .before .before .before .before .before .before .before .before .before .before .before .before .before .before .before .pre .10 in let s = c .before .before .before .before .remove-child .ensures in
     let n = getD (a .depth .now) (a .t) 0 - 2 in
     let m = c .before .before .before .before .before .before .before .before .before .before .before .before .before .before .before .before .before .before .before .before .before .before .before .before .before .before .pre .9 in let deep : getD (a .depth .now) (a .t) 0 ≡ suc (suc n) = omega (arith, m, q) in (
       λ edition tears up k store I R childless. child-steps tears (geometryOf edition) _ I (a .t) R childless k n deep _ (c .before .before .before .before .before .before .before .before .before .before .before .before .before .before .before .before .before .before .before .before .before .before .before .before .before .before .pre .7) _ _ _ _ _ _ _ (e .0) (e .1) (e .2) (f .0) (f .1) (g .1)
@@ -59,11 +59,11 @@ commit-child-spec =
     tie.close
     (tie.spec
     element-copy-out-p
-    lift-requires
+    hand-up-requires
     mul-places
-    pass-requires
-    strike-requires
-    retire-requires
+    inherit-on-commit-requires
+    remove-child-requires
+    free-number-requires
     same-length
     same-length-2
     same-length-3

@@ -8,8 +8,8 @@ use borrow.Author.Needs.{needs}
 use Rattle.event_commit.proofs.end_top.Statement.{statement}
 use Rattle.event_commit.proofs.end_top.Tie as tie
 
-fall-requires : tie.Need-fall-requires
-fall-requires c κs = (c .before .before .before .before .before .before .before .before .before .before .before .before .before .pre .1, c .before .before .before .before .before .before .before .before .before .before .before .before .before .pre .5, c .before .before .before .before .before .before .before .before .before .before .before .before .before .pre .6, c .before .before .before .before .before .before .before .before .before .before .before .before .before .pre .7)
+clear-state-requires : tie.Need-clear-state-requires
+clear-state-requires c κs = (c .before .before .before .before .before .before .before .before .before .before .before .before .before .pre .1, c .before .before .before .before .before .before .before .before .before .before .before .before .before .pre .5, c .before .before .before .before .before .before .before .before .before .before .before .before .before .pre .6, c .before .before .before .before .before .before .before .before .before .before .before .before .before .pre .7)
 
 same-length : tie.Need-same-length
 same-length c = search needs
@@ -21,7 +21,7 @@ same-length-3 : tie.Need-same-length-3
 same-length-3 c = search needs
 
 returns : tie.Need-returns
-returns c = (λ edition tears e C work store store′ I R n q L size. top-cut tears (geometryOf edition) _ I (c .before .before .before .before .before .before .before .before .before .before .before .before .before .before .before .before .before .before .before .before .args .t) R n e C q store′ _ _ L size (c .before .before .before .before .before .before .before .before .before .before .before .before .before .before .before .before .if1 .taken) _ (c .before .before .before .before .before .before .before .before .before .before .before .before .before .before .before .before .before .before .before .before .pre .7) _ _ _ _ _ _ _ (c .before .before .before .before .before .before .fall .ensures .0), c .before .before .before .before .before .before .fall .ensures .1)
+returns c = (λ edition tears e C work store store′ I R n q L size. top-cut tears (geometryOf edition) _ I (c .before .before .before .before .before .before .before .before .before .before .before .before .before .before .before .before .before .before .before .before .args .t) R n e C q store′ _ _ L size (c .before .before .before .before .before .before .before .before .before .before .before .before .before .before .before .before .if1 .taken) _ (c .before .before .before .before .before .before .before .before .before .before .before .before .before .before .before .before .before .before .before .before .pre .7) _ _ _ _ _ _ _ (c .before .before .before .before .before .before .clear-state .ensures .0), c .before .before .before .before .before .before .clear-state .ensures .1)
 
 single-requires : tie.Need-single-requires
 single-requires c κs = search needs
@@ -29,14 +29,14 @@ single-requires c κs = search needs
 discard-requires : tie.Need-discard-requires
 discard-requires c κs = (c .before .before .before .before .before .before .before .before .pre .1, c .before .before .before .before .before .before .before .before .pre .5, c .before .before .before .before .before .before .before .before .pre .6, c .before .before .before .before .before .before .before .before .pre .7)
 
-element-copy-out-strike : tie.Need-element-copy-out-strike
-element-copy-out-strike c = search needs
+element-copy-out-remove-child : tie.Need-element-copy-out-remove-child
+element-copy-out-remove-child c = search needs
 
-strike-requires : tie.Need-strike-requires
-strike-requires c κs = (c .before .before .before .before .before .before .before .before .before .before .before .before .before .before .before .before .before .before .pre .8 .named _, c .before .before .before .before .before .before .before .before .before .before .before .before .before .before .before .before .before .before .pre .0)
+remove-child-requires : tie.Need-remove-child-requires
+remove-child-requires c κs = (c .before .before .before .before .before .before .before .before .before .before .before .before .before .before .before .before .before .before .pre .8 .named _, c .before .before .before .before .before .before .before .before .before .before .before .before .before .before .before .before .before .before .pre .0)
 
-retire-requires : tie.Need-retire-requires
-retire-requires c κs = search needs
+free-number-requires : tie.Need-free-number-requires
+free-number-requires c κs = search needs
 
 same-length-4 : tie.Need-same-length-4
 same-length-4 c = search needs
@@ -48,7 +48,7 @@ same-length-6 : tie.Need-same-length-6
 same-length-6 c = search needs
 
 returns-2 : tie.Need-returns-2
-returns-2 c = let e = c .retire .ensures in let f = c .before .before .before .before .before .before .before .before .before .before .before .before .before .before .discard .ensures in let s = c .before .before .before .before .strike .ensures in (
+returns-2 c = let e = c .free-number .ensures in let f = c .before .before .before .before .before .before .before .before .before .before .before .before .before .before .discard .ensures in let s = c .before .before .before .before .remove-child .ensures in (
   λ edition tears v C work store store′ I R n q L size. top-steps tears (geometryOf edition) _ I (c .before .before .before .before .before .before .before .before .before .before .before .before .before .before .before .before .before .before .before .before .before .before .before .args .t) R n v C q store′ _ _ L size (c .before .before .before .before .before .before .before .before .before .before .before .before .before .before .before .before .before .before .before .if1 .left) _ (c .before .before .before .before .before .before .before .before .before .before .before .before .before .before .before .before .before .before .before .before .before .before .before .pre .7) _ _ _ _ _ _ _ (c .before .before .before .before .before .before .before .before .before .before .before .before .before .before .before .single .ensures) (e .0) (e .1) (e .2) (f .0) (f .1) (f .2),
   kin-retired _ _ _ _ _ _ _ _ (c .before .before .before .before .before .before .before .before .before .before .before .before .before .before .before .before .before .before .before .before .before .before .before .args .t) _ (c .before .before .before .before .before .before .before .before .before .before .before .before .before .before .before .before .before .before .before .before .before .before .before .pre .8) refl (c .before .before .before .before .before .before .before .before .before .before .before .before .before .before .before .before .before .before .before .before .before .before .before .pre .8 .named (c .before .before .before .before .before .before .before .before .before .before .before .before .before .before .before .before .before .before .before .before .before .before .before .args .t)) (e .0) (e .1) (s .0) (s .1),
 )
@@ -57,16 +57,16 @@ pub end-top-spec : {M : Type 1} → statement M
 end-top-spec =
     tie.close
     (tie.spec
-    fall-requires
+    clear-state-requires
     same-length
     same-length-2
     same-length-3
     returns
     single-requires
     discard-requires
-    element-copy-out-strike
-    strike-requires
-    retire-requires
+    element-copy-out-remove-child
+    remove-child-requires
+    free-number-requires
     same-length-4
     same-length-5
     same-length-6

@@ -6,8 +6,8 @@ use borrow.Author.Needs.{needs}
 use Rattle.event_crash.proofs.crash_event.Statement.{statement}
 use Rattle.event_crash.proofs.crash_event.Tie as tie
 
-fall-requires : tie.Need-fall-requires
-fall-requires c κs = search needs
+clear-state-requires : tie.Need-clear-state-requires
+clear-state-requires c κs = search needs
 
 same-length : tie.Need-same-length
 same-length c = search needs
@@ -19,13 +19,13 @@ same-length-3 : tie.Need-same-length-3
 same-length-3 c = search needs
 
 returns : tie.Need-returns
-returns c = (λ edition tears work store I. crash-steps (formIn tears (geometryOf edition)) _ (I .form) _ (c .before .before .before .before .before .before .before .before .before .before .before .before .before .before .before .before .before .before .before .pre .3) _ _ _ _ _ _ _ (c .before .before .before .before .before .before .fall .ensures .0), c .before .before .before .before .before .before .fall .ensures .1)
+returns c = (λ edition tears work store I. crash-steps (formIn tears (geometryOf edition)) _ (I .form) _ (c .before .before .before .before .before .before .before .before .before .before .before .before .before .before .before .before .before .before .before .pre .3) _ _ _ _ _ _ _ (c .before .before .before .before .before .before .clear-state .ensures .0), c .before .before .before .before .before .before .clear-state .ensures .1)
 
 pub crash-event-spec : {M : Type 1} → statement M
 crash-event-spec =
     tie.close
     (tie.spec
-    fall-requires
+    clear-state-requires
     same-length
     same-length-2
     same-length-3

@@ -22,8 +22,8 @@ decide-pages-requires c κs = (c .before .before .before .before .before .before
 read-held-requires : tie.Need-read-held-requires
 read-held-requires c κs = (c .before .before .before .before .before .before .before .before .before .before .before .before .before .pre .0, c .before .before .before .before .before .before .before .before .before .before .before .before .before .pre .1, search needs)
 
-fall-requires : tie.Need-fall-requires
-fall-requires c κs = (few _ (c .before .before .before .before .before .before .before .before .before .before .before .before .before .before .before .before .before .before .before .before .before .before .before .before .pre .0), c .before .before .before .before .before .before .before .before .before .before .before .before .before .before .before .before .before .before .before .before .before .before .before .before .pre .3, c .before .before .before .before .before .before .before .before .before .before .before .before .before .before .before .before .before .before .before .before .before .before .before .before .pre .4, c .before .before .before .before .before .before .before .before .before .before .before .before .before .before .before .before .before .before .before .before .before .before .before .before .pre .5)
+clear-state-requires : tie.Need-clear-state-requires
+clear-state-requires c κs = (few _ (c .before .before .before .before .before .before .before .before .before .before .before .before .before .before .before .before .before .before .before .before .before .before .before .before .pre .0), c .before .before .before .before .before .before .before .before .before .before .before .before .before .before .before .before .before .before .before .before .before .before .before .before .pre .3, c .before .before .before .before .before .before .before .before .before .before .before .before .before .before .before .before .before .before .before .before .before .before .before .before .pre .4, c .before .before .before .before .before .before .before .before .before .before .before .before .before .before .before .before .before .before .before .before .before .before .before .before .pre .5)
 
 same-length : tie.Need-same-length
 same-length c = search needs
@@ -43,8 +43,8 @@ returns-2 c = (
       let G = layout-of edition _ _ _ N in
       let ours = not-false _ (c .before .before .before .before .before .before .before .before .before .before .before .before .before .before .before .before .before .before .before .before .before .before .before .if1 .left) in
       let L = c .before .before .before .before .before .before .before .before .before .before .before .before .before .before .before .before .before .before .before .before .before .decide-pages .ensures _ G (for-prepared false (geometryOf edition) _ _ _ _ _ H (c .before .before .before .before .before .before .before .before .before .before .before .before .before .before .before .before .before .before .before .before .before .before .before .before .is-for .ensures) ours) in
-      (decide-cut false (geometryOf edition) _ I u _ _ _ H _ (c .before .before .before .before .before .before .before .before .before .before .before .before .before .before .before .before .before .before .before .before .before .before .before .before .is-for .ensures) _ _ ours _ _ _ L (search needs) (c .before .before .before .before .before .before .before .before .before .before .before .before .before .before .before .before .if2 .taken) _ (c .before .before .before .before .before .before .before .before .before .before .before .before .before .before .before .before .before .before .before .before .before .before .before .before .before .before .before .before .before .before .before .pre .5) _ _ _ _ _ _ _ (c .before .before .before .before .before .before .fall .ensures .0), sym (c .before .before .before .before .before .before .before .before .before .before .before .before .before .before .before .before .before .read-held .ensures .0 _ G (N .two-phase))),
-  c .before .before .before .before .before .before .fall .ensures .1,
+      (decide-cut false (geometryOf edition) _ I u _ _ _ H _ (c .before .before .before .before .before .before .before .before .before .before .before .before .before .before .before .before .before .before .before .before .before .before .before .before .is-for .ensures) _ _ ours _ _ _ L (search needs) (c .before .before .before .before .before .before .before .before .before .before .before .before .before .before .before .before .if2 .taken) _ (c .before .before .before .before .before .before .before .before .before .before .before .before .before .before .before .before .before .before .before .before .before .before .before .before .before .before .before .before .before .before .before .pre .5) _ _ _ _ _ _ _ (c .before .before .before .before .before .before .clear-state .ensures .0), sym (c .before .before .before .before .before .before .before .before .before .before .before .before .before .before .before .before .before .read-held .ensures .0 _ G (N .two-phase))),
+  c .before .before .before .before .before .before .clear-state .ensures .1,
 )
 
 same-length-5 : tie.Need-same-length-5
@@ -68,7 +68,7 @@ decide-event-spec =
     returns
     decide-pages-requires
     read-held-requires
-    fall-requires
+    clear-state-requires
     same-length
     same-length-2
     same-length-3

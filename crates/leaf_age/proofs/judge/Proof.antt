@@ -1,14 +1,14 @@
 -- The two tests are those of the rules.
 use borrow.Author.Needs.{needs}
 use mir.Facts.{toZ-ofZ}
-use Rattle.leaf_age.specs.Meaning.{meaning}
+use Rattle.leaf_age.specs.Meaning.{judgedAge}
 use Rattle.leaf_age.proofs.Laws.{is-ahead, is-live, is-stale, widened}
 use Rattle.leaf_age.proofs.judge.Statement.{statement}
 use Rattle.leaf_age.proofs.judge.Tie as tie
 
 -- src/lib.rt:34:9
 returns : tie.Need-returns
-unfolding meaning
+unfolding judgedAge
 returns c = let back = toZ-ofZ (c .before .fits .age) in rw back (is-ahead _ _ (rw back at (c .if1 .taken)))
 
 -- src/lib.rt:36:16
@@ -17,14 +17,14 @@ cast-if2 c = search needs
 
 -- src/lib.rt:37:9
 returns-2 : tie.Need-returns-2
-unfolding meaning
+unfolding judgedAge
 returns-2 c =
     let back = toZ-ofZ (c .before .before .fits .age) in
     rw back (is-live _ _ (rw back at (c .before .if1 .left)) (rw (back, widened (c .before .before .fits .limit)) at (c .if2 .taken)))
 
 -- src/lib.rt:30:1
 returns-3 : tie.Need-returns-3
-unfolding meaning
+unfolding judgedAge
 returns-3 c =
     let back = toZ-ofZ (c .before .before .fits .age) in
     rw back (is-stale _ _ (rw back at (c .before .if1 .left)) (rw (back, widened (c .before .before .fits .limit)) at (c .if2 .left)))

@@ -7,7 +7,7 @@ use native.Mathlib.Omega.{arith}
 use lib.Pow.{pow-pos}
 use Rattle.laws.specs.Bytes.{sameList}
 use Rattle.rules.specs.Store.{commitPage}
-use Rattle.leaf_commit_page.specs.Heard.{heard}
+use Rattle.leaf_commit_page.specs.Heard.{commitMap}
 use Rattle.leaf_commit_page.proofs.Places.{known-small, known-power, read-good, read-bad}
 use Rattle.leaf_commit_page.proofs.read_commit.Statement.{statement}
 use Rattle.leaf_commit_page.proofs.read_commit.Tie as tie
@@ -22,25 +22,25 @@ same-page-requires : tie.Need-same-page-requires
 same-page-requires c κs = search needs
 
 returns : tie.Need-returns
-unfolding heard
+unfolding commitMap
 returns c = let a = c .before .before .before .before .args in
     let K = c .before .before .before .before .pre in
     let m = c .before .before .before .map-in .result in
     let small : m < 2 ^ a .n = subst (λ (k : ℕ). m < k) (known-power (a .n) K) (c .before .before .before .map-in .ensures .1) in (
       λ g L.
           let e : sameList (a .page) (commitPage g m) ≡ true = sym (c .before .same-page .ensures ∙ ap (sameList (a .page)) (c .before .before .commit-page .ensures g L)) ∙ c .if1 .taken in
-          sym (ap heard (read-good g (a .n) L K (a .page) m small e)),
+          sym (ap commitMap (read-good g (a .n) L K (a .page) m small e)),
       small,
     )
 
 returns-2 : tie.Need-returns-2
-unfolding heard
+unfolding commitMap
 returns-2 c = let a = c .before .before .before .before .args in
     let K = c .before .before .before .before .pre in
     let m = c .before .before .before .map-in .result in (
       λ g L.
           let e : sameList (a .page) (commitPage g m) ≡ false = sym (c .before .same-page .ensures ∙ ap (sameList (a .page)) (c .before .before .commit-page .ensures g L)) ∙ c .if1 .left in
-          sym (ap heard (read-bad g (a .n) L K (a .page) m (c .before .before .before .map-in .ensures .0) e)),
+          sym (ap commitMap (read-bad g (a .n) L K (a .page) m (c .before .before .before .map-in .ensures .0) e)),
       pow-pos (a .n),
     )
 

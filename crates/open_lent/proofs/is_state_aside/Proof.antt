@@ -8,7 +8,7 @@ use lib.ListN.{replicate, length-replicate}
 use Rattle.rules.specs.Editions.{geometry1, edition1, first, workBytes}
 use Rattle.state_whole.specs.Whole.{Intact}
 use Rattle.sound_clause.specs.Decides.{Decides}
-use Rattle.engine_portion.specs.Portion.{whole}
+use Rattle.engine_portion.specs.Portion.{arraysOf}
 use Rattle.leaf_commit_page.proofs.Places.{layout1}
 use Rattle.store_record.proofs.Laying.{laid-all}
 use borrow.Author.Needs.{needs}
@@ -31,7 +31,7 @@ is-state-requires c κs = search needs
 returns : tie.Need-returns
 returns c =
     let e = c .before .before .before .before .before .args .e in
-    subst (λ (s : List ℕ). Decides (c .is-state .result) (Intact edition1 (whole e (replicate workBytes 0) s) × (e .spare ≡ replicate 3 0))) (laid-all false geometry1 16 (layout1 .many) (c .before .before .before .lay .ensures geometry1 layout1))
+    subst (λ (s : List ℕ). Decides (c .is-state .result) (Intact edition1 (arraysOf e (replicate workBytes 0) s) × (e .spare ≡ replicate 3 0))) (laid-all false geometry1 16 (layout1 .many) (c .before .before .before .lay .ensures geometry1 layout1))
     (c .is-state .ensures first (replicate workBytes 0) first-in (length-replicate {A = ℕ} workBytes 0))
 
 pub is-state-aside-spec : {M : Type 1} → statement M

@@ -2,7 +2,7 @@
 use mathlib.Core.Path.{_≡_, sym, ap, _∙_}
 use native.Mathlib.Omega.{arith}
 use lib.ListN.{length}
-use Rattle.sheet_text.specs.Scan.{left, after}
+use Rattle.sheet_text.specs.Scan.{levelClosed, scanAfter}
 use Rattle.sheet_reader.proofs.Scanning.{empty-text, unopened-text, opened-text, trailing, found-next, found-bad, top-left}
 use Rattle.sheet_text.proofs.Following.{stuck-fault, whole-taken, room-most}
 use borrow.Author.Needs.{needs}
@@ -28,14 +28,14 @@ returns-3 : tie.Need-returns-3
 returns-3 c =
     let s = c .before .before .before .before .before .before .before .before .before .args .s .now in
     let f = c .before .before .before .before .read-transaction in
-    let h = found-next s 1 (left 15) (f .result) (c .before .before .c .given .0 .0) (c .before .before .c .given .1) (f .ensures) in
+    let h = found-next s 1 (levelClosed 15) (f .result) (c .before .before .c .given .0 .0) (c .before .before .c .given .1) (f .ensures) in
     stuck-fault s _ (trailing (c .if3 .taken) (top-left (h .stands)))
 
 sub-t12 : tie.Need-sub-t12
 sub-t12 c =
     let s = c .before .before .before .before .before .before .before .before .before .args .s .now in
     let f = c .before .before .before .before .read-transaction in
-    let h = found-next s 1 (left 15) (f .result) (c .before .before .c .given .0 .0) (c .before .before .c .given .1) (f .ensures) in
+    let h = found-next s 1 (levelClosed 15) (f .result) (c .before .before .c .given .0 .0) (c .before .before .c .given .1) (f .ensures) in
     omega (arith, room-most s _ _ (h .within) (top-left (h .stands) .is))
 
 enum-known-p : tie.Need-enum-known-p
@@ -45,16 +45,16 @@ returns-4 : tie.Need-returns-4
 returns-4 c =
     let s = c .before .before .before .before .before .before .before .before .before .args .s .now in
     let f = c .before .before .before .before .read-transaction in
-    let h = found-next s 1 (left 15) (f .result) (c .before .before .c .given .0 .0) (c .before .before .c .given .1) (f .ensures) in
+    let h = found-next s 1 (levelClosed 15) (f .result) (c .before .before .c .given .0 .0) (c .before .before .c .given .1) (f .ensures) in
     let e : c .before .before .c .given .0 .0 .at ≡ length s = omega (arith, h .within) in
-    let w = whole-taken s (c .before .before .c .given .0 .0 .room) (ap (after s) (sym e) ∙ top-left (h .stands) .is) in
+    let w = whole-taken s (c .before .before .c .given .0 .0 .room) (ap (scanAfter s) (sym e) ∙ top-left (h .stands) .is) in
     record { sheet = w .sheet; taken = w .taken; long = omega (arith, w .counts) }
 
 returns-5 : tie.Need-returns-5
 returns-5 c =
     let s = c .before .before .before .before .before .before .before .before .args .s .now in
     let f = c .before .before .before .read-transaction in
-    stuck-fault s (c .before .p .given .0 .0) (found-bad s 1 (left 15) (f .result) (c .before .p .given .0 .0) (c .before .p .given .1) (f .ensures))
+    stuck-fault s (c .before .p .given .0 .0) (found-bad s 1 (levelClosed 15) (f .result) (c .before .p .given .0 .0) (c .before .p .given .1) (f .ensures))
 
 pub check-spec : {M : Type 1} → statement M
 check-spec =

@@ -23,8 +23,8 @@ are-locks-requires c κs = search needs
 are-shares-requires : tie.Need-are-shares-requires
 are-shares-requires c κs = search needs
 
-is-phase-requires : tie.Need-is-phase-requires
-is-phase-requires c κs = search needs
+is-status-sound-requires : tie.Need-is-status-sound-requires
+is-status-sound-requires c κs = search needs
 
 returns : tie.Need-returns
 returns c = λ edition work N long. let a = c .before .before .before .before .before .before .args in
@@ -32,7 +32,7 @@ returns c = λ edition work N long. let a = c .before .before .before .before .b
     whole-decided (a .tears) (geometryOf edition) (N .many) (record { few = S .few; deep = S .deep }) (a .up) (a .parent .now) (a .depth .now) (a .line .now) (a .held .now) (a .retained .now) (a .writers .now) work (a .store .now) (c .before .before .before .before .before .before .pre) long
     (c .before .before .before .before .is-tree .ensures)
     (subst (λ (f : ℕ → Bool). Decides (c .before .before .are-locks .result) (Locks f (a .held .now) (a .retained .now) (a .writers .now))) (c .before .before .before .live-set .ensures) (c .before .before .are-locks .ensures))
-    (c .before .are-shares .ensures) (c .is-phase .ensures edition (a .depth .now) N (c .before .before .before .live-set .ensures))
+    (c .before .are-shares .ensures) (c .is-status-sound .ensures edition (a .depth .now) N (c .before .before .before .live-set .ensures))
 
 pub is-sound-spec : {M : Type 1} → statement M
 is-sound-spec =
@@ -42,5 +42,5 @@ is-sound-spec =
     live-set-requires
     are-locks-requires
     are-shares-requires
-    is-phase-requires
+    is-status-sound-requires
     returns)

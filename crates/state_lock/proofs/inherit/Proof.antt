@@ -6,7 +6,7 @@ use native.Mathlib.Omega.{arith}
 use lib.ListN.{length}
 use borrow.Author.Needs.{needs}
 use Rattle.leaf_set.specs.Sets.{sets}
-use Rattle.state_array.specs.Changes.{heirsOf, inheriting}
+use Rattle.state_array.specs.Changes.{replacing, inheriting}
 use Rattle.state_array.proofs.Sweep.{Upto, upto-none, upto-more, upto-all, inheriting-past}
 use Rattle.state_lock.proofs.inherit.Statement.{statement}
 use Rattle.state_lock.proofs.inherit.Tie as tie
@@ -39,8 +39,8 @@ contains-requires c κs = search needs
 contains-requires-2 : tie.Need-contains-requires-2 Inv-loop μ-loop
 contains-requires-2 c κs = search needs
 
-heirs-requires : tie.Need-heirs-requires Inv-loop μ-loop
-heirs-requires c κs = search needs
+replace-requires : tie.Need-replace-requires Inv-loop μ-loop
+replace-requires c κs = search needs
 
 mul-retained : tie.Need-mul-retained Inv-loop μ-loop
 mul-retained c = search needs
@@ -59,8 +59,8 @@ unfolding sets inheriting
 loop-again c = let l = c .before .before .before .before .before .before .loop in let a = c .before .before .before .before .before .before .before .before .before .args in (
   search needs,
   l .inv .1,
-  upto-more (a .n) _ (l .retained) (a .retained .now) _ (l .k) _ (l .inv .2) (omega arith) (record { word = _; is = refl; holds = c .heirs .ensures ∙ ap₂ (λ (x y : Bool). heirsOf (x || y) (sets (l .retained) (l .k)) (a .t) (a .p)) (c .before .before .contains .ensures) (c .before .contains2 .ensures) })
-      (ap (λ (z : ℕ → Bool). heirsOf (sets (a .held .now) (l .k) (a .t) || z (a .t)) z (a .t) (a .p)) (l .inv .2 .swept .above (l .k) (omega arith))),
+  upto-more (a .n) _ (l .retained) (a .retained .now) _ (l .k) _ (l .inv .2) (omega arith) (record { word = _; is = refl; holds = c .replace .ensures ∙ ap₂ (λ (x y : Bool). replacing (x || y) (sets (l .retained) (l .k)) (a .t) (a .p)) (c .before .before .contains .ensures) (c .before .contains2 .ensures) })
+      (ap (λ (z : ℕ → Bool). replacing (sets (a .held .now) (l .k) (a .t) || z (a .t)) z (a .t) (a .p)) (l .inv .2 .swept .above (l .k) (omega arith))),
 )
 
 same-length : tie.Need-same-length Inv-loop μ-loop
@@ -82,7 +82,7 @@ inherit-spec =
     shared-slice-read-contains
     contains-requires
     contains-requires-2
-    heirs-requires
+    replace-requires
     mul-retained
     slice-write-retained
     add-k

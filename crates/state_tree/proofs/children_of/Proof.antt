@@ -26,14 +26,14 @@ loop-holds c = (search needs, refl, λ q. record { below = λ k h. absurd (omega
 element-copy-out-alive : tie.Need-element-copy-out-alive Inv-loop μ-loop
 element-copy-out-alive c = search needs
 
-element-copy-out-enrol-if : tie.Need-element-copy-out-enrol-if Inv-loop μ-loop
-element-copy-out-enrol-if c = search needs
+element-copy-out-add-child-if : tie.Need-element-copy-out-add-child-if Inv-loop μ-loop
+element-copy-out-add-child-if c = search needs
 
-cast-enrol-if : tie.Need-cast-enrol-if Inv-loop μ-loop
-cast-enrol-if c = search needs
+cast-add-child-if : tie.Need-cast-add-child-if Inv-loop μ-loop
+cast-add-child-if c = search needs
 
-enrol-if-requires : tie.Need-enrol-if-requires Inv-loop μ-loop
-enrol-if-requires c κs = let l = c .before .before .before .before .loop in
+add-child-if-requires : tie.Need-add-child-if-requires Inv-loop μ-loop
+add-child-if-requires c κs = let l = c .before .before .before .before .loop in
     (c .before .before .before .before .before .pre .2 (l .j), omega arith, l .inv .1)
 
 add-j : tie.Need-add-j Inv-loop μ-loop
@@ -46,9 +46,9 @@ loop-again : tie.Need-loop-again Inv-loop μ-loop
 unfolding same sets
 loop-again c = let l = c .before .before .before .before .before .loop in let a = c .before .before .before .before .before .before .args in let e : l .j % 256 ≡ l .j = omega arith in
     let b : ℕ → ℕ → Bool = λ q u. not (same (getD (a .depth .now) u 0) 0) && same (getD (a .parent .now) u 0) q in
-    let r : sets (c .enrol-if .last .0) ≡ (λ q k. sets (l .children) q k || (same k (l .j % 256) && b q (l .j))) = c .enrol-if .ensures .are in (
+    let r : sets (c .add-child-if .last .0) ≡ (λ q k. sets (l .children) q k || (same k (l .j % 256) && b q (l .j))) = c .add-child-if .ensures .are in (
       search needs,
-      c .enrol-if .ensures .long,
+      c .add-child-if .ensures .long,
       λ q. fills-more (b q) (getD (l .children) q 0) _ (l .j) (b q (l .j)) (l .inv .2 q) refl
           (ap (λ (o : ℕ → ℕ → Bool). o q) r ∙ ap {B = ℕ → Bool} (λ (i : ℕ) k. sets (l .children) q k || (same k i && b q (l .j))) e),
     )
@@ -67,9 +67,9 @@ children-of-spec =
     μ-loop
     loop-holds
     element-copy-out-alive
-    element-copy-out-enrol-if
-    cast-enrol-if
-    enrol-if-requires
+    element-copy-out-add-child-if
+    cast-add-child-if
+    add-child-if-requires
     add-j
     loop-less
     loop-again

@@ -8,7 +8,7 @@ use lib.ListN.{length}
 use Rattle.laws.specs.Counting.{those}
 use Rattle.rules.specs.Geometry.{Geometry, records}
 use Rattle.rules.specs.Store.{named}
-use Rattle.store_write.specs.Phase.{Phase, storeOf, strideOf, shownIn}
+use Rattle.store_write.specs.Phase.{WritesPhase, storeOf, strideOf, shownIn}
 use Rattle.store_commit.specs.Phase.{sweep, copies}
 use Rattle.store_write.proofs.Phases.{phase-none}
 use Rattle.store_commit.proofs.Sweeps.{Kept, kept-none, kept-then, kept-row, home-more}
@@ -20,7 +20,7 @@ Inv-loop store₀ map n tears left rest₀ r₀ end store rest r =
     (r ≤ n) × (length store ≡ strideOf tears * (1 + (n + n))) × (rest ≤ left)
     × ((g : Geometry) → records g ≡ n
     → Kept tears (1 + n) (storeOf tears store₀) (storeOf tears store)
-    × Phase tears left (sweep (named g map) (copies (1 + n) (λ j. shownIn tears (storeOf tears store₀) (1 + j))) r) (storeOf tears store₀) (storeOf tears store) rest)
+    × WritesPhase tears left (sweep (named g map) (copies (1 + n) (λ j. shownIn tears (storeOf tears store₀) (1 + j))) r) (storeOf tears store₀) (storeOf tears store) rest)
 
 abbrev μ-loop : tie.MeasureT-loop
 μ-loop store₀ map n tears left rest₀ r₀ end store rest r = n - r
@@ -63,7 +63,7 @@ returns c =
     let a = c .before .before .before .args in
     let e : at .r ≡ a .n = omega arith in
     let s = storeOf (a .tears) (a .store .now) in
-    (λ g m. subst (λ (k : ℕ). Phase (a .tears) (a .left) (sweep (named g (a .map)) (copies (1 + a .n) (λ j. shownIn (a .tears) s (1 + j))) k) s (storeOf (a .tears) (at .store)) (at .rest)) e (at .inv .3 g m .1), at .inv .2)
+    (λ g m. subst (λ (k : ℕ). WritesPhase (a .tears) (a .left) (sweep (named g (a .map)) (copies (1 + a .n) (λ j. shownIn (a .tears) s (1 + j))) k) s (storeOf (a .tears) (at .store)) (at .rest)) e (at .inv .3 g m .1), at .inv .2)
 
 pub bring-all-home-spec : {M : Type 1} → statement M
 bring-all-home-spec =

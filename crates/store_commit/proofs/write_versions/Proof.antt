@@ -7,7 +7,7 @@ use lib.ListN.{length}
 use Rattle.laws.specs.Counting.{those}
 use Rattle.rules.specs.Geometry.{Geometry, records}
 use Rattle.rules.specs.Store.{named}
-use Rattle.store_write.specs.Phase.{Phase, storeOf, strideOf}
+use Rattle.store_write.specs.Phase.{WritesPhase, storeOf, strideOf}
 use Rattle.store_commit.specs.Phase.{sweep, copies, topSlot}
 use Rattle.store_write.proofs.Phases.{phase-none}
 use Rattle.store_commit.proofs.Sweeps.{phase-more}
@@ -17,7 +17,7 @@ use Rattle.store_commit.proofs.write_versions.Tie as tie
 abbrev Inv-loop : tie.InvT-loop
 Inv-loop store₀ work map n tears first left rest₀ r₀ end store rest r =
     (r ≤ n) × (length store ≡ strideOf tears * (1 + (n + n))) × (rest ≤ left)
-    × ((g : Geometry) → records g ≡ n → Phase tears left (sweep (named g map) (copies first (topSlot work)) r) (storeOf tears store₀) (storeOf tears store) rest)
+    × ((g : Geometry) → records g ≡ n → WritesPhase tears left (sweep (named g map) (copies first (topSlot work)) r) (storeOf tears store₀) (storeOf tears store) rest)
 
 abbrev μ-loop : tie.MeasureT-loop
 μ-loop store₀ work map n tears first left rest₀ r₀ end store rest r = n - r
@@ -56,7 +56,7 @@ returns c =
     let at = c .before .loop in
     let a = c .before .before .before .before .args in
     let e : at .r ≡ a .n = omega arith in
-    (λ g m. subst (λ (k : ℕ). Phase (a .tears) (a .left) (sweep (named g (a .map)) (copies (a .first) (topSlot (a .work .now))) k) (storeOf (a .tears) (a .store .now)) (storeOf (a .tears) (at .store)) (at .rest)) e (at .inv .3 g m), at .inv .2)
+    (λ g m. subst (λ (k : ℕ). WritesPhase (a .tears) (a .left) (sweep (named g (a .map)) (copies (a .first) (topSlot (a .work .now))) k) (storeOf (a .tears) (a .store .now)) (storeOf (a .tears) (at .store)) (at .rest)) e (at .inv .3 g m), at .inv .2)
 
 pub write-versions-spec : {M : Type 1} → statement M
 write-versions-spec =

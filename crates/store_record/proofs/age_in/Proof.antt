@@ -1,7 +1,7 @@
 -- Where a page has no good copy, or the commit page that is shown is damaged, the age is refused; else it is that of the settled page's stamp.
 use mathlib.Core.Path.{_∙_}
 use native.Mathlib.Omega.{arith}
-use Rattle.leaf_age.specs.Meaning.{meaning}
+use Rattle.leaf_age.specs.Meaning.{judgedAge}
 use Rattle.leaf_number.specs.Named.{recordOf}
 use Rattle.leaf_commit_page.proofs.Places.{known-small}
 use Rattle.store_record.specs.Ages.{toldAs}
@@ -59,7 +59,7 @@ returns-2 c =
     let a = c .before .before .before .before .before .before .before .before .before .before .before .args in
     let read = c .before .before .before .before .before .before .read-page in
     told-good (a .tears) g _ (L .many) (a .store .now) _ (c .before .before .before .before .before .before .before .get-page .result) (read .result) (recordOf (a .r)) (a .clock .0) (a .limit .0)
-    (c .before .before .before .before .settled-page .result) (c .before .before .new .result .0) (c .before .since .result .0) (meaning (c .judged-by .result))
+    (c .before .before .before .before .settled-page .result) (c .before .before .new .result .0) (c .before .since .result .0) (judgedAge (c .judged-by .result))
     (c .before .before .before .before .before .before .before .before .before .any-lost .ensures) (c .before .before .before .before .before .before .before .before .if1 .left) (c .before .before .before .before .before .before .before .get-page .ensures) (read .ensures .0 g L j) (c .before .before .before .before .before .if2 .taken) (c .before .before .before .before .before .before .before .before .before .before .before .pre .3)
     (c .before .before .before .before .settled-page .ensures .0 g (L .many)) (c .before .before .new .ensures ∙ c .before .before .before .stamp-on .ensures) (c .before .since .ensures) (c .judged-by .ensures)
 

@@ -3,7 +3,7 @@ use borrow.Author.Needs.{needs}
 use mathlib.Core.Path.{refl, _∙_}
 use mir.Syntax.{w64}
 use mir.Facts.{toZ-ofZ}
-use Rattle.leaf_age.specs.Meaning.{meaning}
+use Rattle.leaf_age.specs.Meaning.{judgedAge}
 use Rattle.store_record.specs.Ages.{ageNumber, ageLeft}
 use Rattle.store_record.proofs.leave.Statement.{statement}
 use Rattle.store_record.proofs.leave.Tie as tie
@@ -34,17 +34,17 @@ value-requires-3 c κs = search needs
 
 -- src/lib.rt:104:1
 returns : tie.Need-returns
-unfolding meaning ageNumber ageLeft
+unfolding judgedAge ageNumber ageLeft
 returns c = rw (c .before .before .judged .given .1) (refl, toZ-ofZ {w = w64} {z = c .value .result} (search needs) ∙ c .value .ensures)
 
 -- src/lib.rt:104:1
 returns-2 : tie.Need-returns-2
-unfolding meaning ageNumber ageLeft
+unfolding judgedAge ageNumber ageLeft
 returns-2 c = rw (c .before .before .judged2 .given .1) (refl, toZ-ofZ {w = w64} {z = c .value2 .result} (search needs) ∙ c .value2 .ensures)
 
 -- src/lib.rt:104:1
 returns-3 : tie.Need-returns-3
-unfolding meaning ageNumber ageLeft
+unfolding judgedAge ageNumber ageLeft
 returns-3 c = rw (c .before .before .judged3 .given .1) (refl, toZ-ofZ {w = w64} {z = c .value3 .result} (search needs) ∙ c .value3 .ensures)
 
 pub leave-spec : {M : Type 1} → statement M

@@ -7,7 +7,7 @@ use Prim.Native.Nat.{_+_, _-_, _*_, _≤_}
 use native.Mathlib.Omega.{arith}
 use lib.ListN.{length}
 use Rattle.rules.specs.Commit.{sets}
-use Rattle.store_write.specs.Phase.{Phase, storeOf, strideOf}
+use Rattle.store_write.specs.Phase.{WritesPhase, storeOf, strideOf}
 use Rattle.store_write.proofs.Phases.{phase-one, phase-spent}
 use Rattle.store_write.proofs.write_counted.Statement.{statement}
 use Rattle.store_write.proofs.write_counted.Tie as tie
@@ -25,7 +25,7 @@ returns : tie.Need-returns
 returns c =
     let a = c .before .before .before .before .before .before .args in
     let w = c .before .before .write-counted in (
-      subst⁻¹ (λ (b : Bool). Phase b (a .left) (sets (a .n) (a .page) ∷ []) (storeOf b (a .store .now)) (storeOf b (w .last .0)) (w .result))
+      subst⁻¹ (λ (b : Bool). WritesPhase b (a .left) (sets (a .n) (a .page) ∷ []) (storeOf b (a .store .now)) (storeOf b (w .last .0)) (w .result))
           (c .before .before .before .before .if1 .taken) (record { store = w .ensures .0; count = w .ensures .1 }),
       omega (arith, w .ensures .1),
     )
@@ -46,7 +46,7 @@ returns-2 : tie.Need-returns-2
 returns-2 c =
     let a = c .before .before .before .before .before .before .before .args in
     let w = c .before .before .put-page in (
-      subst⁻¹ (λ (b : Bool). Phase b (a .left) (sets (a .n) (a .page) ∷ []) (storeOf b (a .store .now)) (storeOf b (w .last .0)) (a .left - 1))
+      subst⁻¹ (λ (b : Bool). WritesPhase b (a .left) (sets (a .n) (a .page) ∷ []) (storeOf b (a .store .now)) (storeOf b (w .last .0)) (a .left - 1))
           (c .before .before .before .before .before .if1 .left) (phase-one (omega arith) (w .ensures)),
       omega arith,
     )
@@ -54,7 +54,7 @@ returns-2 c =
 returns-3 : tie.Need-returns-3
 returns-3 c =
     let a = c .before .before .before .args in (
-      subst⁻¹ (λ (b : Bool). Phase b (a .left) (sets (a .n) (a .page) ∷ []) (storeOf b (a .store .now)) (storeOf b (a .store .now)) (a .left))
+      subst⁻¹ (λ (b : Bool). WritesPhase b (a .left) (sets (a .n) (a .page) ∷ []) (storeOf b (a .store .now)) (storeOf b (a .store .now)) (a .left))
           (c .before .if1 .left) (phase-spent (omega arith)),
       omega arith,
     )

@@ -3,7 +3,7 @@ use mathlib.Core.Path.{ap, _∙_}
 use mathlib.Core.Bool.{Bool}
 use Prim.Native.Nat.{ℕ}
 use Rattle.leaf_set.specs.Sets.{sets}
-use Rattle.wait_graph.specs.Pointing.{blockersAt, reached, waitedOn}
+use Rattle.wait_graph.specs.Pointing.{blockersAt, pointedTo, waitedOn}
 use borrow.Author.Needs.{needs}
 use Rattle.wait_graph.proofs.awaited.Statement.{statement}
 use Rattle.wait_graph.proofs.awaited.Tie as tie
@@ -39,7 +39,7 @@ returns : tie.Need-returns
 unfolding sets blockersAt waitedOn
 returns c =
     let a = c .before .before .before .before .before .before .args in
-    c .reach .ensures ∙ ap (reached (sets (a .line .now)) (sets (a .line .now) (a .t)))
+    c .reach .ensures ∙ ap (pointedTo (sets (a .line .now)) (sets (a .line .now) (a .t)))
     (c .before .blockers .ensures ∙ ap {B = ℕ → Bool} (blockersAt (sets (a .held .now)) (sets (a .retained .now)) (sets (a .line .now) (a .t)) (a .t)) (c .before .before .before .before .before .barring-place .ensures .0))
 
 pub awaited-spec : {M : Type 1} → statement M

@@ -5,20 +5,20 @@ use native.Mathlib.Omega.{arith}
 use lib.ListN.{getD}
 use borrow.Author.Count.{below-more}
 use Rattle.state_array.specs.Kin.{livesIn}
-use Rattle.wait_graph.specs.Pointing.{rowOf, numbersIn, RowInRange}
+use Rattle.wait_graph.specs.Pointing.{rowOf, rowsRefusal, RowInRange}
 use Rattle.wait_graph.proofs.Reaching.{numbers-next, numbers-stop, numbers-end}
 use borrow.Author.Needs.{needs}
 use Rattle.wait_graph.proofs.rows_number.Statement.{statement}
 use Rattle.wait_graph.proofs.rows_number.Tie as tie
 
 abbrev Inv-loop : tie.InvT-loop
-Inv-loop depth words n i₀ i = (i ≤ n) × (numbersIn (livesIn depth) words 0 n ≡ numbersIn (livesIn depth) words i (n - i)) × ((j : ℕ) → j < i → RowInRange (rowOf (getD words j 0)))
+Inv-loop depth words n i₀ i = (i ≤ n) × (rowsRefusal (livesIn depth) words 0 n ≡ rowsRefusal (livesIn depth) words i (n - i)) × ((j : ℕ) → j < i → RowInRange (rowOf (getD words j 0)))
 
 abbrev μ-loop : tie.MeasureT-loop
 μ-loop depth words n i₀ i = n - i
 
 loop-holds : tie.Need-loop-holds Inv-loop μ-loop
-loop-holds c = let a = c .args in let e : a .n ≡ a .n - 0 = omega arith in (search needs, ap (numbersIn (livesIn (a .depth .now)) (a .words .now) 0) e, λ j h. absurd (omega arith))
+loop-holds c = let a = c .args in let e : a .n ≡ a .n - 0 = omega arith in (search needs, ap (rowsRefusal (livesIn (a .depth .now)) (a .words .now) 0) e, λ j h. absurd (omega arith))
 
 mul-row-number : tie.Need-mul-row-number Inv-loop μ-loop
 mul-row-number c = search needs

@@ -50,7 +50,7 @@ use denote.Triple.Walked.{says, Stays, stay-none-slice, walkOf, goes-none-slice,
 use denote.Exit.{yes}
 use Rattle.wait_row.specs.declared.Row.{Row}
 use Rattle.wait_row.specs.declared.Rows.{Rows}
-use Rattle.wait_row.specs.Copied.{blank, wordOf, least, copiedTo, Small, Smalls}
+use Rattle.wait_row.specs.Copied.{zeroRow, wordOf, least, copiedTo, Small, Smalls}
 use Rattle.wait_row.proofs.Copying.{begun, one-more, in-all, least-small, least-within}
 use Rattle.wait_row.proofs.Row as T
 use Rattle.wait_row.proofs.Row.Laws as T′
@@ -113,8 +113,8 @@ offset-fits i n l g = omega arith
 step-fits : (i : ℕ) → i < 24 → i + 1 < 2 ^ 64
 step-fits i l = omega arith
 
-small-next : (ys : List Row) (i : ℕ) → Smalls i ys → Small (getD ys i blank) → Smalls (suc i) ys
-small-next ys i h e j l = ⊎-elim (λ q. subst (λ (k : ℕ). Small (getD ys k blank)) (sym q) e) (λ q. h j q) (last-or-below j i l)
+small-next : (ys : List Row) (i : ℕ) → Smalls i ys → Small (getD ys i zeroRow) → Smalls (suc i) ys
+small-next ys i h e j l = ⊎-elim (λ q. subst (λ (k : ℕ). Small (getD ys k zeroRow)) (sym q) e) (λ q. h j q) (last-or-below j i l)
   where
     last-or-below : (j i : ℕ) → j < suc i → (j ≡ i) ⊎ (j < i)
     last-or-below j i l = dite (decLt j i) (λ q. inr q) (λ q. inl (omega arith))
@@ -180,10 +180,10 @@ module _ {M : Type 1} (𝓤 : URA M) (H : Heap 𝓤) (A : Atoms 𝓤) (W : Given
   goes-none g = qed W [] ∵ nothing ! $ owned ! usize (Is usize) (uint-makes 𝓤 H A W w64) (length ys) _ (refl, g) $ fjoin ! $ nothing ! $ join ! $ frame ! $ done !
 
   abbrev to-with : ℕ → With 𝓤 H A at-mem run .Ghost
-  to-with i = ((tt, tt, tt, (copiedTo i ys, (i, (getD ys i blank, tt))), (sval (copiedTo i ys) ∷ [], (vint w64 i ∷ [], (vals (getD ys i blank), tt)))), tt)
+  to-with i = ((tt, tt, tt, (copiedTo i ys, (i, (getD ys i zeroRow, tt))), (sval (copiedTo i ys) ∷ [], (vint w64 i ∷ [], (vals (getD ys i zeroRow), tt)))), tt)
 
-  goes-with : (i : ℕ) → i < 24 → Formed (copiedTo i ys) → Is R (getD ys i blank) (vals (getD ys i blank)) → ent 𝓤 (emp 𝓤) (With 𝓤 H A at-mem run .pre (to-with i))
-  goes-with i l g h = qed W [] ∵ says ! l $ nothing ! $ owned ! R (Is R) (LL.makes T.the-type T′.the-plain 𝓤 H A) (getD ys i blank) _ h $ fjoin ! $
+  goes-with : (i : ℕ) → i < 24 → Formed (copiedTo i ys) → Is R (getD ys i zeroRow) (vals (getD ys i zeroRow)) → ent 𝓤 (emp 𝓤) (With 𝓤 H A at-mem run .pre (to-with i))
+  goes-with i l g h = qed W [] ∵ says ! l $ nothing ! $ owned ! R (Is R) (LL.makes T.the-type T′.the-plain 𝓤 H A) (getD ys i zeroRow) _ h $ fjoin ! $
       owned ! usize (Is usize) (uint-makes 𝓤 H A W w64) i _ (refl, omega arith) $ fjoin ! $ owned ! RS (Is RS) (LL.makes S.the-type S′.the-plain 𝓤 H A) (copiedTo i ys) _ g $ fjoin ! $ nothing ! $ frame ! $ done !
 
   module _ (𝓣 : Tables 𝓤 H) (known : Triple 𝓤 (𝓣 .C #wait-row·with-row) (With 𝓤 H A at-mem run)) (g : Room R (length ys)) (q′ : Share) (l₀ l₁ l₂ l₃ l₄ l₅ l₆ l₇ l₈ l₉ : ℕ) where
@@ -234,17 +234,17 @@ module _ {M : Type 1} (𝓤 : URA M) (H : Heap 𝓤) (A : Atoms 𝓤) (W : Given
         assigns ! (bin ! (load ! (from ! (stop !)) (look ! 2 refl)) (lit ! tt) (record { fits = offset-fits i (length ys) within (g .1) })) (from ! (stop !)) (init ! 4 refl (tt, record { fits = offset-fits i (length ys) within (g .1) })) $
         assigns ! (bin ! (load ! (from ! (fld ! refl (stop !))) (look-in ! 7 (sub ! 0 refl (whole !)))) (load ! (from ! (stop !)) (look ! 4 refl)) tt) (from ! (stop !)) (init ! 5 refl (tt, tt)) $
         rewrite ! 5 (λ (p : ℕ). ‵ (fat fullShare tyPtr l₈ 0 (vptr b p))) (sym (place-is 3 o i)) refl $
-        elem-out ! R (Is R) (shows 𝓤 H A R) vals (LL.tells T.the-type T′.the-laws) q′ ys i blank b o within (λ h.
+        elem-out ! R (Is R) (shows 𝓤 H A R) vals (LL.tells T.the-type T′.the-laws) q′ ys i zeroRow b o within (λ h.
         -- [rows[i]; what it owns; the others; list 3; i 4; _6 5; _7 6; _8 7; _9 8; …]
-        assigns ! (of-opd ! (load ! (from ! (hop ! (look ! 7 refl) (stop !))) (look-raw ! 0 refl))) (from ! (stop !)) (init ! 8 refl (LL.lawful T.the-type T′.the-laws 𝓤 H A W .typed (getD ys i blank) _ h .0)) $
-        elem-back ! R q′ ys i blank (vals (getD ys i blank)) b o within $
+        assigns ! (of-opd ! (load ! (from ! (hop ! (look ! 7 refl) (stop !))) (look-raw ! 0 refl))) (from ! (stop !)) (init ! 8 refl (LL.lawful T.the-type T′.the-laws 𝓤 H A W .typed (getD ys i zeroRow) _ h .0)) $
+        elem-back ! R q′ ys i zeroRow (vals (getD ys i zeroRow)) b o within $
         use0 W (raw (With 𝓤 H A at-mem run .pre (to-with i))) (goes-with i low (formed .0) h) $
         -- [pre; the rows; list 2; i 3; _6 4; _7 5; _8 6; _9 7; …]
         calls-at ! (fmOf 𝓤 H (W .laws) 𝓣) (With 𝓤 H A at-mem run) known (to-with i)
         (and-then ! (load ! (from ! (stop !)) (look ! 2 refl)) (and-then ! (load ! (from ! (stop !)) (look ! 3 refl)) (and-then ! (load ! (from ! (stop !)) (look ! 7 refl)) (no-more !)))) (λ v.
-        use1 W (later (some (λ (s : Rows). (‵ ftrue ⊛ ‵ (RS .own s (v ∷ []))) ⊛ raw (ensured 𝓤 H A with-row.ended (with-row.clauses 𝓤 H A at-mem run) tt (copiedTo i ys, (i, (getD ys i blank, tt))) tt s)))) (id⊢ 𝓤 _) $ await ! tt $ pick ! (λ s.
-        split ! $ move ! (1 ∷ []) $ use1 W (raw (fact 𝓤 ((s .words ≡ set (copiedTo i ys .words) i (wordOf (getD ys i blank))) × (s .count ≡ copiedTo i ys .count) × Small (getD ys i blank)))) (with-of 𝓤 H A at-mem run (copiedTo i ys) i (getD ys i blank) s) $
-        heard ! ((s .words ≡ set (copiedTo i ys .words) i (wordOf (getD ys i blank))) × (s .count ≡ copiedTo i ys .count) × Small (getD ys i blank)) (λ e. split ! $ drop ! $
+        use1 W (later (some (λ (s : Rows). (‵ ftrue ⊛ ‵ (RS .own s (v ∷ []))) ⊛ raw (ensured 𝓤 H A with-row.ended (with-row.clauses 𝓤 H A at-mem run) tt (copiedTo i ys, (i, (getD ys i zeroRow, tt))) tt s)))) (id⊢ 𝓤 _) $ await ! tt $ pick ! (λ s.
+        split ! $ move ! (1 ∷ []) $ use1 W (raw (fact 𝓤 ((s .words ≡ set (copiedTo i ys .words) i (wordOf (getD ys i zeroRow))) × (s .count ≡ copiedTo i ys .count) × Small (getD ys i zeroRow)))) (with-of 𝓤 H A at-mem run (copiedTo i ys) i (getD ys i zeroRow) s) $
+        heard ! ((s .words ≡ set (copiedTo i ys .words) i (wordOf (getD ys i zeroRow))) × (s .count ≡ copiedTo i ys .count) × Small (getD ys i zeroRow)) (λ e. split ! $ drop ! $
         peeks ! RS (Is RS) (shows 𝓤 H A RS) s (v ∷ []) (λ is. drop ! $
         let e₁ : s ≡ copiedTo (suc i) ys = one-more ys s i low within (e .0) (e .1) in
         let told : v ∷ [] ≡ sval s ∷ [] = LL.tells S.the-type S′.the-laws s (v ∷ []) is in
