@@ -29,7 +29,9 @@ returns c = (rw (c .if1 .taken, same-refl 0), rw (c .if1 .taken, same-refl 0))
 
 -- src/lib.rt:92:19
 within-requires : tie.Need-within-requires
-within-requires c κs = (c .before .before .pre .1 (c .before .before .args .t), c .before .before .pre .4)
+within-requires c κs =
+    let entry = c .before .before in
+    (entry .pre .1 (entry .args .t), entry .pre .4)
 
 -- src/lib.rt:93:9
 end-requires : tie.Need-end-requires
@@ -38,12 +40,25 @@ end-requires c κs = search needs
 -- src/lib.rt:84:1
 returns-2 : tie.Need-returns-2
 unfolding takes same
-returns-2 c = let a = c .before .before .before .before .before .before .before .args in let i = getD (a .bearer .now) (a .t) 0 in let z = ne-false i 0 (c .before .before .before .before .before .if1 .left) in let h : takes (a .parent .now) (a .a) i ≡ true = ap (λ (b : Bool). same (a .a) 0 || b) (sym (c .before .before .before .before .within .ensures)) ∙ c .before .before .before .if2 .taken in (rw (z, h) (c .end .ensures .0), rw (z, h) (c .end .ensures .1))
+returns-2 c =
+    let if1 = c .before .before .before .before .before .if1 in
+    let within = c .before .before .before .before .within in
+    let if2 = c .before .before .before .if2 in
+    let a = c .before .before .before .before .before .before .before .args in
+    let i = getD (a .bearer .now) (a .t) 0 in
+    let z = ne-false i 0 (if1 .left) in
+    let h : takes (a .parent .now) (a .a) i ≡ true = ap (λ (b : Bool). same (a .a) 0 || b) (sym (within .ensures)) ∙ if2 .taken in
+    (rw (z, h) (c .end .ensures .0), rw (z, h) (c .end .ensures .1))
 
 -- src/lib.rt:84:1
 returns-3 : tie.Need-returns-3
 unfolding takes same
-returns-3 c = let a = c .before .before .before .before .args in let i = getD (a .bearer .now) (a .t) 0 in let z = ne-false i 0 (c .before .before .if1 .left) in let h : takes (a .parent .now) (a .a) i ≡ false = ap (λ (b : Bool). same (a .a) 0 || b) (sym (c .before .within .ensures)) ∙ c .if2 .left in (rw (z, h), rw (z, h))
+returns-3 c =
+    let a = c .before .before .before .before .args in
+    let i = getD (a .bearer .now) (a .t) 0 in
+    let z = ne-false i 0 (c .before .before .if1 .left) in
+    let h : takes (a .parent .now) (a .a) i ≡ false = ap (λ (b : Bool). same (a .a) 0 || b) (sym (c .before .within .ensures)) ∙ c .if2 .left in
+    (rw (z, h), rw (z, h))
 
 pub end-if-spec : {M : Type 1} → statement M
 end-if-spec =

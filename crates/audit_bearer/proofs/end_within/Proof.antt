@@ -25,7 +25,10 @@ loop-holds c = (omega arith, c .pre .0, c .pre .1, c .pre .2, λ n k S. (ending-
 
 -- src/lib.rt:103:9
 end-if-requires : tie.Need-end-if-requires Inv-loop μ-loop
-end-if-requires c κs = (omega arith, c .before .before .before .loop .inv .1, c .before .before .before .loop .inv .2, c .before .before .before .loop .inv .3, c .before .before .before .before .pre .3)
+end-if-requires c κs =
+    let entry = c .before .before .before .before in
+    let loop = c .before .before .before .loop in
+    (omega arith, loop .inv .1, loop .inv .2, loop .inv .3, entry .pre .3)
 
 -- src/lib.rt:102:9
 add-t : tie.Need-add-t Inv-loop μ-loop
@@ -37,7 +40,13 @@ loop-less c = search needs
 
 -- src/lib.rt:102:5
 loop-again : tie.Need-loop-again Inv-loop μ-loop
-loop-again c = let o = c .before .before .before .before .loop in let a = c .before .before .before .before .before .args in let e = c .end-if .ensures in let i : ℕ = getD (o .bearer) (o .t) 0 in let b : Bool = not (same i 0) && takes (a .parent .now) (a .a) i in (omega arith, (λ u. rw (e .1) (cond-small b (o .bearer) (o .t) u 4097 (omega arith) (omega (arith, o .inv .2)) (o .inv .1))), rw (e .1) (cond-length b (o .bearer) (o .t) 0 ∙ o .inv .2), rw (e .0) (cond-length b (o .fate) i 0 ∙ o .inv .3), λ n k S. let I = o .inv .4 n k S in ending-more (takes (a .parent .now) (a .a)) S k (o .t) (omega arith) (I .0) (I .1) _ _ (e .0) (e .1))
+loop-again c =
+    let o = c .before .before .before .before .loop in
+    let a = c .before .before .before .before .before .args in
+    let e = c .end-if .ensures in
+    let i : ℕ = getD (o .bearer) (o .t) 0 in
+    let b : Bool = not (same i 0) && takes (a .parent .now) (a .a) i in
+    (omega arith, (λ u. rw (e .1) (cond-small b (o .bearer) (o .t) u 4097 (omega arith) (omega (arith, o .inv .2)) (o .inv .1))), rw (e .1) (cond-length b (o .bearer) (o .t) 0 ∙ o .inv .2), rw (e .0) (cond-length b (o .fate) i 0 ∙ o .inv .3), λ n k S. let I = o .inv .4 n k S in ending-more (takes (a .parent .now) (a .a)) S k (o .t) (omega arith) (I .0) (I .1) _ _ (e .0) (e .1))
 
 -- src/lib.rt:98:1
 returns : tie.Need-returns Inv-loop μ-loop

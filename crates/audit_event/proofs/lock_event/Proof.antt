@@ -16,7 +16,9 @@ barred-requires c κs = search needs
 
 returns : tie.Need-returns
 unfolding same
-returns c = λ start bearer store begun t B R alone. let a = c .before .before .before .before .args in lock-8 start (a .owner .now) (a .parent .now) (a .fate .now) bearer (a .events .now) store begun (a .n) t (a .me) R alone (a .r) (accessOf (a .value)) (lock-told start (a .owner .now) (a .parent .now) (a .fate .now) bearer (a .events .now) store begun (a .n) t (a .me) (a .r) (a .value) (c .before .barred .result) (c .before .barred .ensures _ (linked (a .owner .now) (a .parent .now) (a .fate .now) bearer (a .events .now) begun (a .n) true)) ∙ c .if1 .taken) B
+returns c =
+    let entry = c .before .before .before .before in
+    λ start bearer store begun t B R alone. let a = entry .args in lock-8 start (a .owner .now) (a .parent .now) (a .fate .now) bearer (a .events .now) store begun (a .n) t (a .me) R alone (a .r) (accessOf (a .value)) (lock-told start (a .owner .now) (a .parent .now) (a .fate .now) bearer (a .events .now) store begun (a .n) t (a .me) (a .r) (a .value) (c .before .barred .result) (c .before .barred .ensures _ (linked (a .owner .now) (a .parent .now) (a .fate .now) bearer (a .events .now) begun (a .n) true)) ∙ c .if1 .taken) B
 
 cast-owner : tie.Need-cast-owner
 cast-owner c = search needs
@@ -29,7 +31,9 @@ element-write-owner c = search needs
 
 returns-2 : tie.Need-returns-2
 unfolding same
-returns-2 c = λ start bearer store begun t B R alone. let a = c .before .before .before .before .args in let e : a .me % 65536 ≡ a .me = omega (arith, c .before .before .before .before .pre .4) in rw e (lock-0 start (a .owner .now) (a .parent .now) (a .fate .now) bearer (a .events .now) store begun (a .n) t (a .me) R alone (a .r) (accessOf (a .value)) (lock-told start (a .owner .now) (a .parent .now) (a .fate .now) bearer (a .events .now) store begun (a .n) t (a .me) (a .r) (a .value) (c .before .barred .result) (c .before .barred .ensures _ (linked (a .owner .now) (a .parent .now) (a .fate .now) bearer (a .events .now) begun (a .n) true)) ∙ c .if1 .left) B (c .before .before .before .before .pre .1))
+returns-2 c =
+    let entry = c .before .before .before .before in
+    λ start bearer store begun t B R alone. let a = entry .args in let e : a .me % 65536 ≡ a .me = omega (arith, entry .pre .4) in rw e (lock-0 start (a .owner .now) (a .parent .now) (a .fate .now) bearer (a .events .now) store begun (a .n) t (a .me) R alone (a .r) (accessOf (a .value)) (lock-told start (a .owner .now) (a .parent .now) (a .fate .now) bearer (a .events .now) store begun (a .n) t (a .me) (a .r) (a .value) (c .before .barred .result) (c .before .barred .ensures _ (linked (a .owner .now) (a .parent .now) (a .fate .now) bearer (a .events .now) begun (a .n) true)) ∙ c .if1 .left) B (entry .pre .1))
 
 pub lock-event-spec : {M : Type 1} → statement M
 lock-event-spec =

@@ -23,10 +23,15 @@ array-read-t17 : tie.Need-array-read-t17
 array-read-t17 c = search needs
 
 returns : tie.Need-returns
-returns c = λ bearer store begun t B R alone. let a = c .before .before .before .before .before .before .args in read-0 (settledIn edition1 (a .start .now)) (a .owner .now) (a .parent .now) (a .fate .now) bearer (a .events .now) store begun (a .n) t (a .me) R alone (a .r) (a .o) _ (read-told (settledIn edition1 (a .start .now)) (a .owner .now) (a .parent .now) (a .fate .now) bearer (a .events .now) store begun (a .n) t (a .me) (a .r) (c .before .before .before .holds .result) (c .before .before .before .holds .ensures) ∙ c .before .before .if1 .taken) (read-byte (settledIn edition1 (a .start .now)) (a .owner .now) (a .parent .now) (a .fate .now) bearer (a .events .now) store begun (a .n) t (a .me) (a .r) (a .o) (c .page-of .result) (c .before .settled-page .result) (c .page-of .ensures _ (linked (a .owner .now) (a .parent .now) (a .fate .now) bearer (a .events .now) begun (a .n) true)) (c .before .settled-page .ensures)) B
+returns c =
+    let entry = c .before .before .before .before .before .before in
+    let holds = c .before .before .before .holds in
+    λ bearer store begun t B R alone. let a = entry .args in read-0 (settledIn edition1 (a .start .now)) (a .owner .now) (a .parent .now) (a .fate .now) bearer (a .events .now) store begun (a .n) t (a .me) R alone (a .r) (a .o) _ (read-told (settledIn edition1 (a .start .now)) (a .owner .now) (a .parent .now) (a .fate .now) bearer (a .events .now) store begun (a .n) t (a .me) (a .r) (holds .result) (holds .ensures) ∙ c .before .before .if1 .taken) (read-byte (settledIn edition1 (a .start .now)) (a .owner .now) (a .parent .now) (a .fate .now) bearer (a .events .now) store begun (a .n) t (a .me) (a .r) (a .o) (c .page-of .result) (c .before .settled-page .result) (c .page-of .ensures _ (linked (a .owner .now) (a .parent .now) (a .fate .now) bearer (a .events .now) begun (a .n) true)) (c .before .settled-page .ensures)) B
 
 returns-2 : tie.Need-returns-2
-returns-2 c = λ bearer store begun t B R alone. let a = c .before .before .before .before .args in read-9 (settledIn edition1 (a .start .now)) (a .owner .now) (a .parent .now) (a .fate .now) bearer (a .events .now) store begun (a .n) t (a .me) R alone (a .r) (a .o) (read-told (settledIn edition1 (a .start .now)) (a .owner .now) (a .parent .now) (a .fate .now) bearer (a .events .now) store begun (a .n) t (a .me) (a .r) (c .before .holds .result) (c .before .holds .ensures) ∙ c .if1 .left) B
+returns-2 c =
+    let entry = c .before .before .before .before in
+    λ bearer store begun t B R alone. let a = entry .args in read-9 (settledIn edition1 (a .start .now)) (a .owner .now) (a .parent .now) (a .fate .now) bearer (a .events .now) store begun (a .n) t (a .me) R alone (a .r) (a .o) (read-told (settledIn edition1 (a .start .now)) (a .owner .now) (a .parent .now) (a .fate .now) bearer (a .events .now) store begun (a .n) t (a .me) (a .r) (c .before .holds .result) (c .before .holds .ensures) ∙ c .if1 .left) B
 
 pub read-event-spec : {M : Type 1} → statement M
 read-event-spec =

@@ -20,10 +20,14 @@ element-write-owner : tie.Need-element-write-owner
 element-write-owner c = search needs
 
 returns : tie.Need-returns
-returns c = λ start parent fate bearer store begun t o v B R alone. let a = c .before .before .before .before .args in let e : a .me % 65536 ≡ a .me = omega (arith, c .before .before .before .before .pre .4) in rw e (write-0 start (a .owner .now) parent fate bearer (a .events .now) store begun (a .n) t (a .me) R alone (a .r) o v (write-told start (a .owner .now) parent fate bearer (a .events .now) store begun (a .n) t (a .me) (a .r) (c .before .holds .result) (c .before .holds .ensures) ∙ c .if1 .taken) B (c .before .before .before .before .pre .1))
+returns c =
+    let entry = c .before .before .before .before in
+    λ start parent fate bearer store begun t o v B R alone. let a = entry .args in let e : a .me % 65536 ≡ a .me = omega (arith, entry .pre .4) in rw e (write-0 start (a .owner .now) parent fate bearer (a .events .now) store begun (a .n) t (a .me) R alone (a .r) o v (write-told start (a .owner .now) parent fate bearer (a .events .now) store begun (a .n) t (a .me) (a .r) (c .before .holds .result) (c .before .holds .ensures) ∙ c .if1 .taken) B (entry .pre .1))
 
 returns-2 : tie.Need-returns-2
-returns-2 c = λ start parent fate bearer store begun t o v B R alone. let a = c .before .before .before .before .args in write-9 start (a .owner .now) parent fate bearer (a .events .now) store begun (a .n) t (a .me) R alone (a .r) o v (write-told start (a .owner .now) parent fate bearer (a .events .now) store begun (a .n) t (a .me) (a .r) (c .before .holds .result) (c .before .holds .ensures) ∙ c .if1 .left) B
+returns-2 c =
+    let entry = c .before .before .before .before in
+    λ start parent fate bearer store begun t o v B R alone. let a = entry .args in write-9 start (a .owner .now) parent fate bearer (a .events .now) store begun (a .n) t (a .me) R alone (a .r) o v (write-told start (a .owner .now) parent fate bearer (a .events .now) store begun (a .n) t (a .me) (a .r) (c .before .holds .result) (c .before .holds .ensures) ∙ c .if1 .left) B
 
 pub write-event-spec : {M : Type 1} → statement M
 write-event-spec =

@@ -28,12 +28,18 @@ sub-t12 c = search needs
 -- src/lib.rt:45:9
 returns : tie.Need-returns
 unfolding upIn passedIn fateIn
-returns c = let a = c .before .before .before .before .args in let e = c .above .ensures in (rw (e .0) (rise-up (entryAt (a .parent .now)) (upIn (a .fate .now) (a .locks)) (a .c .left) (a .c .at) (c .before .before .before .before .pre .1) (sym (c .before .before .goes-up .ensures) ∙ c .before .if1 .taken)), omega (arith, e .1), omega arith, omega (arith, e .1))
+returns c =
+    let entry = c .before .before .before .before in
+    let a = entry .args in
+    let e = c .above .ensures in
+    (rw (e .0) (rise-up (entryAt (a .parent .now)) (upIn (a .fate .now) (a .locks)) (a .c .left) (a .c .at) (entry .pre .1) (sym (c .before .before .goes-up .ensures) ∙ c .before .if1 .taken)), omega (arith, e .1), omega arith, omega (arith, e .1))
 
 -- src/lib.rt:38:1
 returns-2 : tie.Need-returns-2
 unfolding upIn passedIn fateIn rises
-returns-2 c = let a = c .before .before .before .args in (rise-stop (entryAt (a .parent .now)) (upIn (a .fate .now) (a .locks)) (a .c .left) (a .c .at) (sym (c .before .goes-up .ensures) ∙ c .if1 .left), omega arith, omega arith, omega arith)
+returns-2 c =
+    let a = c .before .before .before .args in
+    (rise-stop (entryAt (a .parent .now)) (upIn (a .fate .now) (a .locks)) (a .c .left) (a .c .at) (sym (c .before .goes-up .ensures) ∙ c .if1 .left), omega arith, omega arith, omega arith)
 
 pub one-up-spec : {M : Type 1} → statement M
 one-up-spec =

@@ -18,7 +18,9 @@ element-copy-out-if1 c = search needs
 
 -- src/lib.rt:115:9
 returns : tie.Need-returns
-returns c = λ l K. let a = c .before .before .before .args in let j = c .before .before .stands .result in sym (shows-is l (a .parent .now) (a .fate .now) K (a .reader) (a .i) j (c .before .before .stands .ensures .0) ∙ rw (c .if1 .taken, same-refl 3))
+returns c =
+    let entry = c .before .before .before in
+    λ l K. let a = entry .args in let j = c .before .before .stands .result in sym (shows-is l (a .parent .now) (a .fate .now) K (a .reader) (a .i) j (c .before .before .stands .ensures .0) ∙ rw (c .if1 .taken, same-refl 3))
 
 -- src/lib.rt:117:5
 within-requires : tie.Need-within-requires
@@ -26,7 +28,10 @@ within-requires c κs = search needs
 
 -- src/lib.rt:109:1
 returns-2 : tie.Need-returns-2
-returns-2 c = λ l K. let a = c .before .before .before .before .args in let j = c .before .before .before .stands .result in c .within .ensures ∙ sym (shows-is l (a .parent .now) (a .fate .now) K (a .reader) (a .i) j (c .before .before .before .stands .ensures .0) ∙ rw (ne-false (getD (a .fate .now) j 0) 3 (c .before .if1 .left)))
+returns-2 c =
+    let entry = c .before .before .before .before in
+    let stands = c .before .before .before .stands in
+    λ l K. let a = entry .args in let j = stands .result in c .within .ensures ∙ sym (shows-is l (a .parent .now) (a .fate .now) K (a .reader) (a .i) j (stands .ensures .0) ∙ rw (ne-false (getD (a .fate .now) j 0) 3 (c .before .if1 .left)))
 
 pub shows-spec : {M : Type 1} → statement M
 shows-spec =

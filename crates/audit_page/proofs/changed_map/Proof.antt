@@ -34,7 +34,13 @@ changes-requires : tie.Need-changes-requires Inv-loop μ-loop
 changes-requires c κs = search needs
 
 grown-requires : tie.Need-grown-requires Inv-loop μ-loop
-grown-requires c κs = let o = c .before .before .loop in let a = c .before .before .before .before .args in let l = ledgerOf (tables (a .owner .now) (a .parent .now) (a .fate .now) [] 0 true) (a .events .now) (a .n) in let e = o .inv .1 l (linked (a .owner .now) (a .parent .now) (a .fate .now) [] (a .events .now) 0 (a .n) true) in let k = map-room (o .r) (λ q. writesTo (λ i. same (standsWith (l .story) i) (a .me)) q (writesUpTo (a .owner .now) (a .events .now) (a .n))) (omega arith) in omega (arith, e, k)
+grown-requires c κs =
+    let o = c .before .before .loop in
+    let a = c .before .before .before .before .args in
+    let l = ledgerOf (tables (a .owner .now) (a .parent .now) (a .fate .now) [] 0 true) (a .events .now) (a .n) in
+    let e = o .inv .1 l (linked (a .owner .now) (a .parent .now) (a .fate .now) [] (a .events .now) 0 (a .n) true) in
+    let k = map-room (o .r) (λ q. writesTo (λ i. same (standsWith (l .story) i) (a .me)) q (writesUpTo (a .owner .now) (a .events .now) (a .n))) (omega arith) in
+    omega (arith, e, k)
 
 add-r : tie.Need-add-r Inv-loop μ-loop
 add-r c = search needs
@@ -43,11 +49,16 @@ loop-less : tie.Need-loop-less Inv-loop μ-loop
 loop-less c = search needs
 
 loop-again : tie.Need-loop-again Inv-loop μ-loop
-loop-again c = let o = c .before .before .before .loop in let a = c .before .before .before .before .before .args in (omega arith, λ l K. c .grown .ensures ∙ ap₂ (λ (x : ℕ) (b : Bool). x * 2 + cond b 1 0) (o .inv .1 l K) (c .before .changes .ensures l K) ∙ map-next (o .r) (λ q. writesTo (λ i. same (standsWith (l .story) i) (a .me)) q (writesUpTo (a .owner .now) (a .events .now) (a .n))))
+loop-again c =
+    let o = c .before .before .before .loop in
+    let a = c .before .before .before .before .before .args in
+    (omega arith, λ l K. c .grown .ensures ∙ ap₂ (λ (x : ℕ) (b : Bool). x * 2 + cond b 1 0) (o .inv .1 l K) (c .before .changes .ensures l K) ∙ map-next (o .r) (λ q. writesTo (λ i. same (standsWith (l .story) i) (a .me)) q (writesUpTo (a .owner .now) (a .events .now) (a .n))))
 
 returns : tie.Need-returns Inv-loop μ-loop
 unfolding mapOf open-geometry
-returns c = (λ l K. let o = c .before .loop in let a = c .before .before .before .args in let q : o .r ≡ 16 = omega arith in o .inv .1 l K ∙ ap (λ (m : ℕ). bitsFrom m (λ q. writesTo (λ i. same (standsWith (l .story) i) (a .me)) q (writesUpTo (a .owner .now) (a .events .now) (a .n)))) q, let o = c .before .loop in let a = c .before .before .before .args in let l = ledgerOf (tables (a .owner .now) (a .parent .now) (a .fate .now) [] 0 true) (a .events .now) (a .n) in let q : o .r ≡ 16 = omega arith in let p : ℕ → Bool = λ q. writesTo (λ i. same (standsWith (l .story) i) (a .me)) q (writesUpTo (a .owner .now) (a .events .now) (a .n)) in subst⁻¹ (λ (m : ℕ). m < 65536) (o .inv .1 l (linked (a .owner .now) (a .parent .now) (a .fate .now) [] (a .events .now) 0 (a .n) true) ∙ ap (λ (m : ℕ). bitsFrom m p) q) (bits-lt 16 p))
+returns c =
+    let entry = c .before .before .before in
+    (λ l K. let o = c .before .loop in let a = entry .args in let q : o .r ≡ 16 = omega arith in o .inv .1 l K ∙ ap (λ (m : ℕ). bitsFrom m (λ q. writesTo (λ i. same (standsWith (l .story) i) (a .me)) q (writesUpTo (a .owner .now) (a .events .now) (a .n)))) q, let o = c .before .loop in let a = entry .args in let l = ledgerOf (tables (a .owner .now) (a .parent .now) (a .fate .now) [] 0 true) (a .events .now) (a .n) in let q : o .r ≡ 16 = omega arith in let p : ℕ → Bool = λ q. writesTo (λ i. same (standsWith (l .story) i) (a .me)) q (writesUpTo (a .owner .now) (a .events .now) (a .n)) in subst⁻¹ (λ (m : ℕ). m < 65536) (o .inv .1 l (linked (a .owner .now) (a .parent .now) (a .fate .now) [] (a .events .now) 0 (a .n) true) ∙ ap (λ (m : ℕ). bitsFrom m p) q) (bits-lt 16 p))
 
 pub changed-map-spec : {M : Type 1} → statement M
 changed-map-spec =

@@ -28,7 +28,10 @@ abbrev μ-loop : tie.MeasureT-loop
 μ-loop store₀ map k rest₀ r₀ store rest r = 16 - r
 
 returns : tie.Need-returns Inv-loop μ-loop
-returns c = let a = c .before .before .args in by-recovery false geometry1 (a .store .now) (a .store .now) (a .k) 0 _ (recover-none geometry1 16 (layout1 .many) false (a .map) (a .k) (pagesOf (a .store .now)) (c .before .before .pre .1) refl (c .if1 .taken))
+returns c =
+    let entry = c .before .before in
+    let a = entry .args in
+    by-recovery false geometry1 (a .store .now) (a .store .now) (a .k) 0 _ (recover-none geometry1 16 (layout1 .many) false (a .map) (a .k) (pagesOf (a .store .now)) (entry .pre .1) refl (c .if1 .taken))
 
 loop-holds : tie.Need-loop-holds Inv-loop μ-loop
 unfolding sweep those
@@ -44,7 +47,10 @@ loop-less : tie.Need-loop-less Inv-loop μ-loop
 loop-less c = search needs
 
 loop-again : tie.Need-loop-again Inv-loop μ-loop
-loop-again c = let a = c .before .before .before .before .before .before .before .before .args in let at = c .before .before .before .before .before .loop in (omega arith, search needs, kept-then (at .inv .2) (kept-row 17 (λ j. pagesOf (at .store) (1 + j)) (at .r) (at .rest) (named geometry1 (a .map)) (c .before .before .recover-record .ensures)), home-more (named geometry1 (a .map)) 17 (at .r) (a .k) (omega arith) (at .inv .3) (at .inv .2) (c .before .before .recover-record .ensures))
+loop-again c =
+    let a = c .before .before .before .before .before .before .before .before .args in
+    let at = c .before .before .before .before .before .loop in
+    (omega arith, search needs, kept-then (at .inv .2) (kept-row 17 (λ j. pagesOf (at .store) (1 + j)) (at .r) (at .rest) (named geometry1 (a .map)) (c .before .before .recover-record .ensures)), home-more (named geometry1 (a .map)) 17 (at .r) (a .k) (omega arith) (at .inv .3) (at .inv .2) (c .before .before .recover-record .ensures))
 
 commit-page-requires : tie.Need-commit-page-requires Inv-loop μ-loop
 commit-page-requires c κs = (inl refl, omega arith)
@@ -60,7 +66,14 @@ same-length c = search needs
 
 returns-2 : tie.Need-returns-2 Inv-loop μ-loop
 unfolding same
-returns-2 c = let a = c .before .before .before .before .before .before .before .before .before .args in let e : c .before .before .before .before .before .before .loop .r ≡ 16 = omega arith in by-recovery false geometry1 (a .store .now) (c .before .before .write-one .last .0) (a .k) _ _ (as-spent (c .before .before .before .before .before .before .loop .rest) (recover-leaves geometry1 16 (layout1 .many) false (a .map) (a .k) (pagesOf (a .store .now)) (c .before .before .before .before .before .before .before .before .before .pre .1) refl (c .before .before .before .before .before .before .before .if1 .left) (rw e at (c .before .before .before .before .before .before .loop .inv .3)) (phase-page (c .before .before .before .commit-page .ensures geometry1 layout1) (c .before .before .write-one .ensures))))
+returns-2 c =
+    let entry = c .before .before .before .before .before .before .before .before .before in
+    let if1 = c .before .before .before .before .before .before .before .if1 in
+    let loop = c .before .before .before .before .before .before .loop in
+    let commit-page = c .before .before .before .commit-page in
+    let a = entry .args in
+    let e : loop .r ≡ 16 = omega arith in
+    by-recovery false geometry1 (a .store .now) (c .before .before .write-one .last .0) (a .k) _ _ (as-spent (loop .rest) (recover-leaves geometry1 16 (layout1 .many) false (a .map) (a .k) (pagesOf (a .store .now)) (entry .pre .1) refl (if1 .left) (rw e at (loop .inv .3)) (phase-page (commit-page .ensures geometry1 layout1) (c .before .before .write-one .ensures))))
 
 pub recover-writes-spec : {M : Type 1} → statement M
 recover-writes-spec =

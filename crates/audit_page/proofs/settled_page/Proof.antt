@@ -22,7 +22,12 @@ get-page-requires : tie.Need-get-page-requires
 get-page-requires c κs = search needs
 
 returns : tie.Need-returns
-returns c = let a = c .before .before .before .before .before .args in let m = map-said (pagesOf (a .store .now) 0) (c .before .before .before .read-map .ensures) in c .get-page .ensures ∙ sym (settled-is (a .store .now) (a .r) (c .before .before .before .read-map .result .map) true (c .before .before .before .before .before .pre .1) m (sym (c .before .before .names .ensures geometry1 (layout1 .many)) ∙ c .before .if1 .taken))
+returns c =
+    let entry = c .before .before .before .before .before in
+    let read-map = c .before .before .before .read-map in
+    let a = entry .args in
+    let m = map-said (pagesOf (a .store .now) 0) (read-map .ensures) in
+    c .get-page .ensures ∙ sym (settled-is (a .store .now) (a .r) (read-map .result .map) true (entry .pre .1) m (sym (c .before .before .names .ensures geometry1 (layout1 .many)) ∙ c .before .if1 .taken))
 
 add-get-page-2 : tie.Need-add-get-page-2
 add-get-page-2 c = search needs
@@ -31,7 +36,12 @@ get-page-requires-2 : tie.Need-get-page-requires-2
 get-page-requires-2 c κs = search needs
 
 returns-2 : tie.Need-returns-2
-returns-2 c = let a = c .before .before .before .before .before .args in let m = map-said (pagesOf (a .store .now) 0) (c .before .before .before .read-map .ensures) in c .get-page2 .ensures ∙ sym (settled-is (a .store .now) (a .r) (c .before .before .before .read-map .result .map) false (c .before .before .before .before .before .pre .1) m (sym (c .before .before .names .ensures geometry1 (layout1 .many)) ∙ c .before .if1 .left))
+returns-2 c =
+    let entry = c .before .before .before .before .before in
+    let read-map = c .before .before .before .read-map in
+    let a = entry .args in
+    let m = map-said (pagesOf (a .store .now) 0) (read-map .ensures) in
+    c .get-page2 .ensures ∙ sym (settled-is (a .store .now) (a .r) (read-map .result .map) false (entry .pre .1) m (sym (c .before .before .names .ensures geometry1 (layout1 .many)) ∙ c .before .if1 .left))
 
 pub settled-page-spec : {M : Type 1} → statement M
 settled-page-spec =

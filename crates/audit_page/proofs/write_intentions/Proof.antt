@@ -21,7 +21,10 @@ same-length : tie.Need-same-length
 same-length c = search needs
 
 returns : tie.Need-returns
-returns c = λ l K. phase-then (c .before .before .before .before .before .before .before .write-records .ensures l K) (phase-page (c .before .before .before .commit-page .ensures geometry1 layout1) (c .before .before .write-one .ensures))
+returns c =
+    let write-records = c .before .before .before .before .before .before .before .write-records in
+    let commit-page = c .before .before .before .commit-page in
+    λ l K. phase-then (write-records .ensures l K) (phase-page (commit-page .ensures geometry1 layout1) (c .before .before .write-one .ensures))
 
 pub write-intentions-spec : {M : Type 1} → statement M
 write-intentions-spec = tie.close (tie.spec write-records-requires commit-page-requires write-one-requires same-length returns)

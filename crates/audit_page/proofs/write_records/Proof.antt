@@ -39,7 +39,10 @@ loop-less : tie.Need-loop-less Inv-loop μ-loop
 loop-less c = search needs
 
 loop-again : tie.Need-loop-again Inv-loop μ-loop
-loop-again c = let a = c .before .before .before .before .before .before .before .before .before .args in let at = c .before .before .before .before .before .loop in (omega arith, search needs, λ l K. phase-more (named geometry1 (a .map)) (copies (a .first) (changedPage l (a .start .now) (a .owner .now) (a .events .now) (a .n) (a .me))) (at .r) (at .inv .2 l K) (c .before .before .write-record .ensures l K))
+loop-again c =
+    let a = c .before .before .before .before .before .before .before .before .before .args in
+    let at = c .before .before .before .before .before .loop in
+    (omega arith, search needs, λ l K. phase-more (named geometry1 (a .map)) (copies (a .first) (changedPage l (a .start .now) (a .owner .now) (a .events .now) (a .n) (a .me))) (at .r) (at .inv .2 l K) (c .before .before .write-record .ensures l K))
 
 same-length : tie.Need-same-length Inv-loop μ-loop
 same-length c = search needs

@@ -36,11 +36,19 @@ loop-less c = search needs
 
 -- src/lib.rt:59:5
 loop-again : tie.Need-loop-again Inv-loop μ-loop
-loop-again c = let l = c .before .before .loop in let a = c .before .before .before .before .args in (omega arith, locks-scan (a .owner .now) (a .events .now) (l .k) (modeTest (a .any)) (λ i. same i (a .me)) (a .r) (l .met) (c .own-lock .result) (l .inv .1) (c .own-lock .ensures ∙ own-some _ (a .me) _ (c .before .before .before .before .pre .3)))
+loop-again c =
+    let entry = c .before .before .before .before in
+    let l = c .before .before .loop in
+    let a = entry .args in
+    (omega arith, locks-scan (a .owner .now) (a .events .now) (l .k) (modeTest (a .any)) (λ i. same i (a .me)) (a .r) (l .met) (c .own-lock .result) (l .inv .1) (c .own-lock .ensures ∙ own-some _ (a .me) _ (entry .pre .3)))
 
 -- src/lib.rt:54:1
 returns : tie.Need-returns Inv-loop μ-loop
-returns c = let l = c .before .loop in let a = c .before .before .before .args in let q : l .k ≡ a .n = omega arith in l .inv .1 ∙ ap (λ (m : ℕ). locksOf (modeTest (a .any)) (λ i. same i (a .me)) (a .r) (grantsTo (a .owner .now) (a .events .now) m)) q
+returns c =
+    let l = c .before .loop in
+    let a = c .before .before .before .args in
+    let q : l .k ≡ a .n = omega arith in
+    l .inv .1 ∙ ap (λ (m : ℕ). locksOf (modeTest (a .any)) (λ i. same i (a .me)) (a .r) (grantsTo (a .owner .now) (a .events .now) m)) q
 
 pub holds-spec : {M : Type 1} → statement M
 holds-spec =

@@ -15,7 +15,9 @@ owner-of-requires c κs = search needs
 
 -- src/lib.rt:48:9
 returns : tie.Need-returns
-returns c = let a = c .before .before .before .args in rw (ne-false (getD (a .owner .now) (a .k) 0) (a .me) (λ q. c .if1 .taken (c .before .owner-of .ensures .0 ∙ q)))
+returns c =
+    let a = c .before .before .before .args in
+    rw (ne-false (getD (a .owner .now) (a .k) 0) (a .me) (λ q. c .if1 .taken (c .before .owner-of .ensures .0 ∙ q)))
 
 -- src/lib.rt:50:11
 event-at-requires : tie.Need-event-at-requires
@@ -27,7 +29,11 @@ locks-requires c κs = search needs
 
 -- src/lib.rt:43:1
 returns-2 : tie.Need-returns-2
-returns-2 c = let a = c .before .before .before .before .before .args in let s : same (getD (a .owner .now) (a .k) 0) (a .me) ≡ true = rw (← (c .before .before .before .owner-of .ensures .0), c .before .before .if1 .left) (same-refl (a .me)) in rw (s, c .before .event-at .ensures .0) (c .locks .ensures)
+returns-2 c =
+    let owner-of = c .before .before .before .owner-of in
+    let a = c .before .before .before .before .before .args in
+    let s : same (getD (a .owner .now) (a .k) 0) (a .me) ≡ true = rw (← (owner-of .ensures .0), c .before .before .if1 .left) (same-refl (a .me)) in
+    rw (s, c .before .event-at .ensures .0) (c .locks .ensures)
 
 pub own-lock-spec : {M : Type 1} → statement M
 own-lock-spec =

@@ -17,7 +17,9 @@ owner-of-requires c κs = search needs
 
 -- src/lib.rt:107:9
 returns : tie.Need-returns
-returns c = λ l K. let a = c .before .before .before .args in rw (← (c .before .owner-of .ensures .0), c .if1 .taken, same-refl 0)
+returns c =
+    let entry = c .before .before .before in
+    λ l K. let a = entry .args in rw (← (c .before .owner-of .ensures .0), c .if1 .taken, same-refl 0)
 
 -- src/lib.rt:109:9
 event-at-requires : tie.Need-event-at-requires
@@ -34,11 +36,18 @@ stands-requires c κs = search needs
 -- src/lib.rt:111:9
 returns-2 : tie.Need-returns-2
 unfolding same
-returns-2 c = λ l K. let a = c .before .before .before .before .before .before .before .args in let z = ne-false (getD (a .owner .now) (a .k) 0) 0 (λ q. c .before .before .before .before .if1 .left (c .before .before .before .before .before .owner-of .ensures .0 ∙ q)) in let t = sym (c .before .before .writes .ensures .0) ∙ c .before .if2 .taken in rw (z, c .before .before .before .event-at .ensures .0, t) (ap (λ (j : ℕ). same j (a .me)) (c .stands .ensures .0 ∙ sym (stands-are l (a .parent .now) (a .fate .now) K (c .before .before .before .before .before .owner-of .result)) ∙ ap (standsWith (l .story)) (c .before .before .before .before .before .owner-of .ensures .0)) ∙ sym (and-true _))
+returns-2 c =
+    let entry = c .before .before .before .before .before .before .before in
+    let owner-of = c .before .before .before .before .before .owner-of in
+    let if1 = c .before .before .before .before .if1 in
+    let event-at = c .before .before .before .event-at in
+    λ l K. let a = entry .args in let z = ne-false (getD (a .owner .now) (a .k) 0) 0 (λ q. if1 .left (owner-of .ensures .0 ∙ q)) in let t = sym (c .before .before .writes .ensures .0) ∙ c .before .if2 .taken in rw (z, event-at .ensures .0, t) (ap (λ (j : ℕ). same j (a .me)) (c .stands .ensures .0 ∙ sym (stands-are l (a .parent .now) (a .fate .now) K (owner-of .result)) ∙ ap (standsWith (l .story)) (owner-of .ensures .0)) ∙ sym (and-true _))
 
 -- src/lib.rt:101:1
 returns-3 : tie.Need-returns-3
-returns-3 c = λ l K. let a = c .before .before .before .before .before .before .args in let t = sym (c .before .writes .ensures .0) ∙ c .if2 .left in rw (c .before .before .event-at .ensures .0, t, and-false, and-false)
+returns-3 c =
+    let entry = c .before .before .before .before .before .before in
+    λ l K. let a = entry .args in let t = sym (c .before .writes .ensures .0) ∙ c .if2 .left in rw (c .before .before .event-at .ensures .0, t, and-false, and-false)
 
 pub own-write-spec : {M : Type 1} → statement M
 own-write-spec =

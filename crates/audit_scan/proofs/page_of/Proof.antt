@@ -37,11 +37,16 @@ loop-less c = search needs
 
 -- src/lib.rt:151:5
 loop-again : tie.Need-loop-again Inv-loop μ-loop
-loop-again c = let o = c .before .before .before .loop in let a = c .before .before .before .before .before .args in (omega arith, λ l K. lay-scan (a .owner .now) (a .events .now) (o .k) (showsTo l (a .me)) (a .r) (a .settled) (o .page) _ (o .inv .1 l K) (c .lay .ensures l K))
+loop-again c =
+    let o = c .before .before .before .loop in
+    let a = c .before .before .before .before .before .args in
+    (omega arith, λ l K. lay-scan (a .owner .now) (a .events .now) (o .k) (showsTo l (a .me)) (a .r) (a .settled) (o .page) _ (o .inv .1 l K) (c .lay .ensures l K))
 
 -- src/lib.rt:146:1
 returns : tie.Need-returns Inv-loop μ-loop
-returns c = λ l K. let o = c .before .loop in let a = c .before .before .before .args in let q : o .k ≡ a .n = omega arith in o .inv .1 l K ∙ ap (λ (m : ℕ). overlaid (showsTo l (a .me)) (a .r) (writesUpTo (a .owner .now) (a .events .now) m) (a .settled)) q
+returns c =
+    let entry = c .before .before .before in
+    λ l K. let o = c .before .loop in let a = entry .args in let q : o .k ≡ a .n = omega arith in o .inv .1 l K ∙ ap (λ (m : ℕ). overlaid (showsTo l (a .me)) (a .r) (writesUpTo (a .owner .now) (a .events .now) m) (a .settled)) q
 
 pub page-of-spec : {M : Type 1} → statement M
 page-of-spec =

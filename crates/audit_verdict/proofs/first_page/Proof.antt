@@ -35,11 +35,18 @@ loop-less : tie.Need-loop-less Inv-loop μ-loop
 loop-less c = search needs
 
 loop-again : tie.Need-loop-again Inv-loop μ-loop
-loop-again c = let l = c .before .before .loop in let a = c .before .before .before .before .before .args in (omega arith, c .lower .ensures .0 ∙ lower-more (λ p. not (samePage edition1 (a .a .now) (a .b .now) p)) (l .k) (l .f) (omega arith) (l .inv .1), c .lower .ensures .1)
+loop-again c =
+    let l = c .before .before .loop in
+    let a = c .before .before .before .before .before .args in
+    (omega arith, c .lower .ensures .0 ∙ lower-more (λ p. not (samePage edition1 (a .a .now) (a .b .now) p)) (l .k) (l .f) (omega arith) (l .inv .1), c .lower .ensures .1)
 
 returns : tie.Need-returns Inv-loop μ-loop
 unfolding lowest
-returns c = let l = c .before .loop in let a = c .before .before .before .before .args in let q : l .k ≡ 33 = omega arith in (l .inv .1 ∙ ap (λ (m : ℕ). lowestFrom m (λ p. not (samePage edition1 (a .a .now) (a .b .now) p)) (33 - m)) q, l .inv .2)
+returns c =
+    let l = c .before .loop in
+    let a = c .before .before .before .before .args in
+    let q : l .k ≡ 33 = omega arith in
+    (l .inv .1 ∙ ap (λ (m : ℕ). lowestFrom m (λ p. not (samePage edition1 (a .a .now) (a .b .now) p)) (33 - m)) q, l .inv .2)
 
 pub first-page-spec : {M : Type 1} → statement M
 first-page-spec =

@@ -21,11 +21,19 @@ same-page-requires c κs = search needs
 
 returns : tie.Need-returns
 unfolding samePage
-returns c = let a = c .before .before .before .before .before .before .args in let e : samePage edition1 (a .a .now) (a .b .now) (a .p) ≡ true = sym (c .before .same-page .ensures ∙ ap₂ sameList (c .before .before .before .get-page .ensures) (c .before .before .get-page2 .ensures)) ∙ c .if1 .taken in (sym (ap (λ (s : Bool). cond (not s) (a .p) (a .f)) e), omega arith)
+returns c =
+    let get-page = c .before .before .before .get-page in
+    let a = c .before .before .before .before .before .before .args in
+    let e : samePage edition1 (a .a .now) (a .b .now) (a .p) ≡ true = sym (c .before .same-page .ensures ∙ ap₂ sameList (get-page .ensures) (c .before .before .get-page2 .ensures)) ∙ c .if1 .taken in
+    (sym (ap (λ (s : Bool). cond (not s) (a .p) (a .f)) e), omega arith)
 
 returns-2 : tie.Need-returns-2
 unfolding samePage
-returns-2 c = let a = c .before .before .before .before .before .before .args in let e : samePage edition1 (a .a .now) (a .b .now) (a .p) ≡ false = sym (c .before .same-page .ensures ∙ ap₂ sameList (c .before .before .before .get-page .ensures) (c .before .before .get-page2 .ensures)) ∙ c .if1 .left in (sym (ap (λ (s : Bool). cond (not s) (a .p) (a .f)) e), omega arith)
+returns-2 c =
+    let get-page = c .before .before .before .get-page in
+    let a = c .before .before .before .before .before .before .args in
+    let e : samePage edition1 (a .a .now) (a .b .now) (a .p) ≡ false = sym (c .before .same-page .ensures ∙ ap₂ sameList (get-page .ensures) (c .before .before .get-page2 .ensures)) ∙ c .if1 .left in
+    (sym (ap (λ (s : Bool). cond (not s) (a .p) (a .f)) e), omega arith)
 
 pub lower-spec : {M : Type 1} → statement M
 lower-spec =

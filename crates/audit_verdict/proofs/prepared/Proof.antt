@@ -22,7 +22,8 @@ read-prepared-requires c κs = (inl refl, λ e. refl)
 returns : tie.Need-returns
 unfolding same
 returns c =
-    let page = pagesOf (c .before .before .before .before .args .start .now) 0 in
+    let entry = c .before .before .before .before in
+    let page = pagesOf (entry .args .start .now) 0 in
     ap (λ (p : PreparedMap). not (same (p .map) 0)) (c .before .read-prepared .ensures .0 geometry1 layout1 refl ∙ ap (λ (x : Page). overheard (readPrepared geometry1 x)) (c .before .before .get-page .ensures))
     ∙ busy-is page (readPrepared geometry1 page) refl
 

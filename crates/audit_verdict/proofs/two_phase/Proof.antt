@@ -34,10 +34,16 @@ loop-less : tie.Need-loop-less Inv-loop μ-loop
 loop-less c = search needs
 
 loop-again : tie.Need-loop-again Inv-loop μ-loop
-loop-again c = let l = c .before .before .before .loop in let a = c .before .before .before .before .before .args in (omega arith, scan-more (a .events .now) (a .n) (l .k) _ (l .met) (c .is-two-phase .result) _ (omega arith) (c .before .word-at .ensures) (c .is-two-phase .ensures) (l .inv .1))
+loop-again c =
+    let l = c .before .before .before .loop in
+    let a = c .before .before .before .before .before .args in
+    (omega arith, scan-more (a .events .now) (a .n) (l .k) _ (l .met) (c .is-two-phase .result) _ (omega arith) (c .before .word-at .ensures) (c .is-two-phase .ensures) (l .inv .1))
 
 returns : tie.Need-returns Inv-loop μ-loop
-returns c = let l = c .before .loop in let a = c .before .before .before .args in scan-end (a .events .now) (a .n) (l .k) _ (l .met) (omega arith) (l .inv .1)
+returns c =
+    let l = c .before .loop in
+    let a = c .before .before .before .args in
+    scan-end (a .events .now) (a .n) (l .k) _ (l .met) (omega arith) (l .inv .1)
 
 pub two-phase-spec : {M : Type 1} → statement M
 two-phase-spec =

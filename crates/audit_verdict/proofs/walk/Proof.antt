@@ -29,37 +29,133 @@ table-requires : tie.Need-table-requires Inv-loop μ-loop
 table-requires c κs = search needs
 
 loop-holds : tie.Need-loop-holds Inv-loop μ-loop
-loop-holds c = let a = c .before .before .before .before .before .args in (omega arith, c .before .before .before .before .before .pre .4, zeros-consistent, walk-start (settledIn edition1 (a .start .now)) (a .answers .now) (a .events .now) (a .n) (a .store .now))
+loop-holds c =
+    let entry = c .before .before .before .before .before in
+    let a = entry .args in
+    (omega arith, entry .pre .4, zeros-consistent, walk-start (settledIn edition1 (a .start .now)) (a .answers .now) (a .events .now) (a .n) (a .store .now))
 
 event-at-requires : tie.Need-event-at-requires Inv-loop μ-loop
 event-at-requires c κs = search needs
 
 due-event-requires : tie.Need-due-event-requires Inv-loop μ-loop
-due-event-requires c κs = let a = c .before .before .before .before .before .before .before .before .before .before .before .before .before .before .before .before .args in let p = c .before .before .before .before .before .before .before .before .before .before .before .before .before .before .before .before .pre .0 in let p1 = c .before .before .before .before .before .before .before .before .before .before .before .before .before .before .before .before .pre .1 in let p2 = c .before .before .before .before .before .before .before .before .before .before .before .before .before .before .before .before .pre .2 in let p4 = c .before .before .before .before .before .before .before .before .before .before .before .before .before .before .before .before .pre .4 in let l = c .before .before .before .before .before .before .before .before .before .before .loop in let i = l .inv .0 in let i1 = l .inv .1 in let q : l .k < a .n = c .before .before .before .before .before .before .before .before .before .loop-test .taken in (c .before .before .before .before .before .before .before .before .before .before .before .table .ensures, omega (arith, p, q), omega (arith, p1, q), c .before .before .before .before .before .before .before .before .before .before .before .before .before .before .before .before .pre .3, l .inv .1, c .event-at .ensures .1, record { comes = c .event-at .ensures .0; consistent = l .inv .2 })
+due-event-requires c κs =
+    let entry = c .before .before .before .before .before .before .before .before .before .before .before .before .before .before .before .before in
+    let table = c .before .before .before .before .before .before .before .before .before .before .before .table in
+    let loop-test = c .before .before .before .before .before .before .before .before .before .loop-test in
+    let a = entry .args in
+    let p = entry .pre .0 in
+    let p1 = entry .pre .1 in
+    let p2 = entry .pre .2 in
+    let p4 = entry .pre .4 in
+    let l = c .before .before .before .before .before .before .before .before .before .before .loop in
+    let i = l .inv .0 in
+    let i1 = l .inv .1 in
+    let q : l .k < a .n = loop-test .taken in
+    (table .ensures, omega (arith, p, q), omega (arith, p1, q), entry .pre .3, l .inv .1, c .event-at .ensures .1, record { comes = c .event-at .ensures .0; consistent = l .inv .2 })
 
 answered-requires : tie.Need-answered-requires Inv-loop μ-loop
-answered-requires c κs = let a = c .before .before .before .before .before .before .before .before .before .before .before .before .before .before .before .before .before .before .before .args in let p = c .before .before .before .before .before .before .before .before .before .before .before .before .before .before .before .before .before .before .before .pre .0 in let p1 = c .before .before .before .before .before .before .before .before .before .before .before .before .before .before .before .before .before .before .before .pre .1 in let p2 = c .before .before .before .before .before .before .before .before .before .before .before .before .before .before .before .before .before .before .before .pre .2 in let p4 = c .before .before .before .before .before .before .before .before .before .before .before .before .before .before .before .before .before .before .before .pre .4 in let l = c .before .before .before .before .before .before .before .before .before .before .before .before .before .loop in let i = l .inv .0 in let i1 = l .inv .1 in let q : l .k < a .n = c .before .before .before .before .before .before .before .before .before .before .before .before .loop-test .taken in (omega (arith, p, q), omega (arith, p2, q))
+answered-requires c κs =
+    let entry = c .before .before .before .before .before .before .before .before .before .before .before .before .before .before .before .before .before .before .before in
+    let loop-test = c .before .before .before .before .before .before .before .before .before .before .before .before .loop-test in
+    let a = entry .args in
+    let p = entry .pre .0 in
+    let p1 = entry .pre .1 in
+    let p2 = entry .pre .2 in
+    let p4 = entry .pre .4 in
+    let l = c .before .before .before .before .before .before .before .before .before .before .before .before .before .loop in
+    let i = l .inv .0 in
+    let i1 = l .inv .1 in
+    let q : l .k < a .n = loop-test .taken in
+    (omega (arith, p, q), omega (arith, p2, q))
 
 same-length : tie.Need-same-length Inv-loop μ-loop
-same-length c = let a = c .before .before .before .before .before .before .before .before .before .before .before .before .before .before .before .before .before .before .before .before .before .args in let p = c .before .before .before .before .before .before .before .before .before .before .before .before .before .before .before .before .before .before .before .before .before .pre .0 in let p1 = c .before .before .before .before .before .before .before .before .before .before .before .before .before .before .before .before .before .before .before .before .before .pre .1 in let p2 = c .before .before .before .before .before .before .before .before .before .before .before .before .before .before .before .before .before .before .before .before .before .pre .2 in let p4 = c .before .before .before .before .before .before .before .before .before .before .before .before .before .before .before .before .before .before .before .before .before .pre .4 in let l = c .before .before .before .before .before .before .before .before .before .before .before .before .before .before .before .loop in let i = l .inv .0 in let i1 = l .inv .1 in let q : l .k < a .n = c .before .before .before .before .before .before .before .before .before .before .before .before .before .before .loop-test .taken in search needs
+same-length c =
+    let entry = c .before .before .before .before .before .before .before .before .before .before .before .before .before .before .before .before .before .before .before .before .before in
+    let loop-test = c .before .before .before .before .before .before .before .before .before .before .before .before .before .before .loop-test in
+    let a = entry .args in
+    let p = entry .pre .0 in
+    let p1 = entry .pre .1 in
+    let p2 = entry .pre .2 in
+    let p4 = entry .pre .4 in
+    let l = c .before .before .before .before .before .before .before .before .before .before .before .before .before .before .before .loop in
+    let i = l .inv .0 in
+    let i1 = l .inv .1 in
+    let q : l .k < a .n = loop-test .taken in
+    search needs
 
 returns : tie.Need-returns Inv-loop μ-loop
-returns c = let a = c .before .before .before .before .before .before .before .before .before .before .before .before .before .before .before .before .before .before .before .before .before .args in let p = c .before .before .before .before .before .before .before .before .before .before .before .before .before .before .before .before .before .before .before .before .before .pre .0 in let p1 = c .before .before .before .before .before .before .before .before .before .before .before .before .before .before .before .before .before .before .before .before .before .pre .1 in let p2 = c .before .before .before .before .before .before .before .before .before .before .before .before .before .before .before .before .before .before .before .before .before .pre .2 in let p4 = c .before .before .before .before .before .before .before .before .before .before .before .before .before .before .before .before .before .before .before .before .before .pre .4 in let l = c .before .before .before .before .before .before .before .before .before .before .before .before .before .before .before .loop in let i = l .inv .0 in let i1 = l .inv .1 in let q : l .k < a .n = c .before .before .before .before .before .before .before .before .before .before .before .before .before .before .loop-test .taken in (omega (arith, q), walk-wrong (settledIn edition1 (a .start .now)) (a .answers .now) (a .events .now) (a .n) (walk edition1 (settledIn edition1 (a .start .now)) (a .answers .now) blankLedger (pagesOf (a .store .now)) 0 (words geometry1 (a .n) (a .events .now))) (l .k) _ _ (l .store) _ _ _ _ _ _ q (c .before .before .before .before .before .event-at .ensures .0) (c .before .before .before .before .due-event .ensures) (c .before .answered .ensures) (not-true _ (c .if1 .taken)) (l .inv .3))
+returns c =
+    let entry = c .before .before .before .before .before .before .before .before .before .before .before .before .before .before .before .before .before .before .before .before .before in
+    let loop-test = c .before .before .before .before .before .before .before .before .before .before .before .before .before .before .loop-test in
+    let event-at = c .before .before .before .before .before .event-at in
+    let due-event = c .before .before .before .before .due-event in
+    let a = entry .args in
+    let p = entry .pre .0 in
+    let p1 = entry .pre .1 in
+    let p2 = entry .pre .2 in
+    let p4 = entry .pre .4 in
+    let l = c .before .before .before .before .before .before .before .before .before .before .before .before .before .before .before .loop in
+    let i = l .inv .0 in
+    let i1 = l .inv .1 in
+    let q : l .k < a .n = loop-test .taken in
+    (omega (arith, q), walk-wrong (settledIn edition1 (a .start .now)) (a .answers .now) (a .events .now) (a .n) (walk edition1 (settledIn edition1 (a .start .now)) (a .answers .now) blankLedger (pagesOf (a .store .now)) 0 (words geometry1 (a .n) (a .events .now))) (l .k) _ _ (l .store) _ _ _ _ _ _ q (event-at .ensures .0) (due-event .ensures) (c .before .answered .ensures) (not-true _ (c .if1 .taken)) (l .inv .3))
 
 add-k : tie.Need-add-k Inv-loop μ-loop
-add-k c = let a = c .before .before .before .before .before .before .before .before .before .before .before .before .before .before .before .before .before .before .before .before .before .args in let p = c .before .before .before .before .before .before .before .before .before .before .before .before .before .before .before .before .before .before .before .before .before .pre .0 in let p1 = c .before .before .before .before .before .before .before .before .before .before .before .before .before .before .before .before .before .before .before .before .before .pre .1 in let p2 = c .before .before .before .before .before .before .before .before .before .before .before .before .before .before .before .before .before .before .before .before .before .pre .2 in let p4 = c .before .before .before .before .before .before .before .before .before .before .before .before .before .before .before .before .before .before .before .before .before .pre .4 in let l = c .before .before .before .before .before .before .before .before .before .before .before .before .before .before .before .loop in let i = l .inv .0 in let i1 = l .inv .1 in let q : l .k < a .n = c .before .before .before .before .before .before .before .before .before .before .before .before .before .before .loop-test .taken in omega (arith, p, q)
+add-k c =
+    let entry = c .before .before .before .before .before .before .before .before .before .before .before .before .before .before .before .before .before .before .before .before .before in
+    let loop-test = c .before .before .before .before .before .before .before .before .before .before .before .before .before .before .loop-test in
+    let a = entry .args in
+    let p = entry .pre .0 in
+    let p1 = entry .pre .1 in
+    let p2 = entry .pre .2 in
+    let p4 = entry .pre .4 in
+    let l = c .before .before .before .before .before .before .before .before .before .before .before .before .before .before .before .loop in
+    let i = l .inv .0 in
+    let i1 = l .inv .1 in
+    let q : l .k < a .n = loop-test .taken in
+    omega (arith, p, q)
 
 loop-less : tie.Need-loop-less Inv-loop μ-loop
-loop-less c = let a = c .before .before .before .before .before .before .before .before .before .before .before .before .before .before .before .before .before .before .before .before .before .args in let p = c .before .before .before .before .before .before .before .before .before .before .before .before .before .before .before .before .before .before .before .before .before .pre .0 in let p1 = c .before .before .before .before .before .before .before .before .before .before .before .before .before .before .before .before .before .before .before .before .before .pre .1 in let p2 = c .before .before .before .before .before .before .before .before .before .before .before .before .before .before .before .before .before .before .before .before .before .pre .2 in let p4 = c .before .before .before .before .before .before .before .before .before .before .before .before .before .before .before .before .before .before .before .before .before .pre .4 in let l = c .before .before .before .before .before .before .before .before .before .before .before .before .before .before .before .loop in let i = l .inv .0 in let i1 = l .inv .1 in let q : l .k < a .n = c .before .before .before .before .before .before .before .before .before .before .before .before .before .before .loop-test .taken in omega (arith, q)
+loop-less c =
+    let entry = c .before .before .before .before .before .before .before .before .before .before .before .before .before .before .before .before .before .before .before .before .before in
+    let loop-test = c .before .before .before .before .before .before .before .before .before .before .before .before .before .before .loop-test in
+    let a = entry .args in
+    let p = entry .pre .0 in
+    let p1 = entry .pre .1 in
+    let p2 = entry .pre .2 in
+    let p4 = entry .pre .4 in
+    let l = c .before .before .before .before .before .before .before .before .before .before .before .before .before .before .before .loop in
+    let i = l .inv .0 in
+    let i1 = l .inv .1 in
+    let q : l .k < a .n = loop-test .taken in
+    omega (arith, q)
 
 loop-again : tie.Need-loop-again Inv-loop μ-loop
-loop-again c = let a = c .before .before .before .before .before .before .before .before .before .before .before .before .before .before .before .before .before .before .before .before .before .args in let p = c .before .before .before .before .before .before .before .before .before .before .before .before .before .before .before .before .before .before .before .before .before .pre .0 in let p1 = c .before .before .before .before .before .before .before .before .before .before .before .before .before .before .before .before .before .before .before .before .before .pre .1 in let p2 = c .before .before .before .before .before .before .before .before .before .before .before .before .before .before .before .before .before .before .before .before .before .pre .2 in let p4 = c .before .before .before .before .before .before .before .before .before .before .before .before .before .before .before .before .before .before .before .before .before .pre .4 in let l = c .before .before .before .before .before .before .before .before .before .before .before .before .before .before .before .loop in let i = l .inv .0 in let i1 = l .inv .1 in let q : l .k < a .n = c .before .before .before .before .before .before .before .before .before .before .before .before .before .before .loop-test .taken in (omega (arith, q), search needs, consistent-next _ (l .k) (c .before .before .before .before .due-event .ensures .consistent), walk-again (settledIn edition1 (a .start .now)) (a .answers .now) (a .events .now) (a .n) (walk edition1 (settledIn edition1 (a .start .now)) (a .answers .now) blankLedger (pagesOf (a .store .now)) 0 (words geometry1 (a .n) (a .events .now))) (l .k) _ _ (l .store) _ _ _ _ _ q (c .before .before .before .before .before .event-at .ensures .0) (c .before .before .before .before .due-event .ensures) (c .before .answered .ensures) (not-false _ (c .if1 .left)) (l .inv .3))
+loop-again c =
+    let entry = c .before .before .before .before .before .before .before .before .before .before .before .before .before .before .before .before .before .before .before .before .before in
+    let loop-test = c .before .before .before .before .before .before .before .before .before .before .before .before .before .before .loop-test in
+    let event-at = c .before .before .before .before .before .event-at in
+    let due-event = c .before .before .before .before .due-event in
+    let a = entry .args in
+    let p = entry .pre .0 in
+    let p1 = entry .pre .1 in
+    let p2 = entry .pre .2 in
+    let p4 = entry .pre .4 in
+    let l = c .before .before .before .before .before .before .before .before .before .before .before .before .before .before .before .loop in
+    let i = l .inv .0 in
+    let i1 = l .inv .1 in
+    let q : l .k < a .n = loop-test .taken in
+    (omega (arith, q), search needs, consistent-next _ (l .k) (due-event .ensures .consistent), walk-again (settledIn edition1 (a .start .now)) (a .answers .now) (a .events .now) (a .n) (walk edition1 (settledIn edition1 (a .start .now)) (a .answers .now) blankLedger (pagesOf (a .store .now)) 0 (words geometry1 (a .n) (a .events .now))) (l .k) _ _ (l .store) _ _ _ _ _ q (event-at .ensures .0) (due-event .ensures) (c .before .answered .ensures) (not-false _ (c .if1 .left)) (l .inv .3))
 
 same-length-2 : tie.Need-same-length-2 Inv-loop μ-loop
 same-length-2 c = search needs
 
 returns-2 : tie.Need-returns-2 Inv-loop μ-loop
-returns-2 c = let a = c .before .before .before .before .before .before .before .args in let l = c .before .loop in let i = l .inv .0 in (omega arith, walk-end (settledIn edition1 (a .start .now)) (a .answers .now) (a .events .now) (a .n) (walk edition1 (settledIn edition1 (a .start .now)) (a .answers .now) blankLedger (pagesOf (a .store .now)) 0 (words geometry1 (a .n) (a .events .now))) (l .k) _ (l .store) (omega arith) (l .inv .3))
+returns-2 c =
+    let a = c .before .before .before .before .before .before .before .args in
+    let l = c .before .loop in
+    let i = l .inv .0 in
+    (omega arith, walk-end (settledIn edition1 (a .start .now)) (a .answers .now) (a .events .now) (a .n) (walk edition1 (settledIn edition1 (a .start .now)) (a .answers .now) blankLedger (pagesOf (a .store .now)) 0 (words geometry1 (a .n) (a .events .now))) (l .k) _ (l .store) (omega arith) (l .inv .3))
 
 pub walk-spec : {M : Type 1} → statement M
 walk-spec =

@@ -21,15 +21,17 @@ array-read-entry c = search needs
 
 returns-3 : tie.Need-returns-3
 returns-3 c =
+    let if1 = c .before .before .before .if1 in
     let a = c .before .before .before .before .before .args in
-    let h : now (a .state) < 4 = (let z = c .before .before .before .if1 .left in omega arith) in
+    let h : now (a .state) < 4 = (let z = if1 .left in omega arith) in
     let k : a .message < 4 = (let z = c .before .before .if2 .left in omega arith) in
     leaves (none-at (now (a .state)) (a .message) (now (a .reply)) (c .before .place .result) h k (c .before .place .ensures .0) (c .if3 .taken))
 
 returns-4 : tie.Need-returns-4
 returns-4 c =
+    let if1 = c .before .before .before .if1 in
     let a = c .before .before .before .before .before .args in
-    let h : now (a .state) < 4 = (let z = c .before .before .before .if1 .left in omega arith) in
+    let h : now (a .state) < 4 = (let z = if1 .left in omega arith) in
     let k : a .message < 4 = (let z = c .before .before .if2 .left in omega arith) in
     leaves (some-at (now (a .state)) (a .message) (now (a .reply)) (c .before .place .result) h k (c .before .place .ensures .0) (c .if3 .left))
 

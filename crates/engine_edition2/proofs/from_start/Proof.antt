@@ -30,7 +30,11 @@ slice-aggregate-play-3 : tie.Need-slice-aggregate-play-3
 slice-aggregate-play-3 c = search needs
 
 play-requires : tie.Need-play-requires
-play-requires c κs = let a = c .before .before .before .before .before .before .before .before .before .before .before .before .before .before .args in let p = c .before .before .before .before .before .before .before .before .before .before .before .before .before .before .pre in (begins (a .work .now) (a .store .now) (p .1) (p .0), record { many = layout2 .many; two-phase = refl; torn = refl }, bytes2, inr refl, search needs, search needs)
+play-requires c κs =
+    let entry = c .before .before .before .before .before .before .before .before .before .before .before .before .before .before in
+    let a = entry .args in
+    let p = entry .pre in
+    (begins (a .work .now) (a .store .now) (p .1) (p .0), record { many = layout2 .many; two-phase = refl; torn = refl }, bytes2, inr refl, search needs, search needs)
 
 same-length : tie.Need-same-length
 same-length c = search needs
@@ -42,7 +46,10 @@ same-length-3 : tie.Need-same-length-3
 same-length-3 c = search needs
 
 returns : tie.Need-returns
-returns c = let a = c .before .before .before .before .before .before .before .before .before .before .before .before .before .before .before .before .before .before .before .before .before .before .before .before .args in record { before = zeros 64 (a .work .now) (a .store .now); begun = zeros-down edition2 64 (a .work .now) (a .store .now); line = _; held = _; retained = _; leads = c .before .before .before .before .before .before .before .before .before .play .ensures }
+returns c =
+    let play = c .before .before .before .before .before .before .before .before .before .play in
+    let a = c .before .before .before .before .before .before .before .before .before .before .before .before .before .before .before .before .before .before .before .before .before .before .before .before .args in
+    record { before = zeros 64 (a .work .now) (a .store .now); begun = zeros-down edition2 64 (a .work .now) (a .store .now); line = _; held = _; retained = _; leads = play .ensures }
 
 pub from-start-spec : {M : Type 1} → statement M
 from-start-spec =

@@ -28,13 +28,31 @@ abbrev μ-loop : tie.MeasureT-loop
     n - k
 
 live-set-requires : tie.Need-live-set-requires Inv-loop μ-loop
-live-set-requires c κs = c .before .before .before .before .before .before .before .before .pre .0 .form .depths
+live-set-requires c κs =
+    let entry = c .before .before .before .before .before .before .before .before in
+    entry .pre .0 .form .depths
 
 children-of-requires : tie.Need-children-of-requires Inv-loop μ-loop
-children-of-requires c κs = let a = c .before .before .before .before .before .before .before .before .before .before .before .args in let edition = editionOf (a .records) (a .joint) (a .tears) in let g = geometryOf edition in let f = formIn (a .tears) g in let I = c .before .before .before .before .before .before .before .before .before .before .before .pre .0 in let N = c .before .before .before .before .before .before .before .before .before .before .before .pre .1 in (I .form .parents, I .form .depths, parent-named f _ I)
+children-of-requires c κs =
+    let entry = c .before .before .before .before .before .before .before .before .before .before .before in
+    let a = entry .args in
+    let edition = editionOf (a .records) (a .joint) (a .tears) in
+    let g = geometryOf edition in
+    let f = formIn (a .tears) g in
+    let I = entry .pre .0 in
+    let N = entry .pre .1 in
+    (I .form .parents, I .form .depths, parent-named f _ I)
 
 read-held-requires : tie.Need-read-held-requires Inv-loop μ-loop
-read-held-requires c κs = let a = c .before .before .before .before .before .before .before .before .before .before .before .before .before .args in let edition = editionOf (a .records) (a .joint) (a .tears) in let g = geometryOf edition in let f = formIn (a .tears) g in let I = c .before .before .before .before .before .before .before .before .before .before .before .before .before .pre .0 in let N = c .before .before .before .before .before .before .before .before .before .before .before .before .before .pre .1 in (known-of edition (a .records) (a .joint) (a .tears) N, joint-of edition (a .records) (a .joint) (a .tears) N, I .form .stores ∙ size-is (a .tears) g (a .records) (N .many))
+read-held-requires c κs =
+    let entry = c .before .before .before .before .before .before .before .before .before .before .before .before .before in
+    let a = entry .args in
+    let edition = editionOf (a .records) (a .joint) (a .tears) in
+    let g = geometryOf edition in
+    let f = formIn (a .tears) g in
+    let I = entry .pre .0 in
+    let N = entry .pre .1 in
+    (known-of edition (a .records) (a .joint) (a .tears) N, joint-of edition (a .records) (a .joint) (a .tears) N, I .form .stores ∙ size-is (a .tears) g (a .records) (N .many))
 
 table-requires : tie.Need-table-requires Inv-loop μ-loop
 table-requires c κs = search needs
@@ -43,28 +61,89 @@ table-requires-2 : tie.Need-table-requires-2 Inv-loop μ-loop
 table-requires-2 c κs = search needs
 
 div-n : tie.Need-div-n Inv-loop μ-loop
-div-n c = some-bytes (c .before .before .before .before .before .before .before .before .before .before .before .before .before .before .before .before .pre .3)
+div-n c =
+    let entry = c .before .before .before .before .before .before .before .before .before .before .before .before .before .before .before .before in
+    some-bytes (entry .pre .3)
 
 loop-holds : tie.Need-loop-holds Inv-loop μ-loop
-loop-holds c = let a = c .before .before .before .before .before .before .before .before .before .before .before .before .before .before .before .before .args in let edition = editionOf (a .records) (a .joint) (a .tears) in let g = geometryOf edition in let f = formIn (a .tears) g in let I = c .before .before .before .before .before .before .before .before .before .before .before .before .before .before .before .before .pre .0 in let N = c .before .before .before .before .before .before .before .before .before .before .before .before .before .before .before .before .pre .1 in let n = counted (length (a .events .now)) (c .before .before .before .before .before .before .before .before .before .before .before .before .before .before .before .before .pre .3) (c .before .before .before .before .before .before .before .before .before .before .before .before .before .before .before .before .pre .4) in let h = c .before .before .before .before .children-of .ensures in (search needs, refl, n .0, n .1, search needs, playing-none f (a .word) _ _ _ _ I, record { lives = c .before .before .before .before .before .before .before .live-set .ensures; under = h .1; named = parent-named f _ I; long = h .0 }, sym (c .before .before .read-held .ensures .0 g (layout-of edition (a .records) (a .joint) (a .tears) N) (N .two-phase)))
+loop-holds c =
+    let entry = c .before .before .before .before .before .before .before .before .before .before .before .before .before .before .before .before in
+    let live-set = c .before .before .before .before .before .before .before .live-set in
+    let children-of = c .before .before .before .before .children-of in
+    let a = entry .args in
+    let edition = editionOf (a .records) (a .joint) (a .tears) in
+    let g = geometryOf edition in
+    let f = formIn (a .tears) g in
+    let I = entry .pre .0 in
+    let N = entry .pre .1 in
+    let n = counted (length (a .events .now)) (entry .pre .3) (entry .pre .4) in
+    let h = children-of .ensures in
+    (search needs, refl, n .0, n .1, search needs, playing-none f (a .word) _ _ _ _ I, record { lives = live-set .ensures; under = h .1; named = parent-named f _ I; long = h .0 }, sym (c .before .before .read-held .ensures .0 g (layout-of edition (a .records) (a .joint) (a .tears) N) (N .two-phase)))
 
 event-at-requires : tie.Need-event-at-requires Inv-loop μ-loop
-event-at-requires c κs = let l = c .before .before .before .before .before .before .before .before .before .before .before .before .before .before .before .before .loop in let a = c .before .before .before .before .before .before .before .before .before .before .before .before .before .before .before .before .before .before .before .before .before .before .before .before .before .before .before .before .before .before .before .before .before .args in let q : l .k < _ = c .before .before .before .before .before .before .before .before .before .before .before .before .before .before .before .loop-test .taken in (c .before .before .before .before .before .before .before .before .before .before .before .before .before .before .before .before .before .before .table .ensures, c .before .before .before .before .before .before .before .before .before .before .before .before .before .before .before .before .before .table2 .ensures, search needs, c .before .before .before .before .before .before .before .before .before .before .before .before .before .before .before .before .before .before .before .before .before .before .before .before .before .before .before .before .before .before .before .before .before .pre .3, within (l .k) _ (length (a .events .now)) (c .before .before .before .before .before .before .before .before .before .before .before .before .before .before .before .before .before .before .before .before .before .before .before .before .before .before .before .before .before .before .before .before .before .pre .3) q (l .inv .3))
+event-at-requires c κs =
+    let entry = c .before .before .before .before .before .before .before .before .before .before .before .before .before .before .before .before .before .before .before .before .before .before .before .before .before .before .before .before .before .before .before .before .before in
+    let table = c .before .before .before .before .before .before .before .before .before .before .before .before .before .before .before .before .before .before .table in
+    let table2 = c .before .before .before .before .before .before .before .before .before .before .before .before .before .before .before .before .before .table2 in
+    let loop-test = c .before .before .before .before .before .before .before .before .before .before .before .before .before .before .before .loop-test in
+    let l = c .before .before .before .before .before .before .before .before .before .before .before .before .before .before .before .before .loop in
+    let a = entry .args in
+    let q : l .k < _ = loop-test .taken in
+    (table .ensures, table2 .ensures, search needs, entry .pre .3, within (l .k) _ (length (a .events .now)) (entry .pre .3) q (l .inv .3))
 
 step-requires : tie.Need-step-requires Inv-loop μ-loop
-step-requires c κs = let a = c .before .before .before .before .before .before .before .before .before .before .before .before .before .before .before .before .before .before .before .before .before .before .before .before .before .before .before .before .before .before .before .before .before .before .args in let edition = editionOf (a .records) (a .joint) (a .tears) in let g = geometryOf edition in let f = formIn (a .tears) g in let I = c .before .before .before .before .before .before .before .before .before .before .before .before .before .before .before .before .before .before .before .before .before .before .before .before .before .before .before .before .before .before .before .before .before .before .pre .0 in let N = c .before .before .before .before .before .before .before .before .before .before .before .before .before .before .before .before .before .before .before .before .before .before .before .before .before .before .before .before .before .before .before .before .before .before .pre .1 in let l = c .before .before .before .before .before .before .before .before .before .before .before .before .before .before .before .before .before .loop in let W = c .event-at .ensures edition (c .before .before .before .before .before .before .before .before .before .before .before .before .before .before .before .before .before .before .before .before .before .before .before .before .before .before .before .before .before .before .before .before .before .before .pre .2) (N .torn) .1 in (W, l .inv .5 .intact, l .inv .6, l .inv .7, N, λ h. sym (N .two-phase) ∙ W .joint h)
+step-requires c κs =
+    let entry = c .before .before .before .before .before .before .before .before .before .before .before .before .before .before .before .before .before .before .before .before .before .before .before .before .before .before .before .before .before .before .before .before .before .before in
+    let a = entry .args in
+    let edition = editionOf (a .records) (a .joint) (a .tears) in
+    let g = geometryOf edition in
+    let f = formIn (a .tears) g in
+    let I = entry .pre .0 in
+    let N = entry .pre .1 in
+    let l = c .before .before .before .before .before .before .before .before .before .before .before .before .before .before .before .before .before .loop in
+    let W = c .event-at .ensures edition (entry .pre .2) (N .torn) .1 in
+    (W, l .inv .5 .intact, l .inv .6, l .inv .7, N, λ h. sym (N .two-phase) ∙ W .joint h)
 
 put-requires : tie.Need-put-requires Inv-loop μ-loop
-put-requires c κs = let l = c .before .before .before .before .before .before .before .before .before .before .before .before .before .before .before .before .before .before .before .before .before .before .before .before .before .before .before .before .before .loop in let e = l .inv .5 .long in let q : l .k < _ = c .before .before .before .before .before .before .before .before .before .before .before .before .before .before .before .before .before .before .before .before .before .before .before .before .before .before .before .before .loop-test .taken in let b = l .inv .2 in let d = l .inv .4 in (omega arith, omega arith)
+put-requires c κs =
+    let loop-test = c .before .before .before .before .before .before .before .before .before .before .before .before .before .before .before .before .before .before .before .before .before .before .before .before .before .before .before .before .loop-test in
+    let l = c .before .before .before .before .before .before .before .before .before .before .before .before .before .before .before .before .before .before .before .before .before .before .before .before .before .before .before .before .before .loop in
+    let e = l .inv .5 .long in
+    let q : l .k < _ = loop-test .taken in
+    let b = l .inv .2 in
+    let d = l .inv .4 in
+    (omega arith, omega arith)
 
 add-k : tie.Need-add-k Inv-loop μ-loop
-add-k c = let q = c .before .before .before .before .before .before .before .before .before .before .before .before .before .before .before .before .before .before .before .before .before .before .before .before .before .before .before .before .before .before .before .loop-test .taken in let b = c .before .before .before .before .before .before .before .before .before .before .before .before .before .before .before .before .before .before .before .before .before .before .before .before .before .before .before .before .before .before .before .before .loop .inv .2 in search needs
+add-k c =
+    let loop = c .before .before .before .before .before .before .before .before .before .before .before .before .before .before .before .before .before .before .before .before .before .before .before .before .before .before .before .before .before .before .before .before .loop in
+    let loop-test = c .before .before .before .before .before .before .before .before .before .before .before .before .before .before .before .before .before .before .before .before .before .before .before .before .before .before .before .before .before .before .before .loop-test in
+    let q = loop-test .taken in
+    let b = loop .inv .2 in
+    search needs
 
 loop-less : tie.Need-loop-less Inv-loop μ-loop
-loop-less c = let q = c .before .before .before .before .before .before .before .before .before .before .before .before .before .before .before .before .before .before .before .before .before .before .before .before .before .before .before .before .before .before .before .loop-test .taken in search needs
+loop-less c =
+    let loop-test = c .before .before .before .before .before .before .before .before .before .before .before .before .before .before .before .before .before .before .before .before .before .before .before .before .before .before .before .before .before .before .before .loop-test in
+    let q = loop-test .taken in
+    search needs
 
 loop-again : tie.Need-loop-again Inv-loop μ-loop
-loop-again c = let a = c .before .before .before .before .before .before .before .before .before .before .before .before .before .before .before .before .before .before .before .before .before .before .before .before .before .before .before .before .before .before .before .before .before .before .before .before .before .before .before .before .before .before .before .before .before .before .before .before .before .args in let edition = editionOf (a .records) (a .joint) (a .tears) in let g = geometryOf edition in let f = formIn (a .tears) g in let I = c .before .before .before .before .before .before .before .before .before .before .before .before .before .before .before .before .before .before .before .before .before .before .before .before .before .before .before .before .before .before .before .before .before .before .before .before .before .before .before .before .before .before .before .before .before .before .before .before .before .pre .0 in let N = c .before .before .before .before .before .before .before .before .before .before .before .before .before .before .before .before .before .before .before .before .before .before .before .before .before .before .before .before .before .before .before .before .before .before .before .before .before .before .before .before .before .before .before .before .before .before .before .before .before .pre .1 in let l = c .before .before .before .before .before .before .before .before .before .before .before .before .before .before .before .before .before .before .before .before .before .before .before .before .before .before .before .before .before .before .before .before .loop in let q : l .k < _ = c .before .before .before .before .before .before .before .before .before .before .before .before .before .before .before .before .before .before .before .before .before .before .before .before .before .before .before .before .before .before .before .loop-test .taken in let b = l .inv .0 in (omega arith, l .inv .1, l .inv .2, l .inv .3, l .inv .4, playing-next f (a .word) (c .before .before .before .before .before .before .before .before .before .before .before .before .before .before .before .before .before .before .before .before .before .before .before .before .before .before .before .before .before .before .before .before .before .before .before .before .before .before .before .before .before .before .before .before .before .before .before .before .before .pre .2) _ _ _ (a .events .now) (a .answers .now) (l .answers) _ _ (l .k) _ _ _ (l .inv .5) q (l .inv .4) refl (c .before .before .before .before .before .before .before .before .before .before .before .before .before .before .before .event-at .ensures edition (c .before .before .before .before .before .before .before .before .before .before .before .before .before .before .before .before .before .before .before .before .before .before .before .before .before .before .before .before .before .before .before .before .before .before .before .before .before .before .before .before .before .before .before .before .before .before .before .before .before .pre .2) (N .torn) .0) (c .before .before .before .before .before .before .before .before .before .before .before .before .before .before .step .ensures .0) (c .before .before .put .ensures), c .before .before .before .before .before .before .before .before .before .before .before .before .before .before .step .ensures .1 .0, c .before .before .before .before .before .before .before .before .before .before .before .before .before .before .step .ensures .1 .1)
+loop-again c =
+    let entry = c .before .before .before .before .before .before .before .before .before .before .before .before .before .before .before .before .before .before .before .before .before .before .before .before .before .before .before .before .before .before .before .before .before .before .before .before .before .before .before .before .before .before .before .before .before .before .before .before .before in
+    let loop-test = c .before .before .before .before .before .before .before .before .before .before .before .before .before .before .before .before .before .before .before .before .before .before .before .before .before .before .before .before .before .before .before .loop-test in
+    let event-at = c .before .before .before .before .before .before .before .before .before .before .before .before .before .before .before .event-at in
+    let step = c .before .before .before .before .before .before .before .before .before .before .before .before .before .before .step in
+    let a = entry .args in
+    let edition = editionOf (a .records) (a .joint) (a .tears) in
+    let g = geometryOf edition in
+    let f = formIn (a .tears) g in
+    let I = entry .pre .0 in
+    let N = entry .pre .1 in
+    let l = c .before .before .before .before .before .before .before .before .before .before .before .before .before .before .before .before .before .before .before .before .before .before .before .before .before .before .before .before .before .before .before .before .loop in
+    let q : l .k < _ = loop-test .taken in
+    let b = l .inv .0 in
+    (omega arith, l .inv .1, l .inv .2, l .inv .3, l .inv .4, playing-next f (a .word) (entry .pre .2) _ _ _ (a .events .now) (a .answers .now) (l .answers) _ _ (l .k) _ _ _ (l .inv .5) q (l .inv .4) refl (event-at .ensures edition (entry .pre .2) (N .torn) .0) (step .ensures .0) (c .before .before .put .ensures), step .ensures .1 .0, step .ensures .1 .1)
 
 same-length : tie.Need-same-length Inv-loop μ-loop
 same-length c = search needs
@@ -85,7 +164,16 @@ same-length-6 : tie.Need-same-length-6 Inv-loop μ-loop
 same-length-6 c = search needs
 
 returns : tie.Need-returns Inv-loop μ-loop
-returns c = let a = c .before .before .before .before .before .before .before .before .before .before .before .before .before .before .before .before .before .before .args in let edition = editionOf (a .records) (a .joint) (a .tears) in let g = geometryOf edition in let f = formIn (a .tears) g in let I = c .before .before .before .before .before .before .before .before .before .before .before .before .before .before .before .before .before .before .pre .0 in let N = c .before .before .before .before .before .before .before .before .before .before .before .before .before .before .before .before .before .before .pre .1 in let l = c .before .loop in playing-all f (a .word) (c .before .before .before .before .before .before .before .before .before .before .before .before .before .before .before .before .before .before .pre .2) (medium-laws (a .tears) g (layout-of edition (a .records) (a .joint) (a .tears) N .proper) (N .torn) .to-from) _ _ _ _ _ (l .k) _ (search needs) (l .inv .1) (l .inv .5)
+returns c =
+    let entry = c .before .before .before .before .before .before .before .before .before .before .before .before .before .before .before .before .before .before in
+    let a = entry .args in
+    let edition = editionOf (a .records) (a .joint) (a .tears) in
+    let g = geometryOf edition in
+    let f = formIn (a .tears) g in
+    let I = entry .pre .0 in
+    let N = entry .pre .1 in
+    let l = c .before .loop in
+    playing-all f (a .word) (entry .pre .2) (medium-laws (a .tears) g (layout-of edition (a .records) (a .joint) (a .tears) N .proper) (N .torn) .to-from) _ _ _ _ _ (l .k) _ (search needs) (l .inv .1) (l .inv .5)
 
 pub play-spec : {M : Type 1} → statement M
 play-spec =

@@ -11,7 +11,9 @@ get-page-requires : tie.Need-get-page-requires
 get-page-requires c κs = search needs
 
 returns : tie.Need-returns
-returns c = source-stored (c .before .before .before .before .args .tears) (c .before .before .before .before .args .p) _ _ _ _ (c .get-page .ensures) (c .before .if1 .taken)
+returns c =
+    let entry = c .before .before .before .before in
+    source-stored (entry .args .tears) (entry .args .p) _ _ _ _ (c .get-page .ensures) (c .before .if1 .taken)
 
 mul-get-page : tie.Need-mul-get-page
 mul-get-page c = search needs
@@ -20,7 +22,9 @@ get-page-requires-2 : tie.Need-get-page-requires-2
 get-page-requires-2 c κs = search needs
 
 returns-2 : tie.Need-returns-2
-returns-2 c = source-version (c .before .before .before .before .args .tears) (c .before .before .before .before .args .p) _ _ _ _ (c .get-page2 .ensures) (c .before .if1 .left)
+returns-2 c =
+    let entry = c .before .before .before .before in
+    source-version (entry .args .tears) (entry .args .p) _ _ _ _ (c .get-page2 .ensures) (c .before .if1 .left)
 
 pub page-for-spec : {M : Type 1} → statement M
 page-for-spec =

@@ -11,14 +11,19 @@ plan-of-requires : tie.Need-plan-of-requires
 plan-of-requires c κs = search needs
 
 put-numbered-requires : tie.Need-put-numbered-requires
-put-numbered-requires c κs = (c .before .before .before .before .before .before .pre .0, c .before .plan-of .ensures .1 .0, c .before .plan-of .ensures .1 .1, c .before .before .before .before .before .before .pre .6, c .before .before .before .before .before .before .pre .7, c .before .before .before .before .before .before .pre .8)
+put-numbered-requires c κs =
+    let entry = c .before .before .before .before .before .before in
+    (entry .pre .0, c .before .plan-of .ensures .1 .0, c .before .plan-of .ensures .1 .1, entry .pre .6, entry .pre .7, entry .pre .8)
 
 same-length : tie.Need-same-length
 same-length c = search needs
 
 returns : tie.Need-returns
 unfolding saidOf
-returns c = λ edition line held retained N I. told-as (c .before .before .before .before .before .before .before .before .before .args .tears) (c .before .before .before .before .before .before .before .before .before .args .index) (c .before .before .before .before .before .before .before .before .before .args .write .now) (c .before .before .before .before .plan-of .ensures .0 edition line held retained (c .before .before .before .before .before .before .before .before .before .args .work .now) N I .writes) (c .before .before .put-numbered .ensures (geometryOf edition) (layout-of edition _ _ _ N))
+returns c =
+    let entry = c .before .before .before .before .before .before .before .before .before in
+    let plan-of = c .before .before .before .before .plan-of in
+    λ edition line held retained N I. told-as (entry .args .tears) (entry .args .index) (entry .args .write .now) (plan-of .ensures .0 edition line held retained (entry .args .work .now) N I .writes) (c .before .before .put-numbered .ensures (geometryOf edition) (layout-of edition _ _ _ N))
 
 pub page-write-spec : {M : Type 1} → statement M
 page-write-spec =

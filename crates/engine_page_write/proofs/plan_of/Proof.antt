@@ -17,20 +17,31 @@ use Rattle.engine_page_write.proofs.plan_of.Statement.{statement}
 use Rattle.engine_page_write.proofs.plan_of.Tie as tie
 
 read-held-requires : tie.Need-read-held-requires
-read-held-requires c κs = (c .before .before .pre .0, c .before .before .pre .1, c .before .before .pre .6)
+read-held-requires c κs =
+    let entry = c .before .before in
+    (entry .pre .0, entry .pre .1, entry .pre .6)
 
 recovery-plan-requires : tie.Need-recovery-plan-requires
-recovery-plan-requires c κs = (c .before .before .before .before .pre .0, c .before .before .before .before .pre .1, c .before .before .before .before .pre .6)
+recovery-plan-requires c κs =
+    let entry = c .before .before .before .before in
+    (entry .pre .0, entry .pre .1, entry .pre .6)
 
 returns : tie.Need-returns
-returns c = (λ edition line held retained work N I. let e = c .before .before .before .before .before .args .e in plans-as (c .before .before .before .before .before .args .tears) (geometryOf edition) _ (N .many) _ _ _ _ (means-recover e (c .before .if1 .taken)) (c .recovery-plan .ensures .0 edition _ _ line held retained _ work (e .count) N I), c .recovery-plan .ensures .1)
+returns c =
+    let entry = c .before .before .before .before .before in
+    (λ edition line held retained work N I. let e = entry .args .e in plans-as (entry .args .tears) (geometryOf edition) _ (N .many) _ _ _ _ (means-recover e (c .before .if1 .taken)) (c .recovery-plan .ensures .0 edition _ _ line held retained _ work (e .count) N I), c .recovery-plan .ensures .1)
 
 decision-plan-requires : tie.Need-decision-plan-requires
-decision-plan-requires c κs = c .before .before .before .read-held .ensures .1
+decision-plan-requires c κs =
+    let read-held = c .before .before .before .read-held in
+    read-held .ensures .1
 
 returns-2 : tie.Need-returns-2
 unfolding same
-returns-2 c = (λ edition line held retained work N I. let e = c .before .before .before .before .before .before .before .args .e in plans-as (c .before .before .before .before .before .before .before .args .tears) (geometryOf edition) _ (N .many) _ _ _ _ (means-decide e (c .before .before .if2 .taken) ∙ ap (λ (d : Bool). some (decide d (e .count) (e .value))) (decision-of (e .offset))) (c .decision-plan .ensures .0 edition _ (c .before .before .before .before .before .before .before .args .tears) _ _ line held retained _ work _ (e .count) N I (sym (c .before .before .before .before .read-held .ensures .0 (geometryOf edition) (layout-of edition _ _ _ N) (N .two-phase)))), c .decision-plan .ensures .1)
+returns-2 c =
+    let entry = c .before .before .before .before .before .before .before in
+    let read-held = c .before .before .before .before .read-held in
+    (λ edition line held retained work N I. let e = entry .args .e in plans-as (entry .args .tears) (geometryOf edition) _ (N .many) _ _ _ _ (means-decide e (c .before .before .if2 .taken) ∙ ap (λ (d : Bool). some (decide d (e .count) (e .value))) (decision-of (e .offset))) (c .decision-plan .ensures .0 edition _ (entry .args .tears) _ _ line held retained _ work _ (e .count) N I (sym (read-held .ensures .0 (geometryOf edition) (layout-of edition _ _ _ N) (N .two-phase)))), c .decision-plan .ensures .1)
 
 checked-requires : tie.Need-checked-requires
 checked-requires c κs = search needs
@@ -40,7 +51,9 @@ enum-known-t c = search needs
 
 top-plan-requires : tie.Need-top-plan-requires
 unfolding same
-top-plan-requires c κs = (known-small _ (c .before .before .before .before .before .before .before .before .before .before .pre .0) .0, λ q. c .before .before .before .before .before .before .before .before .before .before .pre .1 (c .before .before .before .before .before .before .before .before .before .before .pre .2 (let z = same-eq (c .before .before .before .before .before .before .before .before .before .before .args .e .kind) 9 q in omega (arith, z))), c .before .before .before .before .before .before .before .before .before .before .pre .3, c .before .before .before .before .before .before .before .before .before .before .pre .4, c .before .before .before .before .before .before .before .before .before .before .pre .5, c .before .before .before .before .before .before .before .before .before .before .pre .7)
+top-plan-requires c κs =
+    let entry = c .before .before .before .before .before .before .before .before .before .before in
+    (known-small _ (entry .pre .0) .0, λ q. entry .pre .1 (entry .pre .2 (let z = same-eq (entry .args .e .kind) 9 q in omega (arith, z))), entry .pre .3, entry .pre .4, entry .pre .5, entry .pre .7)
 
 enum-told : tie.Need-enum-told
 enum-told c = search needs
@@ -50,18 +63,30 @@ none-requires c κs = search needs
 
 returns-3 : tie.Need-returns-3
 unfolding same
-returns-3 c = (λ edition line held retained work N I. let e = c .before .before .before .before .before .before .before .before .before .before .before .args .e in plans-as (c .before .before .before .before .before .before .before .before .before .before .before .args .tears) (geometryOf edition) _ (N .many) _ _ _ _ (settles e (c .before .before .before .before .before .if3 .taken)) (by-number (c .before .before .before .before .before .before .before .before .before .before .before .args .tears) (geometryOf edition) _ (N .many) _ _ (e .count) _ _ _ _ (transaction-is (e .transaction) _ (sym (c .before .before .t .given .1) ∙ c .before .before .before .before .checked .ensures)) (c .top-plan .ensures .0 edition _ (c .before .before .before .before .before .before .before .before .before .before .before .args .tears) line held retained work _ (e .count) _ N I (sym (c .before .before .before .before .before .before .before .before .read-held .ensures .0 (geometryOf edition) (layout-of edition _ _ _ N) (N .two-phase))))), c .top-plan .ensures .1)
+returns-3 c =
+    let entry = c .before .before .before .before .before .before .before .before .before .before .before in
+    let read-held = c .before .before .before .before .before .before .before .before .read-held in
+    let if3 = c .before .before .before .before .before .if3 in
+    let checked = c .before .before .before .before .checked in
+    (λ edition line held retained work N I. let e = entry .args .e in plans-as (entry .args .tears) (geometryOf edition) _ (N .many) _ _ _ _ (settles e (if3 .taken)) (by-number (entry .args .tears) (geometryOf edition) _ (N .many) _ _ (e .count) _ _ _ _ (transaction-is (e .transaction) _ (sym (c .before .before .t .given .1) ∙ checked .ensures)) (c .top-plan .ensures .0 edition _ (entry .args .tears) line held retained work _ (e .count) _ N I (sym (read-held .ensures .0 (geometryOf edition) (layout-of edition _ _ _ N) (N .two-phase))))), c .top-plan .ensures .1)
 
 returns-4 : tie.Need-returns-4
 unfolding same
-returns-4 c = (λ edition line held retained work N I. let e = c .before .before .before .before .before .before .before .before .before .before .args .e in unnamed-plans (c .before .before .before .before .before .before .before .before .before .before .args .tears) (geometryOf edition) _ (N .many) _ I e _ (c .none .ensures) (c .before .before .before .before .if3 .taken) (no-transaction (e .transaction) (sym (c .before .enum-told .given .1) ∙ c .before .before .before .checked .ensures)), nothing-small _ _ (c .none .ensures))
+returns-4 c =
+    let entry = c .before .before .before .before .before .before .before .before .before .before in
+    let if3 = c .before .before .before .before .if3 in
+    let checked = c .before .before .before .checked in
+    (λ edition line held retained work N I. let e = entry .args .e in unnamed-plans (entry .args .tears) (geometryOf edition) _ (N .many) _ I e _ (c .none .ensures) (if3 .taken) (no-transaction (e .transaction) (sym (c .before .enum-told .given .1) ∙ checked .ensures)), nothing-small _ _ (c .none .ensures))
 
 none-requires-2 : tie.Need-none-requires-2
 none-requires-2 c κs = search needs
 
 returns-5 : tie.Need-returns-5
 unfolding same
-returns-5 c = (λ edition line held retained work N I. let e = c .before .before .before .before .before .before .before .args .e in still-plans (c .before .before .before .before .before .before .before .args .tears) (geometryOf edition) _ (N .many) _ e _ (c .none2 .ensures) (c .before .before .before .if1 .left) (c .before .before .if2 .left) (c .before .if3 .left), nothing-small _ _ (c .none2 .ensures))
+returns-5 c =
+    let entry = c .before .before .before .before .before .before .before in
+    let if1 = c .before .before .before .if1 in
+    (λ edition line held retained work N I. let e = entry .args .e in still-plans (entry .args .tears) (geometryOf edition) _ (N .many) _ e _ (c .none2 .ensures) (if1 .left) (c .before .before .if2 .left) (c .before .if3 .left), nothing-small _ _ (c .none2 .ensures))
 
 pub plan-of-spec : {M : Type 1} → statement M
 plan-of-spec =

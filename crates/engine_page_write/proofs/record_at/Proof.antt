@@ -32,7 +32,12 @@ record-if-requires : tie.Need-record-if-requires Inv-loop μ-loop
 record-if-requires c κs = search needs
 
 one-more-if-requires : tie.Need-one-more-if-requires Inv-loop μ-loop
-one-more-if-requires c κs = let l = c .before .before .before .loop in let h = c .before .before .before .before .pre in let q = l .inv .1 in let z = c .before .before .loop-test .taken in omega arith
+one-more-if-requires c κs =
+    let l = c .before .before .before .loop in
+    let h = c .before .before .before .before .pre in
+    let q = l .inv .1 in
+    let z = c .before .before .loop-test .taken in
+    omega arith
 
 add-r : tie.Need-add-r Inv-loop μ-loop
 add-r c = search needs
@@ -42,17 +47,23 @@ loop-less c = search needs
 
 loop-again : tie.Need-loop-again Inv-loop μ-loop
 unfolding same
-loop-again c = let l = c .before .before .before .before .loop in (
-  search needs,
-  one-more-least (c .before .before .names .result) (l .seen) (l .r) _ (c .one-more-if .ensures) (l .inv .1),
-  λ g L. let h = l .inv .2 g L in let e = c .before .before .names .ensures g (L .many) in (
-    turn-record g (c .before .before .before .before .before .args .records) (c .before .before .before .before .before .args .map) (c .before .before .before .before .before .args .n) (l .r) (l .at) (l .seen) (c .before .before .names .result) e (h .0) (h .1) _ (c .before .record-if .ensures),
-    turn-count g (c .before .before .before .before .before .args .records) (c .before .before .before .before .before .args .map) (c .before .before .before .before .before .args .n) (l .r) (l .at) (l .seen) (c .before .before .names .result) e (h .0) (h .1) _ (c .one-more-if .ensures),
-  ),
-)
+loop-again c =
+    let entry = c .before .before .before .before .before in
+    let l = c .before .before .before .before .loop in (
+      search needs,
+      one-more-least (c .before .before .names .result) (l .seen) (l .r) _ (c .one-more-if .ensures) (l .inv .1),
+      λ g L. let h = l .inv .2 g L in let e = c .before .before .names .ensures g (L .many) in (
+        turn-record g (entry .args .records) (entry .args .map) (entry .args .n) (l .r) (l .at) (l .seen) (c .before .before .names .result) e (h .0) (h .1) _ (c .before .record-if .ensures),
+        turn-count g (entry .args .records) (entry .args .map) (entry .args .n) (l .r) (l .at) (l .seen) (c .before .before .names .result) e (h .0) (h .1) _ (c .one-more-if .ensures),
+      ),
+    )
 
 returns : tie.Need-returns Inv-loop μ-loop
-returns c = let l = c .before .loop in let e : l .r ≡ c .before .before .args .records = omega arith in λ g L. l .inv .2 g L .0 ∙ ap (λ (k : ℕ). getD (those k (named g (c .before .before .args .map))) (c .before .before .args .n) (c .before .before .args .records)) e
+returns c =
+    let entry = c .before .before in
+    let l = c .before .loop in
+    let e : l .r ≡ entry .args .records = omega arith in
+    λ g L. l .inv .2 g L .0 ∙ ap (λ (k : ℕ). getD (those k (named g (entry .args .map))) (entry .args .n) (entry .args .records)) e
 
 pub record-at-spec : {M : Type 1} → statement M
 record-at-spec =

@@ -17,7 +17,11 @@ slice-aggregate-play-3 : tie.Need-slice-aggregate-play-3
 slice-aggregate-play-3 c = search needs
 
 play-requires : tie.Need-play-requires
-play-requires c κs = let a = c .before .before .before .before .before .before .before .before .before .before .before .before .before .before .before .before .before .before .before .before .args in let p = c .before .before .before .before .before .before .before .before .before .before .before .before .before .before .before .before .before .before .before .before .pre in (p .0, p .1, four-of (editionOf 16 (a .joint) (a .tears)) (p .1 .many), inl refl, search needs, search needs)
+play-requires c κs =
+    let entry = c .before .before .before .before .before .before .before .before .before .before .before .before .before .before .before .before .before .before .before .before in
+    let a = entry .args in
+    let p = entry .pre in
+    (p .0, p .1, four-of (editionOf 16 (a .joint) (a .tears)) (p .1 .many), inl refl, search needs, search needs)
 
 same-length : tie.Need-same-length
 same-length c = search needs

@@ -19,7 +19,11 @@ use Rattle.engine_step.proofs.end_event.Statement.{statement}
 use Rattle.engine_step.proofs.end_event.Tie as tie
 
 abort-event-requires : tie.Need-abort-event-requires
-abort-event-requires c κs = let k = editionOf (c .before .before .before .before .before .before .before .before .before .before .before .before .before .before .before .args .records) (c .before .before .before .before .before .before .before .before .before .before .before .before .before .before .before .args .joint) (c .before .before .before .before .before .before .before .before .before .before .before .before .before .before .before .args .tears) in let F = c .before .before .before .before .before .before .before .before .before .before .before .before .before .before .before .pre .7 .form in (F .parents, F .depths, F .long, few _ (known-of k _ _ _ (c .before .before .before .before .before .before .before .before .before .before .before .before .before .before .before .pre .11)), held-length k _ _ _ (c .before .before .before .before .before .before .before .before .before .before .before .before .before .before .before .pre .11) _ F, retained-length k _ _ _ (c .before .before .before .before .before .before .before .before .before .before .before .before .before .before .before .pre .11) _ F, writers-length k _ _ _ (c .before .before .before .before .before .before .before .before .before .before .before .before .before .before .before .pre .11) _ F, sources (formIn (c .before .before .before .before .before .before .before .before .before .before .before .before .before .before .before .args .tears) (geometryOf k)) _ (c .before .before .before .before .before .before .before .before .before .before .before .before .before .before .before .pre .7), c .before .before .before .before .before .before .before .before .before .before .before .before .before .before .before .pre .9)
+abort-event-requires c κs =
+    let entry = c .before .before .before .before .before .before .before .before .before .before .before .before .before .before .before in
+    let k = editionOf (entry .args .records) (entry .args .joint) (entry .args .tears) in
+    let F = entry .pre .7 .form in
+    (F .parents, F .depths, F .long, few _ (known-of k _ _ _ (entry .pre .11)), held-length k _ _ _ (entry .pre .11) _ F, retained-length k _ _ _ (entry .pre .11) _ F, writers-length k _ _ _ (entry .pre .11) _ F, sources (formIn (entry .args .tears) (geometryOf k)) _ (entry .pre .7), entry .pre .9)
 
 same-length : tie.Need-same-length
 same-length c = search needs
@@ -32,14 +36,23 @@ same-length-3 c = search needs
 
 returns : tie.Need-returns
 unfolding same
-returns c = let k = editionOf (c .before .before .before .before .before .before .before .before .before .before .before .before .before .before .before .before .before .before .before .before .before .before .args .records) (c .before .before .before .before .before .before .before .before .before .before .before .before .before .before .before .before .before .before .before .before .before .before .args .joint) (c .before .before .before .before .before .before .before .before .before .before .before .before .before .before .before .before .before .before .before .before .before .before .args .tears) in
-    let T = retold (formIn (c .before .before .before .before .before .before .before .before .before .before .before .before .before .before .before .before .before .before .before .before .before .before .args .tears) (geometryOf k)) _ _ _ _ _ (means-abort (c .before .before .before .before .before .before .before .before .before .before .before .before .before .before .before .before .before .before .before .before .before .before .args .e) (c .before .before .before .before .before .before .before .before .before .before .before .before .before .before .before .before .if1 .taken) ∙ ap₂ (λ (t : ℕ) (w : Bool). some (abort t w)) (sym (c .before .before .before .before .before .before .before .before .before .before .before .before .before .before .before .before .before .before .before .before .before .before .pre .0)) (report-is (c .before .before .before .before .before .before .before .before .before .before .before .before .before .before .before .before .before .before .before .before .before .before .args .e .value)))
-    (c .before .before .before .before .before .before .abort-event .ensures .0 k (c .before .before .before .before .before .before .before .before .before .before .before .before .before .before .before .before .before .before .before .before .before .before .args .tears) _ _ _ (c .before .before .before .before .before .before .before .before .before .before .before .before .before .before .before .before .before .before .before .before .before .before .pre .7) (record { up = c .before .before .before .before .before .before .before .before .before .before .before .before .before .before .before .before .before .before .before .before .before .before .pre .8; live = c .before .before .before .before .before .before .before .before .before .before .before .before .before .before .before .before .before .before .before .before .before .before .pre .5 })) in
-    (T, (c .before .before .before .before .before .before .abort-event .ensures .1, keeps-reserved k _ _ _ (c .before .before .before .before .before .before .before .before .before .before .before .before .before .before .before .before .before .before .before .before .before .before .pre .11) _ _ (c .before .before .before .before .before .before .before .before .before .before .before .before .before .before .before .before .before .before .before .before .before .before .args .e) _ _ _ (λ z. omega arith) (λ z. omega arith) (c .before .before .before .before .before .before .before .before .before .before .before .before .before .before .before .before .before .before .before .before .before .before .pre .7) (c .before .before .before .before .before .before .before .before .before .before .before .before .before .before .before .before .before .before .before .before .before .before .pre .10) T))
+returns c =
+    let entry = c .before .before .before .before .before .before .before .before .before .before .before .before .before .before .before .before .before .before .before .before .before .before in
+    let if1 = c .before .before .before .before .before .before .before .before .before .before .before .before .before .before .before .before .if1 in
+    let abort-event = c .before .before .before .before .before .before .abort-event in
+    let k = editionOf (entry .args .records) (entry .args .joint) (entry .args .tears) in
+    let T = retold (formIn (entry .args .tears) (geometryOf k)) _ _ _ _ _ (means-abort (entry .args .e) (if1 .taken) ∙ ap₂ (λ (t : ℕ) (w : Bool). some (abort t w)) (sym (entry .pre .0)) (report-is (entry .args .e .value)))
+    (abort-event .ensures .0 k (entry .args .tears) _ _ _ (entry .pre .7) (record { up = entry .pre .8; live = entry .pre .5 })) in
+    (T, (abort-event .ensures .1, keeps-reserved k _ _ _ (entry .pre .11) _ _ (entry .args .e) _ _ _ (λ z. omega arith) (λ z. omega arith) (entry .pre .7) (entry .pre .10) T))
 
 settle-event-requires : tie.Need-settle-event-requires
 unfolding same
-settle-event-requires c κs = let k = editionOf (c .before .before .before .before .before .before .before .before .before .before .before .before .before .before .before .before .before .before .before .args .records) (c .before .before .before .before .before .before .before .before .before .before .before .before .before .before .before .before .before .before .before .args .joint) (c .before .before .before .before .before .before .before .before .before .before .before .before .before .before .before .before .before .before .before .args .tears) in let F = c .before .before .before .before .before .before .before .before .before .before .before .before .before .before .before .before .before .before .before .pre .7 .form in let N = c .before .before .before .before .before .before .before .before .before .before .before .before .before .before .before .before .before .before .before .pre .11 in (known-of k _ _ _ N, joint-of k _ _ _ N, λ e. c .before .before .before .before .before .before .before .before .before .before .before .before .before .before .before .before .before .before .before .pre .12 (let q = same-eq (c .before .before .before .before .before .before .before .before .before .before .before .before .before .before .before .before .before .before .before .args .e .kind) 9 e in omega arith), F .parents, F .depths, F .long, held-length k _ _ _ N _ F, retained-length k _ _ _ N _ F, writers-length k _ _ _ N _ F, work-length k _ _ _ N _ F, store-length k _ _ _ N _ F, c .before .before .before .before .before .before .before .before .before .before .before .before .before .before .before .before .before .before .before .pre .5, sources (formIn (c .before .before .before .before .before .before .before .before .before .before .before .before .before .before .before .before .before .before .before .args .tears) (geometryOf k)) _ (c .before .before .before .before .before .before .before .before .before .before .before .before .before .before .before .before .before .before .before .pre .7), c .before .before .before .before .before .before .before .before .before .before .before .before .before .before .before .before .before .before .before .pre .9, whole-of k _ _ _ N)
+settle-event-requires c κs =
+    let entry = c .before .before .before .before .before .before .before .before .before .before .before .before .before .before .before .before .before .before .before in
+    let k = editionOf (entry .args .records) (entry .args .joint) (entry .args .tears) in
+    let F = entry .pre .7 .form in
+    let N = entry .pre .11 in
+    (known-of k _ _ _ N, joint-of k _ _ _ N, λ e. entry .pre .12 (let q = same-eq (entry .args .e .kind) 9 e in omega arith), F .parents, F .depths, F .long, held-length k _ _ _ N _ F, retained-length k _ _ _ N _ F, writers-length k _ _ _ N _ F, work-length k _ _ _ N _ F, store-length k _ _ _ N _ F, entry .pre .5, sources (formIn (entry .args .tears) (geometryOf k)) _ (entry .pre .7), entry .pre .9, whole-of k _ _ _ N)
 
 same-length-4 : tie.Need-same-length-4
 same-length-4 c = search needs
@@ -58,9 +71,13 @@ same-length-8 c = search needs
 
 returns-2 : tie.Need-returns-2
 unfolding same
-returns-2 c = let k = editionOf (c .before .before .before .before .before .before .before .before .before .before .before .before .before .before .before .before .before .before .before .before .before .before .before .before .before .before .before .before .before .before .args .records) (c .before .before .before .before .before .before .before .before .before .before .before .before .before .before .before .before .before .before .before .before .before .before .before .before .before .before .before .before .before .before .args .joint) (c .before .before .before .before .before .before .before .before .before .before .before .before .before .before .before .before .before .before .before .before .before .before .before .before .before .before .before .before .before .before .args .tears) in
-    let P = c .before .before .before .before .before .before .before .before .before .before .settle-event .ensures .0 k (c .before .before .before .before .before .before .before .before .before .before .before .before .before .before .before .before .before .before .before .before .before .before .before .before .before .before .before .before .before .before .pre .11) (c .before .before .before .before .before .before .before .before .before .before .before .before .before .before .before .before .before .before .before .before .before .before .before .before .before .before .before .before .before .before .pre .7) (record { up = c .before .before .before .before .before .before .before .before .before .before .before .before .before .before .before .before .before .before .before .before .before .before .before .before .before .before .before .before .before .before .pre .8; live = c .before .before .before .before .before .before .before .before .before .before .before .before .before .before .before .before .before .before .before .before .before .before .before .before .before .before .before .before .before .before .pre .5 }) (c .before .before .before .before .before .before .before .before .before .before .before .before .before .before .before .before .before .before .before .before .before .before .before .before .before .before .before .before .before .before .pre .10) in
-    (retold (formIn (c .before .before .before .before .before .before .before .before .before .before .before .before .before .before .before .before .before .before .before .before .before .before .before .before .before .before .before .before .before .before .args .tears) (geometryOf k)) _ _ _ _ _ (means-settling (c .before .before .before .before .before .before .before .before .before .before .before .before .before .before .before .before .before .before .before .before .before .before .before .before .before .before .before .before .before .before .args .e) (c .before .before .before .before .before .before .before .before .before .before .before .before .before .before .before .before .before .before .before .before .before .before .before .before .if1 .left) (c .before .before .before .before .before .before .before .before .before .before .before .before .before .before .before .before .before .before .before .before .before .before .before .before .before .before .before .before .before .before .pre .1) (c .before .before .before .before .before .before .before .before .before .before .before .before .before .before .before .before .before .before .before .before .before .before .before .before .before .before .before .before .before .before .pre .2) (c .before .before .before .before .before .before .before .before .before .before .before .before .before .before .before .before .before .before .before .before .before .before .before .before .before .before .before .before .before .before .pre .3) (c .before .before .before .before .before .before .before .before .before .before .before .before .before .before .before .before .before .before .before .before .before .before .before .before .before .before .before .before .before .before .pre .4) ∙ ap (λ (t : ℕ). some (settling (same (c .before .before .before .before .before .before .before .before .before .before .before .before .before .before .before .before .before .before .before .before .before .before .before .before .before .before .before .before .before .before .args .e .kind) 9) t (c .before .before .before .before .before .before .before .before .before .before .before .before .before .before .before .before .before .before .before .before .before .before .before .before .before .before .before .before .before .before .args .e .count) (c .before .before .before .before .before .before .before .before .before .before .before .before .before .before .before .before .before .before .before .before .before .before .before .before .before .before .before .before .before .before .args .e .value))) (sym (c .before .before .before .before .before .before .before .before .before .before .before .before .before .before .before .before .before .before .before .before .before .before .before .before .before .before .before .before .before .before .pre .0))) (P .0), (c .before .before .before .before .before .before .before .before .before .before .settle-event .ensures .1, P .1))
+returns-2 c =
+    let entry = c .before .before .before .before .before .before .before .before .before .before .before .before .before .before .before .before .before .before .before .before .before .before .before .before .before .before .before .before .before .before in
+    let if1 = c .before .before .before .before .before .before .before .before .before .before .before .before .before .before .before .before .before .before .before .before .before .before .before .before .if1 in
+    let settle-event = c .before .before .before .before .before .before .before .before .before .before .settle-event in
+    let k = editionOf (entry .args .records) (entry .args .joint) (entry .args .tears) in
+    let P = settle-event .ensures .0 k (entry .pre .11) (entry .pre .7) (record { up = entry .pre .8; live = entry .pre .5 }) (entry .pre .10) in
+    (retold (formIn (entry .args .tears) (geometryOf k)) _ _ _ _ _ (means-settling (entry .args .e) (if1 .left) (entry .pre .1) (entry .pre .2) (entry .pre .3) (entry .pre .4) ∙ ap (λ (t : ℕ). some (settling (same (entry .args .e .kind) 9) t (entry .args .e .count) (entry .args .e .value))) (sym (entry .pre .0))) (P .0), (settle-event .ensures .1, P .1))
 
 pub end-event-spec : {M : Type 1} → statement M
 end-event-spec =

@@ -21,11 +21,19 @@ use Rattle.engine_step.proofs.step.Statement.{statement}
 use Rattle.engine_step.proofs.step.Tie as tie
 
 returns : tie.Need-returns
-returns c = let k = editionOf (c .before .before .before .before .before .before .args .records) (c .before .before .before .before .before .before .args .joint) (c .before .before .before .before .before .before .args .tears) in let R = c .before .before .before .before .before .before .pre .0 .kind in
-    (keeps k _ _ _ (c .before .before .before .before .before .before .pre .4) _ _ (c .before .before .before .before .before .before .args .e) _ (c .before .before .before .before .before .before .pre .5) (c .before .before .before .before .before .before .pre .0) (c .before .before .before .before .before .before .pre .1) (unmoved (formIn (c .before .before .before .before .before .before .args .tears) (geometryOf k)) _ _ 1 (c .before .before .before .before .before .before .pre .1 .form) (ap (step (formIn (c .before .before .before .before .before .before .args .tears) (geometryOf k)) _) (means-bad (c .before .before .before .before .before .before .args .e) (c .if1 .taken)) ∙ bad-refused (formIn (c .before .before .before .before .before .before .args .tears) (geometryOf k)) _)), (c .before .before .before .before .before .before .pre .2, c .before .before .before .before .before .before .pre .3))
+returns c =
+    let entry = c .before .before .before .before .before .before in
+    let k = editionOf (entry .args .records) (entry .args .joint) (entry .args .tears) in
+    let R = entry .pre .0 .kind in
+    (keeps k _ _ _ (entry .pre .4) _ _ (entry .args .e) _ (entry .pre .5) (entry .pre .0) (entry .pre .1) (unmoved (formIn (entry .args .tears) (geometryOf k)) _ _ 1 (entry .pre .1 .form) (ap (step (formIn (entry .args .tears) (geometryOf k)) _) (means-bad (entry .args .e) (c .if1 .taken)) ∙ bad-refused (formIn (entry .args .tears) (geometryOf k)) _)), (entry .pre .2, entry .pre .3))
 
 crash-event-requires : tie.Need-crash-event-requires
-crash-event-requires c κs = let k = editionOf (c .before .before .before .before .before .before .before .before .before .before .before .before .before .before .before .before .args .records) (c .before .before .before .before .before .before .before .before .before .before .before .before .before .before .before .before .args .joint) (c .before .before .before .before .before .before .before .before .before .before .before .before .before .before .before .before .args .tears) in let F = c .before .before .before .before .before .before .before .before .before .before .before .before .before .before .before .before .pre .1 .form in let N = c .before .before .before .before .before .before .before .before .before .before .before .before .before .before .before .before .pre .4 in (few _ (known-of k _ _ _ N), held-length k _ _ _ N _ F, retained-length k _ _ _ N _ F, writers-length k _ _ _ N _ F)
+crash-event-requires c κs =
+    let entry = c .before .before .before .before .before .before .before .before .before .before .before .before .before .before .before .before in
+    let k = editionOf (entry .args .records) (entry .args .joint) (entry .args .tears) in
+    let F = entry .pre .1 .form in
+    let N = entry .pre .4 in
+    (few _ (known-of k _ _ _ N), held-length k _ _ _ N _ F, retained-length k _ _ _ N _ F, writers-length k _ _ _ N _ F)
 
 same-length : tie.Need-same-length
 same-length c = search needs
@@ -37,32 +45,66 @@ same-length-3 : tie.Need-same-length-3
 same-length-3 c = search needs
 
 returns-2 : tie.Need-returns-2
-returns-2 c = let k = editionOf (c .before .before .before .before .before .before .before .before .before .before .before .before .before .before .before .before .before .before .before .before .before .before .before .args .records) (c .before .before .before .before .before .before .before .before .before .before .before .before .before .before .before .before .before .before .before .before .before .before .before .args .joint) (c .before .before .before .before .before .before .before .before .before .before .before .before .before .before .before .before .before .before .before .before .before .before .before .args .tears) in let R = c .before .before .before .before .before .before .before .before .before .before .before .before .before .before .before .before .before .before .before .before .before .before .before .pre .0 .kind in let T = retold (formIn (c .before .before .before .before .before .before .before .before .before .before .before .before .before .before .before .before .before .before .before .before .before .before .before .args .tears) (geometryOf k)) _ _ _ _ _ (means-crash (c .before .before .before .before .before .before .before .before .before .before .before .before .before .before .before .before .before .before .before .before .before .before .before .args .e) (c .before .before .before .before .before .before .before .before .before .before .before .before .before .before .before .before .if2 .taken)) (c .before .before .before .before .before .before .crash-event .ensures .0 k (c .before .before .before .before .before .before .before .before .before .before .before .before .before .before .before .before .before .before .before .before .before .before .before .args .tears) _ _ (c .before .before .before .before .before .before .before .before .before .before .before .before .before .before .before .before .before .before .before .before .before .before .before .pre .1)) in
-    (keeps k _ _ _ (c .before .before .before .before .before .before .before .before .before .before .before .before .before .before .before .before .before .before .before .before .before .before .before .pre .4) _ _ (c .before .before .before .before .before .before .before .before .before .before .before .before .before .before .before .before .before .before .before .before .before .before .before .args .e) _ (c .before .before .before .before .before .before .before .before .before .before .before .before .before .before .before .before .before .before .before .before .before .before .before .pre .5) (c .before .before .before .before .before .before .before .before .before .before .before .before .before .before .before .before .before .before .before .before .before .before .before .pre .0) (c .before .before .before .before .before .before .before .before .before .before .before .before .before .before .before .before .before .before .before .before .before .before .before .pre .1) T, (c .before .before .before .before .before .before .crash-event .ensures .1, keeps-reserved k _ _ _ (c .before .before .before .before .before .before .before .before .before .before .before .before .before .before .before .before .before .before .before .before .before .before .before .pre .4) _ _ (c .before .before .before .before .before .before .before .before .before .before .before .before .before .before .before .before .before .before .before .before .before .before .before .args .e) _ _ _ (λ z. omega arith) (λ z. omega arith) (c .before .before .before .before .before .before .before .before .before .before .before .before .before .before .before .before .before .before .before .before .before .before .before .pre .1) (c .before .before .before .before .before .before .before .before .before .before .before .before .before .before .before .before .before .before .before .before .before .before .before .pre .3) T))
+returns-2 c =
+    let entry = c .before .before .before .before .before .before .before .before .before .before .before .before .before .before .before .before .before .before .before .before .before .before .before in
+    let if2 = c .before .before .before .before .before .before .before .before .before .before .before .before .before .before .before .before .if2 in
+    let crash-event = c .before .before .before .before .before .before .crash-event in
+    let k = editionOf (entry .args .records) (entry .args .joint) (entry .args .tears) in
+    let R = entry .pre .0 .kind in
+    let T = retold (formIn (entry .args .tears) (geometryOf k)) _ _ _ _ _ (means-crash (entry .args .e) (if2 .taken)) (crash-event .ensures .0 k (entry .args .tears) _ _ (entry .pre .1)) in
+    (keeps k _ _ _ (entry .pre .4) _ _ (entry .args .e) _ (entry .pre .5) (entry .pre .0) (entry .pre .1) T, (crash-event .ensures .1, keeps-reserved k _ _ _ (entry .pre .4) _ _ (entry .args .e) _ _ _ (λ z. omega arith) (λ z. omega arith) (entry .pre .1) (entry .pre .3) T))
 
 recover-event-requires : tie.Need-recover-event-requires
-recover-event-requires c κs = let k = editionOf (c .before .before .before .before .before .before .before .before .before .before .args .records) (c .before .before .before .before .before .before .before .before .before .before .args .joint) (c .before .before .before .before .before .before .before .before .before .before .args .tears) in let F = c .before .before .before .before .before .before .before .before .before .before .pre .1 .form in let N = c .before .before .before .before .before .before .before .before .before .before .pre .4 in (known-of k _ _ _ N, joint-of k _ _ _ N, store-length k _ _ _ N _ F)
+recover-event-requires c κs =
+    let entry = c .before .before .before .before .before .before .before .before .before .before in
+    let k = editionOf (entry .args .records) (entry .args .joint) (entry .args .tears) in
+    let F = entry .pre .1 .form in
+    let N = entry .pre .4 in
+    (known-of k _ _ _ N, joint-of k _ _ _ N, store-length k _ _ _ N _ F)
 
 same-length-4 : tie.Need-same-length-4
 same-length-4 c = search needs
 
 returns-3 : tie.Need-returns-3
-returns-3 c = let k = editionOf (c .before .before .before .before .before .before .before .before .before .before .before .before .before .args .records) (c .before .before .before .before .before .before .before .before .before .before .before .before .before .args .joint) (c .before .before .before .before .before .before .before .before .before .before .before .before .before .args .tears) in let R = c .before .before .before .before .before .before .before .before .before .before .before .before .before .pre .0 .kind in let T = retold (formIn (c .before .before .before .before .before .before .before .before .before .before .before .before .before .args .tears) (geometryOf k)) _ _ _ _ _ (means-recover (c .before .before .before .before .before .before .before .before .before .before .before .before .before .args .e) (c .before .before .before .before .before .if3 .taken)) (c .before .before .recover-event .ensures k _ _ _ _ _ _ _ (c .before .before .before .before .before .before .before .before .before .before .before .before .before .pre .4) (c .before .before .before .before .before .before .before .before .before .before .before .before .before .pre .1)) in
-    (keeps k _ _ _ (c .before .before .before .before .before .before .before .before .before .before .before .before .before .pre .4) _ _ (c .before .before .before .before .before .before .before .before .before .before .before .before .before .args .e) _ (c .before .before .before .before .before .before .before .before .before .before .before .before .before .pre .5) (c .before .before .before .before .before .before .before .before .before .before .before .before .before .pre .0) (c .before .before .before .before .before .before .before .before .before .before .before .before .before .pre .1) T, (c .before .before .before .before .before .before .before .before .before .before .before .before .before .pre .2, keeps-reserved k _ _ _ (c .before .before .before .before .before .before .before .before .before .before .before .before .before .pre .4) _ _ (c .before .before .before .before .before .before .before .before .before .before .before .before .before .args .e) _ _ _ (λ z. omega arith) (λ z. omega arith) (c .before .before .before .before .before .before .before .before .before .before .before .before .before .pre .1) (c .before .before .before .before .before .before .before .before .before .before .before .before .before .pre .3) T))
+returns-3 c =
+    let entry = c .before .before .before .before .before .before .before .before .before .before .before .before .before in
+    let if3 = c .before .before .before .before .before .if3 in
+    let k = editionOf (entry .args .records) (entry .args .joint) (entry .args .tears) in
+    let R = entry .pre .0 .kind in
+    let T = retold (formIn (entry .args .tears) (geometryOf k)) _ _ _ _ _ (means-recover (entry .args .e) (if3 .taken)) (c .before .before .recover-event .ensures k _ _ _ _ _ _ _ (entry .pre .4) (entry .pre .1)) in
+    (keeps k _ _ _ (entry .pre .4) _ _ (entry .args .e) _ (entry .pre .5) (entry .pre .0) (entry .pre .1) T, (entry .pre .2, keeps-reserved k _ _ _ (entry .pre .4) _ _ (entry .args .e) _ _ _ (λ z. omega arith) (λ z. omega arith) (entry .pre .1) (entry .pre .3) T))
 
 returns-4 : tie.Need-returns-4
-returns-4 c = let k = editionOf (c .before .before .before .before .before .before .before .before .before .before .args .records) (c .before .before .before .before .before .before .before .before .before .before .args .joint) (c .before .before .before .before .before .before .before .before .before .before .args .tears) in let R = c .before .before .before .before .before .before .before .before .before .before .pre .0 .kind in
-    (keeps k _ _ _ (c .before .before .before .before .before .before .before .before .before .before .pre .4) _ _ (c .before .before .before .before .before .before .before .before .before .before .args .e) _ (c .before .before .before .before .before .before .before .before .before .before .pre .5) (c .before .before .before .before .before .before .before .before .before .before .pre .0) (c .before .before .before .before .before .before .before .before .before .before .pre .1) (down-steps (formIn (c .before .before .before .before .before .before .before .before .before .before .args .tears) (geometryOf k)) _ (c .before .before .before .before .before .before .before .before .before .before .args .e) (c .before .before .before .before .before .before .before .before .before .before .pre .1) (omega arith) R (c .before .before .before .if2 .left) (c .before .before .if3 .left) (c .if4 .taken)), (c .before .before .before .before .before .before .before .before .before .before .pre .2, c .before .before .before .before .before .before .before .before .before .before .pre .3))
+returns-4 c =
+    let entry = c .before .before .before .before .before .before .before .before .before .before in
+    let if2 = c .before .before .before .if2 in
+    let k = editionOf (entry .args .records) (entry .args .joint) (entry .args .tears) in
+    let R = entry .pre .0 .kind in
+    (keeps k _ _ _ (entry .pre .4) _ _ (entry .args .e) _ (entry .pre .5) (entry .pre .0) (entry .pre .1) (down-steps (formIn (entry .args .tears) (geometryOf k)) _ (entry .args .e) (entry .pre .1) (omega arith) R (if2 .left) (c .before .before .if3 .left) (c .if4 .taken)), (entry .pre .2, entry .pre .3))
 
 begin-event-requires : tie.Need-begin-event-requires
-begin-event-requires c κs = let k = editionOf (c .before .before .before .before .before .before .before .before .before .before .before .before .before .before .before .before .args .records) (c .before .before .before .before .before .before .before .before .before .before .before .before .before .before .before .before .args .joint) (c .before .before .before .before .before .before .before .before .before .before .before .before .before .before .before .before .args .tears) in (c .before .before .before .before .before .before .before .before .before .before .before .before .before .before .before .before .pre .0 .transaction, c .before .before .before .before .before .before .before .before .before .before .before .before .before .before .before .before .pre .1 .form .depths, c .before .before .before .before .before .before .before .before .before .before .before .before .before .before .before .before .pre .1 .form .long, sources (formIn (c .before .before .before .before .before .before .before .before .before .before .before .before .before .before .before .before .args .tears) (geometryOf k)) _ (c .before .before .before .before .before .before .before .before .before .before .before .before .before .before .before .before .pre .1) .shallow, c .before .before .before .before .before .before .before .before .before .before .before .before .before .before .before .before .pre .1 .form .parents, c .before .before .before .before .before .before .before .before .before .before .before .before .before .before .before .before .pre .2)
+begin-event-requires c κs =
+    let entry = c .before .before .before .before .before .before .before .before .before .before .before .before .before .before .before .before in
+    let k = editionOf (entry .args .records) (entry .args .joint) (entry .args .tears) in
+    (entry .pre .0 .transaction, entry .pre .1 .form .depths, entry .pre .1 .form .long, sources (formIn (entry .args .tears) (geometryOf k)) _ (entry .pre .1) .shallow, entry .pre .1 .form .parents, entry .pre .2)
 
 returns-5 : tie.Need-returns-5
-returns-5 c = let k = editionOf (c .before .before .before .before .before .before .before .before .before .before .before .before .before .before .before .before .before .args .records) (c .before .before .before .before .before .before .before .before .before .before .before .before .before .before .before .before .before .args .joint) (c .before .before .before .before .before .before .before .before .before .before .before .before .before .before .before .before .before .args .tears) in let R = c .before .before .before .before .before .before .before .before .before .before .before .before .before .before .before .before .before .pre .0 .kind in let T = retold (formIn (c .before .before .before .before .before .before .before .before .before .before .before .before .before .before .before .before .before .args .tears) (geometryOf k)) _ _ _ _ _ (means-begin (c .before .before .before .before .before .before .before .before .before .before .before .before .before .before .before .before .before .args .e) (c .before .before .before .before .before .before .if5 .taken)) (c .begin-event .ensures .0 k (c .before .before .before .before .before .before .before .before .before .before .before .before .before .before .before .before .before .args .tears) _ _ _ _ _ _ (c .before .before .before .before .before .before .before .before .before .before .before .before .before .before .before .before .before .pre .1) (c .before .before .before .before .before .before .before .if4 .left)) in
-    (keeps k _ _ _ (c .before .before .before .before .before .before .before .before .before .before .before .before .before .before .before .before .before .pre .4) _ _ (c .before .before .before .before .before .before .before .before .before .before .before .before .before .before .before .before .before .args .e) _ (c .before .before .before .before .before .before .before .before .before .before .before .before .before .before .before .before .before .pre .5) (c .before .before .before .before .before .before .before .before .before .before .before .before .before .before .before .before .before .pre .0) (c .before .before .before .before .before .before .before .before .before .before .before .before .before .before .before .before .before .pre .1) T, (c .begin-event .ensures .1, keeps-reserved k _ _ _ (c .before .before .before .before .before .before .before .before .before .before .before .before .before .before .before .before .before .pre .4) _ _ (c .before .before .before .before .before .before .before .before .before .before .before .before .before .before .before .before .before .args .e) _ _ _ (λ z. omega arith) (λ z. omega arith) (c .before .before .before .before .before .before .before .before .before .before .before .before .before .before .before .before .before .pre .1) (c .before .before .before .before .before .before .before .before .before .before .before .before .before .before .before .before .before .pre .3) T))
+returns-5 c =
+    let entry = c .before .before .before .before .before .before .before .before .before .before .before .before .before .before .before .before .before in
+    let if4 = c .before .before .before .before .before .before .before .if4 in
+    let if5 = c .before .before .before .before .before .before .if5 in
+    let k = editionOf (entry .args .records) (entry .args .joint) (entry .args .tears) in
+    let R = entry .pre .0 .kind in
+    let T = retold (formIn (entry .args .tears) (geometryOf k)) _ _ _ _ _ (means-begin (entry .args .e) (if5 .taken)) (c .begin-event .ensures .0 k (entry .args .tears) _ _ _ _ _ _ (entry .pre .1) (if4 .left)) in
+    (keeps k _ _ _ (entry .pre .4) _ _ (entry .args .e) _ (entry .pre .5) (entry .pre .0) (entry .pre .1) T, (c .begin-event .ensures .1, keeps-reserved k _ _ _ (entry .pre .4) _ _ (entry .args .e) _ _ _ (λ z. omega arith) (λ z. omega arith) (entry .pre .1) (entry .pre .3) T))
 
 decide-event-requires : tie.Need-decide-event-requires
-decide-event-requires c κs = let k = editionOf (c .before .before .before .before .before .before .before .before .before .before .before .before .before .before .before .before .before .before .before .before .before .before .before .before .before .before .before .args .records) (c .before .before .before .before .before .before .before .before .before .before .before .before .before .before .before .before .before .before .before .before .before .before .before .before .before .before .before .args .joint) (c .before .before .before .before .before .before .before .before .before .before .before .before .before .before .before .before .before .before .before .before .before .before .before .before .before .before .before .args .tears) in let F = c .before .before .before .before .before .before .before .before .before .before .before .before .before .before .before .before .before .before .before .before .before .before .before .before .before .before .before .pre .1 .form in let N = c .before .before .before .before .before .before .before .before .before .before .before .before .before .before .before .before .before .before .before .before .before .before .before .before .before .before .before .pre .4 in (known-of k _ _ _ N, joint-of k _ _ _ N, subst (λ (m : ℕ). c .before .before .before .before .before .before .before .before .before .before .before .before .before .before .before .before .before .before .before .before .before .before .before .before .before .before .before .args .reserved .now < 2 ^ m) (N .many) (map-small (c .before .before .before .before .before .before .before .before .before .before .before .before .before .before .before .before .before .before .before .before .before .before .before .before .before .before .before .args .tears) (geometryOf k) _ _ _ (c .before .before .before .before .before .before .before .before .before .before .before .before .before .before .before .before .before .before .before .before .before .before .before .before .before .before .before .pre .3)), held-length k _ _ _ N _ F, retained-length k _ _ _ N _ F, writers-length k _ _ _ N _ F, whole-length (c .before .before .before .before .before .before .before .before .before .before .before .before .before .before .before .before .before .before .before .before .before .before .before .before .before .before .before .args .tears) _ _ (whole-of k _ _ _ N (c .before .before .before .before .before .before .before .before .before .before .before .before .before .before .before .before .before .before .before .before .before .before .before .before .before .before .before .pre .5 (omega arith))) (store-length k _ _ _ N _ F), c .before .before .before .before .before .before .before .before .before .before .before .before .before .before .before .before .before .before .before .before .before .before .before .before .before .before .before .pre .2)
+decide-event-requires c κs =
+    let entry = c .before .before .before .before .before .before .before .before .before .before .before .before .before .before .before .before .before .before .before .before .before .before .before .before .before .before .before in
+    let k = editionOf (entry .args .records) (entry .args .joint) (entry .args .tears) in
+    let F = entry .pre .1 .form in
+    let N = entry .pre .4 in
+    (known-of k _ _ _ N, joint-of k _ _ _ N, subst (λ (m : ℕ). entry .args .reserved .now < 2 ^ m) (N .many) (map-small (entry .args .tears) (geometryOf k) _ _ _ (entry .pre .3)), held-length k _ _ _ N _ F, retained-length k _ _ _ N _ F, writers-length k _ _ _ N _ F, whole-length (entry .args .tears) _ _ (whole-of k _ _ _ N (entry .pre .5 (omega arith))) (store-length k _ _ _ N _ F), entry .pre .2)
 
 same-length-5 : tie.Need-same-length-5
 same-length-5 c = search needs
@@ -77,14 +119,25 @@ same-length-8 : tie.Need-same-length-8
 same-length-8 c = search needs
 
 returns-6 : tie.Need-returns-6
-returns-6 c = let k = editionOf (c .before .before .before .before .before .before .before .before .before .before .before .before .before .before .before .before .before .before .before .before .before .before .before .before .before .before .before .before .before .before .before .before .before .before .before .before .args .records) (c .before .before .before .before .before .before .before .before .before .before .before .before .before .before .before .before .before .before .before .before .before .before .before .before .before .before .before .before .before .before .before .before .before .before .before .before .args .joint) (c .before .before .before .before .before .before .before .before .before .before .before .before .before .before .before .before .before .before .before .before .before .before .before .before .before .before .before .before .before .before .before .before .before .before .before .before .args .tears) in
-    let whole = whole-of k _ _ _ (c .before .before .before .before .before .before .before .before .before .before .before .before .before .before .before .before .before .before .before .before .before .before .before .before .before .before .before .before .before .before .before .before .before .before .before .before .pre .4) (c .before .before .before .before .before .before .before .before .before .before .before .before .before .before .before .before .before .before .before .before .before .before .before .before .before .before .before .before .before .before .before .before .before .before .before .before .pre .5 (omega arith)) in
-    let P = decided-whole (c .before .before .before .before .before .before .before .before .before .before .before .before .before .before .before .before .before .before .before .before .before .before .before .before .before .before .before .before .before .before .before .before .before .before .before .before .args .tears) (geometryOf k) _ _ _ _ _ _ _ _ whole (c .before .before .before .before .before .before .before .before .decide-event .ensures .0 k _ (subst (InNumbers k (c .before .before .before .before .before .before .before .before .before .before .before .before .before .before .before .before .before .before .before .before .before .before .before .before .before .before .before .before .before .before .before .before .before .before .before .before .args .records) (c .before .before .before .before .before .before .before .before .before .before .before .before .before .before .before .before .before .before .before .before .before .before .before .before .before .before .before .before .before .before .before .before .before .before .before .before .args .joint)) whole (c .before .before .before .before .before .before .before .before .before .before .before .before .before .before .before .before .before .before .before .before .before .before .before .before .before .before .before .before .before .before .before .before .before .before .before .before .pre .4))) (c .before .before .before .before .before .before .before .before .before .before .before .before .before .before .before .before .before .before .before .before .before .before .before .before .before .before .before .before .before .before .before .before .before .before .before .before .pre .1) (c .before .before .before .before .before .before .before .before .before .before .before .before .before .before .before .before .before .before .before .before .before .before .before .before .before .before .if4 .left) (c .before .before .before .before .before .before .before .before .before .before .before .before .before .before .before .before .before .before .before .before .before .before .before .before .before .before .before .before .before .before .before .before .before .before .before .before .pre .3) in
-    let means = means-decide (c .before .before .before .before .before .before .before .before .before .before .before .before .before .before .before .before .before .before .before .before .before .before .before .before .before .before .before .before .before .before .before .before .before .before .before .before .args .e) (c .before .before .before .before .before .before .before .before .before .before .before .before .before .before .before .before .before .before .before .before .before .before .before .if7 .taken) ∙ ap (λ (d : Bool). some (decide d (c .before .before .before .before .before .before .before .before .before .before .before .before .before .before .before .before .before .before .before .before .before .before .before .before .before .before .before .before .before .before .before .before .before .before .before .before .args .e .count) (c .before .before .before .before .before .before .before .before .before .before .before .before .before .before .before .before .before .before .before .before .before .before .before .before .before .before .before .before .before .before .before .before .before .before .before .before .args .e .value))) (to-abort (c .before .before .before .before .before .before .before .before .before .before .before .before .before .before .before .before .before .before .before .before .before .before .before .before .before .before .before .before .before .before .before .before .before .before .before .before .args .e .offset) (c .before .before .before .before .before .before .before .before .before .before .before .before .before .before .before .before .before .before .before .before .before .if8 .taken)) in
-    (keeps k _ _ _ (c .before .before .before .before .before .before .before .before .before .before .before .before .before .before .before .before .before .before .before .before .before .before .before .before .before .before .before .before .before .before .before .before .before .before .before .before .pre .4) _ _ (c .before .before .before .before .before .before .before .before .before .before .before .before .before .before .before .before .before .before .before .before .before .before .before .before .before .before .before .before .before .before .before .before .before .before .before .before .args .e) _ (c .before .before .before .before .before .before .before .before .before .before .before .before .before .before .before .before .before .before .before .before .before .before .before .before .before .before .before .before .before .before .before .before .before .before .before .before .pre .5) (c .before .before .before .before .before .before .before .before .before .before .before .before .before .before .before .before .before .before .before .before .before .before .before .before .before .before .before .before .before .before .before .before .before .before .before .before .pre .0) (c .before .before .before .before .before .before .before .before .before .before .before .before .before .before .before .before .before .before .before .before .before .before .before .before .before .before .before .before .before .before .before .before .before .before .before .before .pre .1) (retold (formIn (c .before .before .before .before .before .before .before .before .before .before .before .before .before .before .before .before .before .before .before .before .before .before .before .before .before .before .before .before .before .before .before .before .before .before .before .before .args .tears) (geometryOf k)) _ _ _ _ _ means (P .0)), (c .before .before .before .before .before .before .before .before .decide-event .ensures .1, P .1))
+returns-6 c =
+    let entry = c .before .before .before .before .before .before .before .before .before .before .before .before .before .before .before .before .before .before .before .before .before .before .before .before .before .before .before .before .before .before .before .before .before .before .before .before in
+    let if4 = c .before .before .before .before .before .before .before .before .before .before .before .before .before .before .before .before .before .before .before .before .before .before .before .before .before .before .if4 in
+    let if7 = c .before .before .before .before .before .before .before .before .before .before .before .before .before .before .before .before .before .before .before .before .before .before .before .if7 in
+    let if8 = c .before .before .before .before .before .before .before .before .before .before .before .before .before .before .before .before .before .before .before .before .before .if8 in
+    let decide-event = c .before .before .before .before .before .before .before .before .decide-event in
+    let k = editionOf (entry .args .records) (entry .args .joint) (entry .args .tears) in
+    let whole = whole-of k _ _ _ (entry .pre .4) (entry .pre .5 (omega arith)) in
+    let P = decided-whole (entry .args .tears) (geometryOf k) _ _ _ _ _ _ _ _ whole (decide-event .ensures .0 k _ (subst (InNumbers k (entry .args .records) (entry .args .joint)) whole (entry .pre .4))) (entry .pre .1) (if4 .left) (entry .pre .3) in
+    let means = means-decide (entry .args .e) (if7 .taken) ∙ ap (λ (d : Bool). some (decide d (entry .args .e .count) (entry .args .e .value))) (to-abort (entry .args .e .offset) (if8 .taken)) in
+    (keeps k _ _ _ (entry .pre .4) _ _ (entry .args .e) _ (entry .pre .5) (entry .pre .0) (entry .pre .1) (retold (formIn (entry .args .tears) (geometryOf k)) _ _ _ _ _ means (P .0)), (decide-event .ensures .1, P .1))
 
 decide-event-requires-2 : tie.Need-decide-event-requires-2
-decide-event-requires-2 c κs = let k = editionOf (c .before .before .before .before .before .before .before .before .before .before .before .before .before .before .before .before .before .before .before .before .before .before .before .before .before .before .before .args .records) (c .before .before .before .before .before .before .before .before .before .before .before .before .before .before .before .before .before .before .before .before .before .before .before .before .before .before .before .args .joint) (c .before .before .before .before .before .before .before .before .before .before .before .before .before .before .before .before .before .before .before .before .before .before .before .before .before .before .before .args .tears) in let F = c .before .before .before .before .before .before .before .before .before .before .before .before .before .before .before .before .before .before .before .before .before .before .before .before .before .before .before .pre .1 .form in let N = c .before .before .before .before .before .before .before .before .before .before .before .before .before .before .before .before .before .before .before .before .before .before .before .before .before .before .before .pre .4 in (known-of k _ _ _ N, joint-of k _ _ _ N, subst (λ (m : ℕ). c .before .before .before .before .before .before .before .before .before .before .before .before .before .before .before .before .before .before .before .before .before .before .before .before .before .before .before .args .reserved .now < 2 ^ m) (N .many) (map-small (c .before .before .before .before .before .before .before .before .before .before .before .before .before .before .before .before .before .before .before .before .before .before .before .before .before .before .before .args .tears) (geometryOf k) _ _ _ (c .before .before .before .before .before .before .before .before .before .before .before .before .before .before .before .before .before .before .before .before .before .before .before .before .before .before .before .pre .3)), held-length k _ _ _ N _ F, retained-length k _ _ _ N _ F, writers-length k _ _ _ N _ F, whole-length (c .before .before .before .before .before .before .before .before .before .before .before .before .before .before .before .before .before .before .before .before .before .before .before .before .before .before .before .args .tears) _ _ (whole-of k _ _ _ N (c .before .before .before .before .before .before .before .before .before .before .before .before .before .before .before .before .before .before .before .before .before .before .before .before .before .before .before .pre .5 (omega arith))) (store-length k _ _ _ N _ F), c .before .before .before .before .before .before .before .before .before .before .before .before .before .before .before .before .before .before .before .before .before .before .before .before .before .before .before .pre .2)
+decide-event-requires-2 c κs =
+    let entry = c .before .before .before .before .before .before .before .before .before .before .before .before .before .before .before .before .before .before .before .before .before .before .before .before .before .before .before in
+    let k = editionOf (entry .args .records) (entry .args .joint) (entry .args .tears) in
+    let F = entry .pre .1 .form in
+    let N = entry .pre .4 in
+    (known-of k _ _ _ N, joint-of k _ _ _ N, subst (λ (m : ℕ). entry .args .reserved .now < 2 ^ m) (N .many) (map-small (entry .args .tears) (geometryOf k) _ _ _ (entry .pre .3)), held-length k _ _ _ N _ F, retained-length k _ _ _ N _ F, writers-length k _ _ _ N _ F, whole-length (entry .args .tears) _ _ (whole-of k _ _ _ N (entry .pre .5 (omega arith))) (store-length k _ _ _ N _ F), entry .pre .2)
 
 same-length-9 : tie.Need-same-length-9
 same-length-9 c = search needs
@@ -99,18 +152,28 @@ same-length-12 : tie.Need-same-length-12
 same-length-12 c = search needs
 
 returns-7 : tie.Need-returns-7
-returns-7 c = let k = editionOf (c .before .before .before .before .before .before .before .before .before .before .before .before .before .before .before .before .before .before .before .before .before .before .before .before .before .before .before .before .before .before .before .before .before .before .before .before .args .records) (c .before .before .before .before .before .before .before .before .before .before .before .before .before .before .before .before .before .before .before .before .before .before .before .before .before .before .before .before .before .before .before .before .before .before .before .before .args .joint) (c .before .before .before .before .before .before .before .before .before .before .before .before .before .before .before .before .before .before .before .before .before .before .before .before .before .before .before .before .before .before .before .before .before .before .before .before .args .tears) in
-    let whole = whole-of k _ _ _ (c .before .before .before .before .before .before .before .before .before .before .before .before .before .before .before .before .before .before .before .before .before .before .before .before .before .before .before .before .before .before .before .before .before .before .before .before .pre .4) (c .before .before .before .before .before .before .before .before .before .before .before .before .before .before .before .before .before .before .before .before .before .before .before .before .before .before .before .before .before .before .before .before .before .before .before .before .pre .5 (omega arith)) in
-    let P = decided-whole (c .before .before .before .before .before .before .before .before .before .before .before .before .before .before .before .before .before .before .before .before .before .before .before .before .before .before .before .before .before .before .before .before .before .before .before .before .args .tears) (geometryOf k) _ _ _ _ _ _ _ _ whole (c .before .before .before .before .before .before .before .before .decide-event2 .ensures .0 k _ (subst (InNumbers k (c .before .before .before .before .before .before .before .before .before .before .before .before .before .before .before .before .before .before .before .before .before .before .before .before .before .before .before .before .before .before .before .before .before .before .before .before .args .records) (c .before .before .before .before .before .before .before .before .before .before .before .before .before .before .before .before .before .before .before .before .before .before .before .before .before .before .before .before .before .before .before .before .before .before .before .before .args .joint)) whole (c .before .before .before .before .before .before .before .before .before .before .before .before .before .before .before .before .before .before .before .before .before .before .before .before .before .before .before .before .before .before .before .before .before .before .before .before .pre .4))) (c .before .before .before .before .before .before .before .before .before .before .before .before .before .before .before .before .before .before .before .before .before .before .before .before .before .before .before .before .before .before .before .before .before .before .before .before .pre .1) (c .before .before .before .before .before .before .before .before .before .before .before .before .before .before .before .before .before .before .before .before .before .before .before .before .before .before .if4 .left) (c .before .before .before .before .before .before .before .before .before .before .before .before .before .before .before .before .before .before .before .before .before .before .before .before .before .before .before .before .before .before .before .before .before .before .before .before .pre .3) in
-    let means = means-decide (c .before .before .before .before .before .before .before .before .before .before .before .before .before .before .before .before .before .before .before .before .before .before .before .before .before .before .before .before .before .before .before .before .before .before .before .before .args .e) (c .before .before .before .before .before .before .before .before .before .before .before .before .before .before .before .before .before .before .before .before .before .before .before .if7 .taken) ∙ ap (λ (d : Bool). some (decide d (c .before .before .before .before .before .before .before .before .before .before .before .before .before .before .before .before .before .before .before .before .before .before .before .before .before .before .before .before .before .before .before .before .before .before .before .before .args .e .count) (c .before .before .before .before .before .before .before .before .before .before .before .before .before .before .before .before .before .before .before .before .before .before .before .before .before .before .before .before .before .before .before .before .before .before .before .before .args .e .value))) (to-commit (c .before .before .before .before .before .before .before .before .before .before .before .before .before .before .before .before .before .before .before .before .before .before .before .before .before .before .before .before .before .before .before .before .before .before .before .before .args .e .offset) (c .before .before .before .before .before .before .before .before .before .before .before .before .before .before .before .before .before .before .before .before .before .if8 .left)) in
-    (keeps k _ _ _ (c .before .before .before .before .before .before .before .before .before .before .before .before .before .before .before .before .before .before .before .before .before .before .before .before .before .before .before .before .before .before .before .before .before .before .before .before .pre .4) _ _ (c .before .before .before .before .before .before .before .before .before .before .before .before .before .before .before .before .before .before .before .before .before .before .before .before .before .before .before .before .before .before .before .before .before .before .before .before .args .e) _ (c .before .before .before .before .before .before .before .before .before .before .before .before .before .before .before .before .before .before .before .before .before .before .before .before .before .before .before .before .before .before .before .before .before .before .before .before .pre .5) (c .before .before .before .before .before .before .before .before .before .before .before .before .before .before .before .before .before .before .before .before .before .before .before .before .before .before .before .before .before .before .before .before .before .before .before .before .pre .0) (c .before .before .before .before .before .before .before .before .before .before .before .before .before .before .before .before .before .before .before .before .before .before .before .before .before .before .before .before .before .before .before .before .before .before .before .before .pre .1) (retold (formIn (c .before .before .before .before .before .before .before .before .before .before .before .before .before .before .before .before .before .before .before .before .before .before .before .before .before .before .before .before .before .before .before .before .before .before .before .before .args .tears) (geometryOf k)) _ _ _ _ _ means (P .0)), (c .before .before .before .before .before .before .before .before .decide-event2 .ensures .1, P .1))
+returns-7 c =
+    let entry = c .before .before .before .before .before .before .before .before .before .before .before .before .before .before .before .before .before .before .before .before .before .before .before .before .before .before .before .before .before .before .before .before .before .before .before .before in
+    let if4 = c .before .before .before .before .before .before .before .before .before .before .before .before .before .before .before .before .before .before .before .before .before .before .before .before .before .before .if4 in
+    let if7 = c .before .before .before .before .before .before .before .before .before .before .before .before .before .before .before .before .before .before .before .before .before .before .before .if7 in
+    let if8 = c .before .before .before .before .before .before .before .before .before .before .before .before .before .before .before .before .before .before .before .before .before .if8 in
+    let decide-event2 = c .before .before .before .before .before .before .before .before .decide-event2 in
+    let k = editionOf (entry .args .records) (entry .args .joint) (entry .args .tears) in
+    let whole = whole-of k _ _ _ (entry .pre .4) (entry .pre .5 (omega arith)) in
+    let P = decided-whole (entry .args .tears) (geometryOf k) _ _ _ _ _ _ _ _ whole (decide-event2 .ensures .0 k _ (subst (InNumbers k (entry .args .records) (entry .args .joint)) whole (entry .pre .4))) (entry .pre .1) (if4 .left) (entry .pre .3) in
+    let means = means-decide (entry .args .e) (if7 .taken) ∙ ap (λ (d : Bool). some (decide d (entry .args .e .count) (entry .args .e .value))) (to-commit (entry .args .e .offset) (if8 .left)) in
+    (keeps k _ _ _ (entry .pre .4) _ _ (entry .args .e) _ (entry .pre .5) (entry .pre .0) (entry .pre .1) (retold (formIn (entry .args .tears) (geometryOf k)) _ _ _ _ _ means (P .0)), (decide-event2 .ensures .1, P .1))
 
 query-event-requires : tie.Need-query-event-requires
 query-event-requires c κs = search needs
 
 returns-8 : tie.Need-returns-8
-returns-8 c = let k = editionOf (c .before .before .before .before .before .before .before .before .before .before .before .before .before .before .before .before .args .records) (c .before .before .before .before .before .before .before .before .before .before .before .before .before .before .before .before .args .joint) (c .before .before .before .before .before .before .before .before .before .before .before .before .before .before .before .before .args .tears) in let R = c .before .before .before .before .before .before .before .before .before .before .before .before .before .before .before .before .pre .0 .kind in
-    (keeps k _ _ _ (c .before .before .before .before .before .before .before .before .before .before .before .before .before .before .before .before .pre .4) _ _ (c .before .before .before .before .before .before .before .before .before .before .before .before .before .before .before .before .args .e) _ (c .before .before .before .before .before .before .before .before .before .before .before .before .before .before .before .before .pre .5) (c .before .before .before .before .before .before .before .before .before .before .before .before .before .before .before .before .pre .0) (c .before .before .before .before .before .before .before .before .before .before .before .before .before .before .before .before .pre .1) (retold (formIn (c .before .before .before .before .before .before .before .before .before .before .before .before .before .before .before .before .args .tears) (geometryOf k)) _ _ _ _ _ (means-query (c .before .before .before .before .before .before .before .before .before .before .before .before .before .before .before .before .args .e) (omega arith)) (c .query-event .ensures k (c .before .before .before .before .before .before .before .before .before .before .before .before .before .before .before .before .args .tears) _ (c .before .before .before .before .before .before .before .before .before .before .before .before .before .before .before .before .pre .1) (c .before .before .before .before .before .before .if4 .left) (c .before .before .before .before .before .before .before .before .before .before .before .before .before .before .before .before .pre .3))), (c .before .before .before .before .before .before .before .before .before .before .before .before .before .before .before .before .pre .2, c .before .before .before .before .before .before .before .before .before .before .before .before .before .before .before .before .pre .3))
+returns-8 c =
+    let entry = c .before .before .before .before .before .before .before .before .before .before .before .before .before .before .before .before in
+    let if4 = c .before .before .before .before .before .before .if4 in
+    let k = editionOf (entry .args .records) (entry .args .joint) (entry .args .tears) in
+    let R = entry .pre .0 .kind in
+    (keeps k _ _ _ (entry .pre .4) _ _ (entry .args .e) _ (entry .pre .5) (entry .pre .0) (entry .pre .1) (retold (formIn (entry .args .tears) (geometryOf k)) _ _ _ _ _ (means-query (entry .args .e) (omega arith)) (c .query-event .ensures k (entry .args .tears) _ (entry .pre .1) (if4 .left) (entry .pre .3))), (entry .pre .2, entry .pre .3))
 
 checked-requires : tie.Need-checked-requires
 checked-requires c κs = search needs
@@ -119,7 +182,18 @@ enum-known-n : tie.Need-enum-known-n
 enum-known-n c = search needs
 
 named-event-requires : tie.Need-named-event-requires
-named-event-requires c κs = let R = c .before .before .before .before .before .before .before .before .before .before .before .before .before .before .before .before .before .before .before .before .before .before .before .before .before .before .before .before .before .pre .0 .kind in (transaction-is (c .before .before .before .before .before .before .before .before .before .before .before .before .before .before .before .before .before .before .before .before .before .before .before .before .before .before .before .before .before .args .e .transaction) _ (sym (c .before .before .before .before .before .before .before .before .before .before .before .before .before .before .n .given .1) ∙ c .before .before .before .before .before .before .before .before .before .before .before .before .before .before .before .before .checked .ensures), omega arith, omega arith, c .before .before .before .before .before .before .before .before .before .before .before .before .before .before .before .before .before .before .before .before .before .before .if2 .left, c .before .before .before .before .before .before .before .before .before .before .before .before .before .before .before .before .before .before .before .before .before .if3 .left, c .before .before .before .before .before .before .before .before .before .before .before .before .before .before .before .before .before .before .before .before .before .before .before .before .before .before .before .before .before .pre .0, c .before .before .before .before .before .before .before .before .before .before .before .before .before .before .before .before .before .before .before .before .before .before .before .before .before .before .before .before .before .pre .1, c .before .before .before .before .before .before .before .before .before .before .before .before .before .before .before .before .before .before .before .if4 .left, c .before .before .before .before .before .before .before .before .before .before .before .before .before .before .before .before .before .before .before .before .before .before .before .before .before .before .before .before .before .pre .2, c .before .before .before .before .before .before .before .before .before .before .before .before .before .before .before .before .before .before .before .before .before .before .before .before .before .before .before .before .before .pre .3, c .before .before .before .before .before .before .before .before .before .before .before .before .before .before .before .before .before .before .before .before .before .before .before .before .before .before .before .before .before .pre .4, c .before .before .before .before .before .before .before .before .before .before .before .before .before .before .before .before .before .before .before .before .before .before .before .before .before .before .before .before .before .pre .5)
+named-event-requires c κs =
+    let entry = c .before .before .before .before .before .before .before .before .before .before .before .before .before .before .before .before .before .before .before .before .before .before .before .before .before .before .before .before .before in
+    let if1 = c .before .before .before .before .before .before .before .before .before .before .before .before .before .before .before .before .before .before .before .before .before .before .before .if1 in
+    let if2 = c .before .before .before .before .before .before .before .before .before .before .before .before .before .before .before .before .before .before .before .before .before .before .if2 in
+    let if3 = c .before .before .before .before .before .before .before .before .before .before .before .before .before .before .before .before .before .before .before .before .before .if3 in
+    let if4 = c .before .before .before .before .before .before .before .before .before .before .before .before .before .before .before .before .before .before .before .if4 in
+    let if5 = c .before .before .before .before .before .before .before .before .before .before .before .before .before .before .before .before .before .before .if5 in
+    let if6 = c .before .before .before .before .before .before .before .before .before .before .before .before .before .before .before .before .before .if6 in
+    let checked = c .before .before .before .before .before .before .before .before .before .before .before .before .before .before .before .before .checked in
+    let n = c .before .before .before .before .before .before .before .before .before .before .before .before .before .before .n in
+    let R = entry .pre .0 .kind in
+    (transaction-is (entry .args .e .transaction) _ (sym (n .given .1) ∙ checked .ensures), omega (arith, if1 .left, if5 .left), omega (arith, if6 .left), if2 .left, if3 .left, entry .pre .0, entry .pre .1, if4 .left, entry .pre .2, entry .pre .3, entry .pre .4, entry .pre .5)
 
 enum-told : tie.Need-enum-told
 enum-told c = search needs
@@ -140,11 +214,22 @@ same-length-17 : tie.Need-same-length-17
 same-length-17 c = search needs
 
 returns-9 : tie.Need-returns-9
-returns-9 c = let k = editionOf (c .before .before .before .before .before .before .before .before .before .before .before .before .before .before .before .before .before .before .before .before .before .before .before .before .before .before .before .before .before .before .before .before .before .before .before .before .before .before .before .before .args .records) (c .before .before .before .before .before .before .before .before .before .before .before .before .before .before .before .before .before .before .before .before .before .before .before .before .before .before .before .before .before .before .before .before .before .before .before .before .before .before .before .before .args .joint) (c .before .before .before .before .before .before .before .before .before .before .before .before .before .before .before .before .before .before .before .before .before .before .before .before .before .before .before .before .before .before .before .before .before .before .before .before .before .before .before .before .args .tears) in (keeps k _ _ _ (c .before .before .before .before .before .before .before .before .before .before .before .before .before .before .before .before .before .before .before .before .before .before .before .before .before .before .before .before .before .before .before .before .before .before .before .before .before .before .before .before .pre .4) _ _ (c .before .before .before .before .before .before .before .before .before .before .before .before .before .before .before .before .before .before .before .before .before .before .before .before .before .before .before .before .before .before .before .before .before .before .before .before .before .before .before .before .args .e) _ (c .before .before .before .before .before .before .before .before .before .before .before .before .before .before .before .before .before .before .before .before .before .before .before .before .before .before .before .before .before .before .before .before .before .before .before .before .before .before .before .before .pre .5) (c .before .before .before .before .before .before .before .before .before .before .before .before .before .before .before .before .before .before .before .before .before .before .before .before .before .before .before .before .before .before .before .before .before .before .before .before .before .before .before .before .pre .0) (c .before .before .before .before .before .before .before .before .before .before .before .before .before .before .before .before .before .before .before .before .before .before .before .before .before .before .before .before .before .before .before .before .before .before .before .before .before .before .before .before .pre .1) (c .before .before .before .before .before .before .before .before .before .before .named-event .ensures .0), (c .before .before .before .before .before .before .before .before .before .before .named-event .ensures .1 .0, c .before .before .before .before .before .before .before .before .before .before .named-event .ensures .1 .1))
+returns-9 c =
+    let entry = c .before .before .before .before .before .before .before .before .before .before .before .before .before .before .before .before .before .before .before .before .before .before .before .before .before .before .before .before .before .before .before .before .before .before .before .before .before .before .before .before in
+    let named-event = c .before .before .before .before .before .before .before .before .before .before .named-event in
+    let k = editionOf (entry .args .records) (entry .args .joint) (entry .args .tears) in
+    (keeps k _ _ _ (entry .pre .4) _ _ (entry .args .e) _ (entry .pre .5) (entry .pre .0) (entry .pre .1) (named-event .ensures .0), (named-event .ensures .1 .0, named-event .ensures .1 .1))
 
 returns-10 : tie.Need-returns-10
-returns-10 c = let k = editionOf (c .before .before .before .before .before .before .before .before .before .before .before .before .before .before .before .args .records) (c .before .before .before .before .before .before .before .before .before .before .before .before .before .before .before .args .joint) (c .before .before .before .before .before .before .before .before .before .before .before .before .before .before .before .args .tears) in let R = c .before .before .before .before .before .before .before .before .before .before .before .before .before .before .before .pre .0 .kind in let h = no-transaction (c .before .before .before .before .before .before .before .before .before .before .before .before .before .before .before .args .e .transaction) (sym (c .enum-told .given .1) ∙ c .before .before .checked .ensures) in
-    (keeps k _ _ _ (c .before .before .before .before .before .before .before .before .before .before .before .before .before .before .before .pre .4) _ _ (c .before .before .before .before .before .before .before .before .before .before .before .before .before .before .before .args .e) _ (c .before .before .before .before .before .before .before .before .before .before .before .before .before .before .before .pre .5) (c .before .before .before .before .before .before .before .before .before .before .before .before .before .before .before .pre .0) (c .before .before .before .before .before .before .before .before .before .before .before .before .before .before .before .pre .1) (unknown-steps (formIn (c .before .before .before .before .before .before .before .before .before .before .before .before .before .before .before .args .tears) (geometryOf k)) _ (c .before .before .before .before .before .before .before .before .before .before .before .before .before .before .before .args .e) (c .before .before .before .before .before .before .before .before .before .before .before .before .before .before .before .pre .1) (omega arith) (omega arith) (c .before .before .before .before .before .before .before .before .if2 .left) (c .before .before .before .before .before .before .before .if3 .left) (c .before .before .before .before .before .if4 .left) (not-live-past (formIn (c .before .before .before .before .before .before .before .before .before .before .before .before .before .before .before .args .tears) (geometryOf k)) _ (c .before .before .before .before .before .before .before .before .before .before .before .before .before .before .before .args .e .transaction) (c .before .before .before .before .before .before .before .before .before .before .before .before .before .before .before .pre .1 .form) h)), (c .before .before .before .before .before .before .before .before .before .before .before .before .before .before .before .pre .2, c .before .before .before .before .before .before .before .before .before .before .before .before .before .before .before .pre .3))
+returns-10 c =
+    let entry = c .before .before .before .before .before .before .before .before .before .before .before .before .before .before .before in
+    let if2 = c .before .before .before .before .before .before .before .before .if2 in
+    let if3 = c .before .before .before .before .before .before .before .if3 in
+    let if4 = c .before .before .before .before .before .if4 in
+    let k = editionOf (entry .args .records) (entry .args .joint) (entry .args .tears) in
+    let R = entry .pre .0 .kind in
+    let h = no-transaction (entry .args .e .transaction) (sym (c .enum-told .given .1) ∙ c .before .before .checked .ensures) in
+    (keeps k _ _ _ (entry .pre .4) _ _ (entry .args .e) _ (entry .pre .5) (entry .pre .0) (entry .pre .1) (unknown-steps (formIn (entry .args .tears) (geometryOf k)) _ (entry .args .e) (entry .pre .1) (omega arith) (omega arith) (if2 .left) (if3 .left) (if4 .left) (not-live-past (formIn (entry .args .tears) (geometryOf k)) _ (entry .args .e .transaction) (entry .pre .1 .form) h)), (entry .pre .2, entry .pre .3))
 
 pub step-spec : {M : Type 1} → statement M
 step-spec =

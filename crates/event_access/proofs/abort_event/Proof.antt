@@ -33,8 +33,12 @@ element-copy-out-inherit-on-abort c = search needs
 
 inherit-on-abort-requires : tie.Need-inherit-on-abort-requires
 unfolding under
-inherit-on-abort-requires c κs = let a = c .before .before .before .before .before .before .before .before .args in let n = c .before .before .before .before .number .result in
-    (c .before .before .before .before .number .ensures .1, λ e. parent-below _ _ (c .before .before .before .before .before .before .before .before .pre .7) n (under-lt 1 (getD (a .depth .now) n 0) (and-right (a .report) (under 1 (getD (a .depth .now) n 0)) e)), search needs, search needs)
+inherit-on-abort-requires c κs =
+    let entry = c .before .before .before .before .before .before .before .before in
+    let number = c .before .before .before .before .number in
+    let a = entry .args in
+    let n = number .result in
+    (number .ensures .1, λ e. parent-below _ _ (entry .pre .7) n (under-lt 1 (getD (a .depth .now) n 0) (and-right (a .report) (under 1 (getD (a .depth .now) n 0)) e)), search needs, search needs)
 
 descendants-requires : tie.Need-descendants-requires
 descendants-requires c κs = search needs
@@ -49,7 +53,9 @@ minus-requires : tie.Need-minus-requires
 minus-requires c κs = search needs
 
 leave-requires : tie.Need-leave-requires
-leave-requires c κs = c .before .before .before .before .before .before .before .before .before .before .before .before .before .before .before .before .before .before .before .before .before .before .before .before .before .before .before .before .before .before .pre .8 .long
+leave-requires c κs =
+    let entry = c .before .before .before .before .before .before .before .before .before .before .before .before .before .before .before .before .before .before .before .before .before .before .before .before .before .before .before .before .before .before in
+    entry .pre .8 .long
 
 same-length : tie.Need-same-length
 same-length c = search needs
@@ -62,8 +68,17 @@ same-length-3 c = search needs
 
 returns : tie.Need-returns
 unfolding under less
-returns c = let w = c .before .before .before .before .before .before .before .before .before .before .before .before .before .before .before .before .before .before .before .before .before .before .before .before .before .before .before .before .before .before .before .args .report in let e = c .before .before .before .before .free-numbers .ensures in let f = c .before .before .before .before .before .before .before .before .before .before .before .before .before .before .discard .ensures in
-    (λ k tears up work store I R. numbered (formIn tears (geometryOf k)) _ _ _ (λ t r. abort t w) (Ready (formIn tears (geometryOf k))) _ _ 0 0 (c .before .before .before .before .before .before .before .before .before .before .before .before .before .before .before .before .before .before .before .before .before .before .before .before .before .before .before .number .ensures .0) refl (λ R. abort-steps-of (formIn tears (geometryOf k)) _ (sym (c .before .before .before .before .before .before .before .before .before .before .before .before .before .before .before .before .before .before .before .before .before .before .before .before .before .before .before .before .before .before .before .pre .6) ∙ I .form .writerss) _ I _ _ w R (c .before .before .before .before .before .before .before .before .before .before .before .before .before .before .before .before .before .before .descendants .ensures) _ _ _ _ _ _ _ (c .before .before .before .before .before .before .before .before .before .before .before .before .before .before .before .before .before .before .before .before .before .before .inherit-on-abort .ensures) (e .0) (e .1) (e .2) (f .0) (f .1) (f .2)) R, kin-cleared _ _ _ _ _ _ _ _ _ (c .before .before .before .before .before .before .before .before .before .before .before .before .before .before .before .before .before .before .before .before .before .before .before .before .before .before .before .before .before .before .before .pre .8) (e .0) (e .1) (c .before .before .minus .ensures) (c .leave .ensures))
+returns c =
+    let entry = c .before .before .before .before .before .before .before .before .before .before .before .before .before .before .before .before .before .before .before .before .before .before .before .before .before .before .before .before .before .before .before in
+    let number = c .before .before .before .before .before .before .before .before .before .before .before .before .before .before .before .before .before .before .before .before .before .before .before .before .before .before .before .number in
+    let inherit-on-abort = c .before .before .before .before .before .before .before .before .before .before .before .before .before .before .before .before .before .before .before .before .before .before .inherit-on-abort in
+    let descendants = c .before .before .before .before .before .before .before .before .before .before .before .before .before .before .before .before .before .before .descendants in
+    let discard = c .before .before .before .before .before .before .before .before .before .before .before .before .before .before .discard in
+    let free-numbers = c .before .before .before .before .free-numbers in
+    let w = entry .args .report in
+    let e = free-numbers .ensures in
+    let f = discard .ensures in
+    (λ k tears up work store I R. numbered (formIn tears (geometryOf k)) _ _ _ (λ t r. abort t w) (Ready (formIn tears (geometryOf k))) _ _ 0 0 (number .ensures .0) refl (λ R. abort-steps-of (formIn tears (geometryOf k)) _ (sym (entry .pre .6) ∙ I .form .writerss) _ I _ _ w R (descendants .ensures) _ _ _ _ _ _ _ (inherit-on-abort .ensures) (e .0) (e .1) (e .2) (f .0) (f .1) (f .2)) R, kin-cleared _ _ _ _ _ _ _ _ _ (entry .pre .8) (e .0) (e .1) (c .before .before .minus .ensures) (c .leave .ensures))
 
 pub abort-event-spec : {M : Type 1} → statement M
 abort-event-spec =

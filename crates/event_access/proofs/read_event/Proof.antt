@@ -12,16 +12,22 @@ holds-requires : tie.Need-holds-requires
 holds-requires c κs = search needs
 
 read-requires : tie.Need-read-requires
-read-requires c κs = let pre = c .before .before .before .before .before .before .pre in (pre .1, pre .2, pre .0, pre .4, pre .5, pre .6)
+read-requires c κs =
+    let entry = c .before .before .before .before .before .before in
+    (entry .pre .1, entry .pre .2, entry .pre .0, entry .pre .4, entry .pre .5, entry .pre .6)
 
 returns : tie.Need-returns
-returns c = λ k tears up line retained h I R.
-    let a = c .before .before .before .before .before .before .before .args in
+returns c =
+    let entry = c .before .before .before .before .before .before .before in
+    λ k tears up line retained h I R.
+    let a = entry .args in
     read-steps (formIn tears (geometryOf k)) _ I (transactionOf (a .t)) (recordOf (a .r)) (a .o) _ _ h R (sym (c .before .before .holds .ensures) ∙ c .before .if1 .taken) (c .read .ensures)
 
 returns-2 : tie.Need-returns-2
-returns-2 c = λ k tears up line retained h I R.
-    let a = c .before .before .before .before .before .before .args in
+returns-2 c =
+    let entry = c .before .before .before .before .before .before in
+    λ k tears up line retained h I R.
+    let a = entry .args in
     read-refuses (formIn tears (geometryOf k)) _ I (transactionOf (a .t)) (recordOf (a .r)) (a .o) R (sym (c .before .holds .ensures) ∙ c .if1 .left)
 
 pub read-event-spec : {M : Type 1} → statement M

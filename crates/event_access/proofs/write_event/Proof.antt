@@ -12,7 +12,9 @@ holds-writing-requires : tie.Need-holds-writing-requires
 holds-writing-requires c κs = search needs
 
 write-requires : tie.Need-write-requires
-write-requires c κs = let pre = c .before .before .before .before .before .before .before .before .pre in (pre .1, pre .2, pre .0, pre .4, pre .5, pre .6, pre .7)
+write-requires c κs =
+    let entry = c .before .before .before .before .before .before .before .before in
+    (entry .pre .1, entry .pre .2, entry .pre .0, entry .pre .4, entry .pre .5, entry .pre .6, entry .pre .7)
 
 same-length : tie.Need-same-length
 same-length c = search needs
@@ -21,13 +23,20 @@ same-length-2 : tie.Need-same-length-2
 same-length-2 c = search needs
 
 returns : tie.Need-returns
-returns c = λ k tears up line retained h I R.
-    let a = c .before .before .before .before .before .before .before .before .before .before .before .before .before .args in
-    write-steps (formIn tears (geometryOf k)) _ I (transactionOf (a .t)) (recordOf (a .r)) (a .o) (a .v) _ h R (sym (c .before .before .before .before .before .before .before .before .holds-writing .ensures) ∙ c .before .before .before .before .before .before .before .if1 .taken) _ _ (search needs) (c .before .before .before .before .write .ensures)
+returns c =
+    let entry = c .before .before .before .before .before .before .before .before .before .before .before .before .before in
+    let holds-writing = c .before .before .before .before .before .before .before .before .holds-writing in
+    let if1 = c .before .before .before .before .before .before .before .if1 in
+    let write = c .before .before .before .before .write in
+    λ k tears up line retained h I R.
+    let a = entry .args in
+    write-steps (formIn tears (geometryOf k)) _ I (transactionOf (a .t)) (recordOf (a .r)) (a .o) (a .v) _ h R (sym (holds-writing .ensures) ∙ if1 .taken) _ _ (search needs) (write .ensures)
 
 returns-2 : tie.Need-returns-2
-returns-2 c = λ k tears up line retained h I R.
-    let a = c .before .before .before .before .before .before .args in
+returns-2 c =
+    let entry = c .before .before .before .before .before .before in
+    λ k tears up line retained h I R.
+    let a = entry .args in
     write-refuses (formIn tears (geometryOf k)) _ I (transactionOf (a .t)) (recordOf (a .r)) (a .o) (a .v) R (sym (c .before .holds-writing .ensures) ∙ c .if1 .left)
 
 pub write-event-spec : {M : Type 1} → statement M

@@ -18,17 +18,28 @@ element-copy-out-p : tie.Need-element-copy-out-p
 element-copy-out-p c = search needs
 
 hand-up-requires : tie.Need-hand-up-requires
-hand-up-requires c κs = let a = c .before .before .before .before .before .before .before .args in let k = c .before .before .before .before .before .before .before .pre .11 .shallow (a .t) in let e = c .before .before .before .before .before .before .before .pre .10 in
-    (omega arith, parent-below _ _ (c .before .before .before .before .before .before .before .pre .11) (a .t) (omega arith), omega arith, omega arith, c .before .before .before .before .before .before .before .pre .1, search needs, search needs)
+hand-up-requires c κs =
+    let entry = c .before .before .before .before .before .before .before in
+    let a = entry .args in
+    let k = entry .pre .11 .shallow (a .t) in
+    let e = entry .pre .10 in
+    (omega arith, parent-below _ _ (entry .pre .11) (a .t) (omega arith), omega arith, omega arith, entry .pre .1, search needs, search needs)
 
 mul-places : tie.Need-mul-places
 mul-places c = search needs
 
 inherit-on-commit-requires : tie.Need-inherit-on-commit-requires
-inherit-on-commit-requires c κs = let e = c .before .before .before .before .before .before .before .before .before .before .before .before .before .before .pre .10 in (omega arith, parent-below _ _ (c .before .before .before .before .before .before .before .before .before .before .before .before .before .before .pre .11) (c .before .before .before .before .before .before .before .before .before .before .before .before .before .before .args .t) (omega arith), search needs, search needs)
+inherit-on-commit-requires c κs =
+    let entry = c .before .before .before .before .before .before .before .before .before .before .before .before .before .before in
+    let e = entry .pre .10 in
+    (omega arith, parent-below _ _ (entry .pre .11) (entry .args .t) (omega arith), search needs, search needs)
 
 remove-child-requires : tie.Need-remove-child-requires
-remove-child-requires c κs = let p = c .before .before .before .before .before .before .before .before .before .before .before .before .before .before .before .before .before .before .before .before .before .pre .12 .named (c .before .before .before .before .before .before .before .before .before .before .before .before .before .before .before .before .before .before .before .before .before .args .t) in let h = c .before .before .before .before .before .before .before .before .before .before .before .before .before .before .before .before .before .before .before .before .before .pre .0 in (omega arith, omega arith)
+remove-child-requires c κs =
+    let entry = c .before .before .before .before .before .before .before .before .before .before .before .before .before .before .before .before .before .before .before .before .before in
+    let p = entry .pre .12 .named (entry .args .t) in
+    let h = entry .pre .0 in
+    (omega arith, omega arith)
 
 free-number-requires : tie.Need-free-number-requires
 free-number-requires c κs = search needs
@@ -46,12 +57,23 @@ same-length-4 : tie.Need-same-length-4
 same-length-4 c = search needs
 
 returns : tie.Need-returns
-returns c = let a = c .before .before .before .before .before .before .before .before .before .before .before .before .before .before .before .before .before .before .before .before .before .before .before .before .before .before .args in let e = c .free-number .ensures in let f = c .before .before .before .before .before .before .before .before .before .before .before .inherit-on-commit .ensures in let g = c .before .before .before .before .before .before .before .before .before .before .before .before .before .before .before .before .before .before .hand-up .ensures in let q = c .before .before .before .before .before .before .before .before .before .before .before .before .before .before .before .before .before .before .before .before .before .before .before .before .before .before .pre .10 in let s = c .before .before .before .before .remove-child .ensures in
+returns c =
+    let entry = c .before .before .before .before .before .before .before .before .before .before .before .before .before .before .before .before .before .before .before .before .before .before .before .before .before .before in
+    let hand-up = c .before .before .before .before .before .before .before .before .before .before .before .before .before .before .before .before .before .before .hand-up in
+    let inherit-on-commit = c .before .before .before .before .before .before .before .before .before .before .before .inherit-on-commit in
+    let remove-child = c .before .before .before .before .remove-child in
+    let a = entry .args in
+    let e = c .free-number .ensures in
+    let f = inherit-on-commit .ensures in
+    let g = hand-up .ensures in
+    let q = entry .pre .10 in
+    let s = remove-child .ensures in
     let n = getD (a .depth .now) (a .t) 0 - 2 in
-    let m = c .before .before .before .before .before .before .before .before .before .before .before .before .before .before .before .before .before .before .before .before .before .before .before .before .before .before .pre .9 in let deep : getD (a .depth .now) (a .t) 0 ≡ suc (suc n) = omega (arith, m, q) in (
-      λ edition tears up k store I R childless. child-steps tears (geometryOf edition) _ I (a .t) R childless k n deep _ (c .before .before .before .before .before .before .before .before .before .before .before .before .before .before .before .before .before .before .before .before .before .before .before .before .before .before .pre .7) _ _ _ _ _ _ _ (e .0) (e .1) (e .2) (f .0) (f .1) (g .1)
+    let m = entry .pre .9 in
+    let deep : getD (a .depth .now) (a .t) 0 ≡ suc (suc n) = omega (arith, m, q) in (
+      λ edition tears up k store I R childless. child-steps tears (geometryOf edition) _ I (a .t) R childless k n deep _ (entry .pre .7) _ _ _ _ _ _ _ (e .0) (e .1) (e .2) (f .0) (f .1) (g .1)
           (g .0 ∙ ap (λ (m : ℕ). lifted (sets (a .writers .now)) (a .t) m (pagesOf (a .work .now))) (q ∙ deep)) (search needs),
-      kin-retired _ _ _ _ _ _ _ _ (a .t) _ (c .before .before .before .before .before .before .before .before .before .before .before .before .before .before .before .before .before .before .before .before .before .before .before .before .before .before .pre .12) refl (c .before .before .before .before .before .before .before .before .before .before .before .before .before .before .before .before .before .before .before .before .before .before .before .before .before .before .pre .12 .named (a .t)) (e .0) (e .1) (s .0) (s .1),
+      kin-retired _ _ _ _ _ _ _ _ (a .t) _ (entry .pre .12) refl (entry .pre .12 .named (a .t)) (e .0) (e .1) (s .0) (s .1),
     )
 
 pub commit-child-spec : {M : Type 1} → statement M

@@ -9,24 +9,34 @@ use Rattle.event_commit.proofs.write_pages.Statement.{statement}
 use Rattle.event_commit.proofs.write_pages.Tie as tie
 
 prepare-pages-requires : tie.Need-prepare-pages-requires
-prepare-pages-requires c κs = (c .before .before .before .before .pre .1 (c .before .if1 .taken), c .before .before .before .before .pre .3, whole-length (c .before .before .before .before .args .tears) _ _ (c .before .before .before .before .pre .2 (c .before .if1 .taken)) (c .before .before .before .before .pre .4), c .before .before .before .before .pre .5)
+prepare-pages-requires c κs =
+    let entry = c .before .before .before .before in
+    (entry .pre .1 (c .before .if1 .taken), entry .pre .3, whole-length (entry .args .tears) _ _ (entry .pre .2 (c .before .if1 .taken)) (entry .pre .4), entry .pre .5)
 
 same-length : tie.Need-same-length
 same-length c = search needs
 
 returns : tie.Need-returns
 unfolding settlingAt
-returns c = λ g G. settled-pages (mediumOf (c .before .before .before .before .before .before .before .args .tears) g) true _ _ _ _ _ _ _ _ (c .before .before .before .before .if1 .taken) (prepared-whole (c .before .before .before .before .before .before .before .args .tears) g _ _ _ _ _ _ _ (c .before .before .before .before .before .before .before .pre .2 (c .before .before .before .before .if1 .taken)) (c .before .before .prepare-pages .ensures g G))
+returns c =
+    let entry = c .before .before .before .before .before .before .before in
+    let if1 = c .before .before .before .before .if1 in
+    λ g G. settled-pages (mediumOf (entry .args .tears) g) true _ _ _ _ _ _ _ _ (if1 .taken) (prepared-whole (entry .args .tears) g _ _ _ _ _ _ _ (entry .pre .2 (if1 .taken)) (c .before .before .prepare-pages .ensures g G))
 
 commit-pages-requires : tie.Need-commit-pages-requires
-commit-pages-requires c κs = (c .before .before .before .before .pre .0, c .before .before .before .before .pre .3, c .before .before .before .before .pre .4, c .before .before .before .before .pre .5)
+commit-pages-requires c κs =
+    let entry = c .before .before .before .before in
+    (entry .pre .0, entry .pre .3, entry .pre .4, entry .pre .5)
 
 same-length-2 : tie.Need-same-length-2
 same-length-2 c = search needs
 
 returns-2 : tie.Need-returns-2
 unfolding settlingAt
-returns-2 c = λ g G. settled-pages (mediumOf (c .before .before .before .before .before .before .before .args .tears) g) false _ _ _ _ _ _ _ _ (c .before .before .before .before .if1 .left) (c .before .before .commit-pages .ensures g G)
+returns-2 c =
+    let entry = c .before .before .before .before .before .before .before in
+    let if1 = c .before .before .before .before .if1 in
+    λ g G. settled-pages (mediumOf (entry .args .tears) g) false _ _ _ _ _ _ _ _ (if1 .left) (c .before .before .commit-pages .ensures g G)
 
 pub write-pages-spec : {M : Type 1} → statement M
 write-pages-spec =

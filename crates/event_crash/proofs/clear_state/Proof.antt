@@ -27,7 +27,10 @@ same-length-3 : tie.Need-same-length-3
 same-length-3 c = search needs
 
 returns : tie.Need-returns
-returns c = ((refl, refl, refl, refl, c .before .before .before .before .before .before .before .before .before .before .clear .ensures, c .before .before .before .before .before .before .clear2 .ensures, c .before .before .clear3 .ensures), kin-none)
+returns c =
+    let clear = c .before .before .before .before .before .before .before .before .before .before .clear in
+    let clear2 = c .before .before .before .before .before .before .clear2 in
+    ((refl, refl, refl, refl, clear .ensures, clear2 .ensures, c .before .before .clear3 .ensures), kin-none)
 
 pub clear-state-spec : {M : Type 1} → statement M
 clear-state-spec =

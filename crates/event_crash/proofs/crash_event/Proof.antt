@@ -19,7 +19,10 @@ same-length-3 : tie.Need-same-length-3
 same-length-3 c = search needs
 
 returns : tie.Need-returns
-returns c = (λ edition tears work store I. crash-steps (formIn tears (geometryOf edition)) _ (I .form) _ (c .before .before .before .before .before .before .before .before .before .before .before .before .before .before .before .before .before .before .before .pre .3) _ _ _ _ _ _ _ (c .before .before .before .before .before .before .clear-state .ensures .0), c .before .before .before .before .before .before .clear-state .ensures .1)
+returns c =
+    let entry = c .before .before .before .before .before .before .before .before .before .before .before .before .before .before .before .before .before .before .before in
+    let clear-state = c .before .before .before .before .before .before .clear-state in
+    (λ edition tears work store I. crash-steps (formIn tears (geometryOf edition)) _ (I .form) _ (entry .pre .3) _ _ _ _ _ _ _ (clear-state .ensures .0), clear-state .ensures .1)
 
 pub crash-event-spec : {M : Type 1} → statement M
 crash-event-spec =

@@ -13,7 +13,9 @@ same-length : tie.Need-same-length
 same-length c = search needs
 
 returns : tie.Need-returns
-returns c = λ g G H. by-decision false g _ _ _ _ _ _ _ (c .before .before .before .before .if1 .taken) (c .before .before .commit-decided .ensures g G H)
+returns c =
+    let if1 = c .before .before .before .before .if1 in
+    λ g G H. by-decision false g _ _ _ _ _ _ _ (if1 .taken) (c .before .before .commit-decided .ensures g G H)
 
 abort-decided-requires : tie.Need-abort-decided-requires
 abort-decided-requires c κs = search needs
@@ -22,7 +24,9 @@ same-length-2 : tie.Need-same-length-2
 same-length-2 c = search needs
 
 returns-2 : tie.Need-returns-2
-returns-2 c = λ g G H. by-decision false g _ _ _ _ _ _ _ (c .before .before .before .before .if1 .left) (c .before .before .abort-decided .ensures g G)
+returns-2 c =
+    let if1 = c .before .before .before .before .if1 in
+    λ g G H. by-decision false g _ _ _ _ _ _ _ (if1 .left) (c .before .before .abort-decided .ensures g G)
 
 pub decide-pages-spec : {M : Type 1} → statement M
 decide-pages-spec =

@@ -40,17 +40,21 @@ add-page : tie.Need-add-page
 add-page c = search needs
 
 array-write-page-2 : tie.Need-array-write-page-2
-array-write-page-2 c = let entry = c .before .before .before .before in let few = known-small (entry .args .n) (entry .pre .0) .0 in omega arith
+array-write-page-2 c =
+    let entry = c .before .before .before .before in
+    let few = known-small (entry .args .n) (entry .pre .0) .0 in
+    omega arith
 
 returns : tie.Need-returns
 unfolding laidOut
 returns c =
     let entry = c .before .before .before .before in
+    let lay-map = c .before .before .before .lay-map in
     let a = entry .args in
     let hd : ℕ = headOf (a .n) + cond (same (a .map) 0) 0 5 in
     let x : ℕ = c .before .ones .result * c .place .result in
     λ g L.
-    ap₂ (λ (l : List ℕ) (h : ℕ). set (set l 0 h) (a .n / 8 + 1) x) (c .before .before .before .lay-map .ensures) (c .before .before .head .ensures)
+    ap₂ (λ (l : List ℕ) (h : ℕ). set (set l 0 h) (a .n / 8 + 1) x) (lay-map .ensures) (c .before .before .head .ensures)
     ∙ page-set (a .n) (a .map) hd x (known-small (a .n) (entry .pre .0) .0)
     ∙ ap₂ (λ (o k : ℕ). hd ∷ (bytes (a .n / 8) (a .map) ++ (o * k ∷ replicate (30 - a .n / 8) 0)))
     (c .before .ones .ensures .0 g (subst (λ (k : ℕ). a .map < 2 ^ k) (sym (L .many)) (entry .pre .1))) (c .place .ensures .0)

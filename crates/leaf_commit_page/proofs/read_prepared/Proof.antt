@@ -26,7 +26,9 @@ told m i false = refl
 
 returns : tie.Need-returns
 unfolding overheard
-returns c = (λ g L j. sym (ap overheard (unprepared g (c .before .args .t1) (j ∙ not-true (c .before .args .joint) (c .if1 .taken)))), pow-pos (c .before .args .n))
+returns c =
+    let entry = c .before in
+    (λ g L j. sym (ap overheard (unprepared g (entry .args .t1) (j ∙ not-true (entry .args .joint) (c .if1 .taken)))), pow-pos (entry .args .n))
 
 map-in-requires : tie.Need-map-in-requires
 map-in-requires c κs = let k = known-small (c .before .args .n) (c .before .pre .0) .0 in omega arith
@@ -51,18 +53,23 @@ kept-requires c κs = search needs
 returns-2 : tie.Need-returns-2
 unfolding overheard
 returns-2 c =
-    let a = c .before .before .before .before .before .before .before .args in
-    let on = not-false (a .joint) (c .before .before .before .before .before .before .if1 .left) in
-    let sixteen = c .before .before .before .before .before .before .before .pre .1 on in
-    let m : ℕ = c .before .before .before .before .before .map-in .result in
-    let i : ℕ = c .before .before .before .before .byte .result in
-    let at : m ≡ number (take 2 (drop 1 (a .t1))) = c .before .before .before .before .before .map-in .ensures .0 ∙ ap (λ (k : ℕ). number (take (k / 8) (drop 1 (a .t1)))) sixteen in
-    let small : m < 2 ^ 16 = subst (λ (k : ℕ). m < 256 ^ (k / 8)) sixteen (c .before .before .before .before .before .map-in .ensures .1) in (
+    let entry = c .before .before .before .before .before .before .before in
+    let if1 = c .before .before .before .before .before .before .if1 in
+    let map-in = c .before .before .before .before .before .map-in in
+    let byte = c .before .before .before .before .byte in
+    let prepared-page = c .before .before .before .prepared-page in
+    let a = entry .args in
+    let on = not-false (a .joint) (if1 .left) in
+    let sixteen = entry .pre .1 on in
+    let m : ℕ = map-in .result in
+    let i : ℕ = byte .result in
+    let at : m ≡ number (take 2 (drop 1 (a .t1))) = map-in .ensures .0 ∙ ap (λ (k : ℕ). number (take (k / 8) (drop 1 (a .t1)))) sixteen in
+    let small : m < 2 ^ 16 = subst (λ (k : ℕ). m < 256 ^ (k / 8)) sixteen (map-in .ensures .1) in (
       λ g L j.
           let L16 : Layout g 16 = subst (Layout g) sixteen L in
           let e : sameList (a .t1) (preparedPage g (prepared m i)) ≡ true =
-          sym (c .before .before .same-page .ensures ∙ ap (sameList (a .t1)) (c .before .before .before .prepared-page .ensures g L16)) ∙ c .before .if2 .taken in
-          let last = c .before .before .before .before .byte .ensures in
+          sym (c .before .before .same-page .ensures ∙ ap (sameList (a .t1)) (prepared-page .ensures g L16)) ∙ c .before .if2 .taken in
+          let last = byte .ensures in
           c .kept .ensures .0 ∙ sym (ap overheard (prepared-read g L16 (a .t1) m i (j ∙ on) at (last .0) small (last .1) e) ∙ told m i (same m 0)),
       lt-of-le-of-lt (c .kept .ensures .1) (subst (λ (k : ℕ). m < 2 ^ k) (sym sixteen) small),
     )
@@ -70,17 +77,21 @@ returns-2 c =
 returns-3 : tie.Need-returns-3
 unfolding overheard
 returns-3 c =
-    let a = c .before .before .before .before .before .before .args in
-    let on = not-false (a .joint) (c .before .before .before .before .before .if1 .left) in
-    let sixteen = c .before .before .before .before .before .before .pre .1 on in
-    let m : ℕ = c .before .before .before .before .map-in .result in
-    let i : ℕ = c .before .before .before .byte .result in
-    let at : m ≡ number (take 2 (drop 1 (a .t1))) = c .before .before .before .before .map-in .ensures .0 ∙ ap (λ (k : ℕ). number (take (k / 8) (drop 1 (a .t1)))) sixteen in
-    let small : m < 2 ^ 16 = subst (λ (k : ℕ). m < 256 ^ (k / 8)) sixteen (c .before .before .before .before .map-in .ensures .1) in (
+    let entry = c .before .before .before .before .before .before in
+    let if1 = c .before .before .before .before .before .if1 in
+    let map-in = c .before .before .before .before .map-in in
+    let byte = c .before .before .before .byte in
+    let a = entry .args in
+    let on = not-false (a .joint) (if1 .left) in
+    let sixteen = entry .pre .1 on in
+    let m : ℕ = map-in .result in
+    let i : ℕ = byte .result in
+    let at : m ≡ number (take 2 (drop 1 (a .t1))) = map-in .ensures .0 ∙ ap (λ (k : ℕ). number (take (k / 8) (drop 1 (a .t1)))) sixteen in
+    let small : m < 2 ^ 16 = subst (λ (k : ℕ). m < 256 ^ (k / 8)) sixteen (map-in .ensures .1) in (
       λ g L j.
           let L16 : Layout g 16 = subst (Layout g) sixteen L in
           let e : sameList (a .t1) (preparedPage g (prepared m i)) ≡ false = sym (c .before .same-page .ensures ∙ ap (sameList (a .t1)) (c .before .before .prepared-page .ensures g L16)) ∙ c .if2 .left in
-          sym (ap overheard (prepared-bad g L16 (a .t1) m i at (c .before .before .before .byte .ensures .0) (λ q. absurd (true≢false (sym q ∙ e))))),
+          sym (ap overheard (prepared-bad g L16 (a .t1) m i at (byte .ensures .0) (λ q. absurd (true≢false (sym q ∙ e))))),
       pow-pos (a .n),
     )
 

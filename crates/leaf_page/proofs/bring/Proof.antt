@@ -18,7 +18,10 @@ same-length : tie.Need-same-length
 same-length c = search needs
 
 returns : tie.Need-returns
-returns c = let a = c .before .before .before .before .before .before .before .args in c .before .before .put-page .ensures ∙ ap (λ (p : List ℕ). updated (a .to) p (pagesOf (a .bytes .now))) (c .before .before .before .before .read-page .ensures)
+returns c =
+    let read-page = c .before .before .before .before .read-page in
+    let a = c .before .before .before .before .before .before .before .args in
+    c .before .before .put-page .ensures ∙ ap (λ (p : List ℕ). updated (a .to) p (pagesOf (a .bytes .now))) (read-page .ensures)
 
 pub bring-spec : {M : Type 1} → statement M
 bring-spec = tie.close (tie.spec read-page-requires put-page-requires same-length returns)

@@ -30,30 +30,47 @@ question-requires c κs = omega arith
 
 returns-2 : tie.Need-returns-2
 returns-2 c =
+    let refusal = c .before .before .before .refusal in
     let a = c .before .before .before .before .before .before .before .before .before .before .args in
-    event-refused (a .store .now) (a .events .now) (a .work .now) (a .answers .now) (a .event .now) (a .index) (a .write .now) (sym (c .before .before .before .refusal .ensures) ∙ c .before .before .if1 .left) (c .before .question .result) (c .before .question .ensures) (c .if2 .taken)
+    event-refused (a .store .now) (a .events .now) (a .work .now) (a .answers .now) (a .event .now) (a .index) (a .write .now) (sym (refusal .ensures) ∙ c .before .before .if1 .left) (c .before .question .result) (c .before .question .ensures) (c .if2 .taken)
 
 from-start-requires : tie.Need-from-start-requires
-from-start-requires c κs = let l = lengths-of false 64 8 _ _ _ _ (sym (c .before .before .before .before .before .before .refusal .ensures) ∙ c .before .before .before .before .before .if1 .left) in (l .store, l .work, l .short, l .room)
+from-start-requires c κs =
+    let refusal = c .before .before .before .before .before .before .refusal in
+    let if1 = c .before .before .before .before .before .if1 in
+    let l = lengths-of false 64 8 _ _ _ _ (sym (refusal .ensures) ∙ if1 .left) in
+    (l .store, l .work, l .short, l .room)
 
 table-requires : tie.Need-table-requires
 table-requires c κs = search needs
 
 word-at-requires : tie.Need-word-at-requires
-word-at-requires c κs = let h = question-of false 64 8 _ _ _ _ (sym (c .before .before .before .before .before .before .before .before .before .before .before .before .before .before .before .question .ensures) ∙ c .before .before .before .before .before .before .before .before .before .before .before .before .before .before .if2 .left) .event in (omega arith, omega (arith, h))
+word-at-requires c κs =
+    let question = c .before .before .before .before .before .before .before .before .before .before .before .before .before .before .before .question in
+    let if2 = c .before .before .before .before .before .before .before .before .before .before .before .before .before .before .if2 in
+    let h = question-of false 64 8 _ _ _ _ (sym (question .ensures) ∙ if2 .left) .event in
+    (omega arith, omega (arith, h))
 
 slice-aggregate-page-write : tie.Need-slice-aggregate-page-write
 unfolding records
-slice-aggregate-page-write c = let h : length (c .before .before .before .before .before .before .before .before .before .before .before .before .before .before .from-start .result .writers) ≡ 64 = c .before .before .before .before .before .before .before .before .before .before .before .before .before .before .from-start .ensures .leads .intact .form .writerss in sym h
+slice-aggregate-page-write c =
+    let from-start = c .before .before .before .before .before .before .before .before .before .before .before .before .before .before .from-start in
+    let h : length (from-start .result .writers) ≡ 64 = from-start .ensures .leads .intact .form .writerss in
+    sym h
 
 of-word-requires : tie.Need-of-word-requires
-of-word-requires c κs = c .before .before .before .before .before .before .before .table .ensures
+of-word-requires c κs =
+    let table = c .before .before .before .before .before .before .before .table in
+    table .ensures
 
 page-write-requires : tie.Need-page-write-requires
 unfolding records pageCount
 page-write-requires c κs =
-    let I = c .before .before .before .before .before .before .before .before .before .before .before .before .before .before .before .before .before .before .before .from-start .ensures .leads .intact in
-    (inr refl, (λ e. absurd (true≢false (sym e))), c .before .of-word .ensures .1 .joint, I .form .parents, I .form .depths, I .form .writerss, I .form .works, I .form .stores, question-of false 64 8 _ _ _ _ (sym (c .before .before .before .before .before .before .before .before .before .before .before .before .before .before .before .before .before .before .before .before .before .before .before .before .question .ensures) ∙ c .before .before .before .before .before .before .before .before .before .before .before .before .before .before .before .before .before .before .before .before .before .before .before .if2 .left) .write, parent-named edition2 _ I)
+    let question = c .before .before .before .before .before .before .before .before .before .before .before .before .before .before .before .before .before .before .before .before .before .before .before .before .question in
+    let if2 = c .before .before .before .before .before .before .before .before .before .before .before .before .before .before .before .before .before .before .before .before .before .before .before .if2 in
+    let from-start = c .before .before .before .before .before .before .before .before .before .before .before .before .before .before .before .before .before .before .before .from-start in
+    let I = from-start .ensures .leads .intact in
+    (inr refl, (λ e. absurd (true≢false (sym e))), c .before .of-word .ensures .1 .joint, I .form .parents, I .form .depths, I .form .writerss, I .form .works, I .form .stores, question-of false 64 8 _ _ _ _ (sym (question .ensures) ∙ if2 .left) .write, parent-named edition2 _ I)
 
 same-length : tie.Need-same-length
 same-length c = search needs
@@ -70,12 +87,19 @@ same-length-4 c = search needs
 returns-3 : tie.Need-returns-3
 unfolding records
 returns-3 c =
+    let refusal = c .before .before .before .before .before .before .before .before .before .before .before .before .before .before .before .before .before .before .before .before .before .before .before .before .before .before .before .before .before .refusal in
+    let if1 = c .before .before .before .before .before .before .before .before .before .before .before .before .before .before .before .before .before .before .before .before .before .before .before .before .before .before .before .before .if1 in
+    let question = c .before .before .before .before .before .before .before .before .before .before .before .before .before .before .before .before .before .before .before .before .before .before .before .before .before .before .before .question in
+    let if2 = c .before .before .before .before .before .before .before .before .before .before .before .before .before .before .before .before .before .before .before .before .before .before .before .before .before .before .if2 in
+    let from-start = c .before .before .before .before .before .before .before .before .before .before .before .before .before .before .before .before .before .before .before .before .before .before .from-start in
+    let word-at = c .before .before .before .before .before .before .before .before .before .before .before .word-at in
+    let of-word = c .before .before .before .before .of-word in
     let a = c .before .before .before .before .before .before .before .before .before .before .before .before .before .before .before .before .before .before .before .before .before .before .before .before .before .before .before .before .before .before .before .before .before .before .before .before .args in
-    let fits = sym (c .before .before .before .before .before .before .before .before .before .before .before .before .before .before .before .before .before .before .before .before .before .before .before .before .before .before .before .before .before .refusal .ensures) ∙ c .before .before .before .before .before .before .before .before .before .before .before .before .before .before .before .before .before .before .before .before .before .before .before .before .before .before .before .before .if1 .left in
-    let asked = sym (c .before .before .before .before .before .before .before .before .before .before .before .before .before .before .before .before .before .before .before .before .before .before .before .before .before .before .before .question .ensures) ∙ c .before .before .before .before .before .before .before .before .before .before .before .before .before .before .before .before .before .before .before .before .before .before .before .before .before .before .if2 .left in
-    let E = c .before .before .before .before .before .before .before .before .before .before .before .before .before .before .before .before .before .before .before .before .before .before .from-start .ensures in
+    let fits = sym (refusal .ensures) ∙ if1 .left in
+    let asked = sym (question .ensures) ∙ if2 .left in
+    let E = from-start .ensures in
     list-asked (a .store .now) (a .events .now) (a .work .now) (a .answers .now) (a .event .now) (a .index) (a .write .now) fits asked (E .before) _ _ (E .begun) (E .leads) (E .leads .intact .form .works ∙ sym (lengths-of false 64 8 _ _ _ _ fits .work)) _
-    (ap (decode geometry2) (sym (c .before .before .before .before .before .before .before .before .before .before .before .word-at .ensures ∙ word-is 8 (a .event .now) (question-of false 64 8 _ _ _ _ asked .event))) ∙ c .before .before .before .before .of-word .ensures .0) _ _
+    (ap (decode geometry2) (sym (word-at .ensures ∙ word-is 8 (a .event .now) (question-of false 64 8 _ _ _ _ asked .event))) ∙ of-word .ensures .0) _ _
     (c .before .before .page-write .ensures second (E .line) (E .held) (E .retained) (record { many = layout2 .many; two-phase = refl; torn = refl }) (E .leads .intact))
 
 pub nekahuiro-page-write-edition2-spec : {M : Type 1} → statement M

@@ -32,7 +32,11 @@ returns c =
     signed (run-refused false 64 8 geometry2 (layout2 .many) bytes2 refl (a .store .now) (a .events .now) (a .work .now) (a .answers .now) (c .before .refusal .result) (c .before .refusal .ensures) (c .if1 .taken))
 
 from-start-requires : tie.Need-from-start-requires
-from-start-requires c κs = let l = lengths-of false 64 8 _ _ _ _ (sym (c .before .before .before .before .refusal .ensures) ∙ c .before .before .before .if1 .left) in (l .store, l .work, l .short, l .room)
+from-start-requires c κs =
+    let refusal = c .before .before .before .before .refusal in
+    let if1 = c .before .before .before .if1 in
+    let l = lengths-of false 64 8 _ _ _ _ (sym (refusal .ensures) ∙ if1 .left) in
+    (l .store, l .work, l .short, l .room)
 
 same-length : tie.Need-same-length
 same-length c = search needs
@@ -45,9 +49,12 @@ same-length-3 c = search needs
 
 returns-2 : tie.Need-returns-2
 returns-2 c =
+    let refusal = c .before .before .before .before .before .before .before .before .before .before .before .refusal in
+    let if1 = c .before .before .before .before .before .before .before .before .before .before .if1 in
+    let at-from-start = c .before .before .before .before .before .before .from-start in
     let a = c .before .before .before .before .before .before .before .before .before .before .before .before .before .before .before .before .args in
-    let none = sym (c .before .before .before .before .before .before .before .before .before .before .before .refusal .ensures) ∙ c .before .before .before .before .before .before .before .before .before .before .if1 .left in
-    let E = c .before .before .before .before .before .before .from-start .ensures in
+    let none = sym (refusal .ensures) ∙ if1 .left in
+    let E = at-from-start .ensures in
     let left = from-start edition2 (a .store .now) (a .events .now) (a .answers .now) _ _ _ (E .begun) (E .leads) in
     signed (run-played false 64 8 geometry2 (layout2 .many) bytes2 refl (a .store .now) (a .events .now) (a .work .now) (a .answers .now) _ _ _ none left (search needs))
 

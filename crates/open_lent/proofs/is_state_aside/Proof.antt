@@ -30,8 +30,10 @@ is-state-requires c κs = search needs
 
 returns : tie.Need-returns
 returns c =
-    let e = c .before .before .before .before .before .args .e in
-    subst (λ (s : List ℕ). Decides (c .is-state .result) (Intact edition1 (arraysOf e (replicate workBytes 0) s) × (e .spare ≡ replicate 3 0))) (laid-all false geometry1 16 (layout1 .many) (c .before .before .before .lay .ensures geometry1 layout1))
+    let entry = c .before .before .before .before .before in
+    let lay = c .before .before .before .lay in
+    let e = entry .args .e in
+    subst (λ (s : List ℕ). Decides (c .is-state .result) (Intact edition1 (arraysOf e (replicate workBytes 0) s) × (e .spare ≡ replicate 3 0))) (laid-all false geometry1 16 (layout1 .many) (lay .ensures geometry1 layout1))
     (c .is-state .ensures first (replicate workBytes 0) first-in (length-replicate {A = ℕ} workBytes 0))
 
 pub is-state-aside-spec : {M : Type 1} → statement M

@@ -18,40 +18,60 @@ question-requires c κs = omega arith
 
 returns : tie.Need-returns
 returns c =
-    let a = c .before .before .before .before .before .before .args in
-    question-refused (a .tears) (editionOf 16 (a .joint) (a .tears)) (c .before .before .before .before .before .before .pre .many) (kept (a .e) (a .work .now) (a .store .now)) (a .event .now) (a .write .now) (a .index) (c .before .question .result) (c .before .question .ensures) (c .if1 .taken)
+    let entry = c .before .before .before .before .before .before in
+    let a = entry .args in
+    question-refused (a .tears) (editionOf 16 (a .joint) (a .tears)) (entry .pre .many) (kept (a .e) (a .work .now) (a .store .now)) (a .event .now) (a .write .now) (a .index) (c .before .question .result) (c .before .question .ensures) (c .if1 .taken)
 
 is-state-requires : tie.Need-is-state-requires
-is-state-requires c κs = question-of (c .before .before .before .before .before .before .args .tears) 16 4 _ _ _ _ (sym (c .before .question .ensures) ∙ c .if1 .left) .store
+is-state-requires c κs =
+    let entry = c .before .before .before .before .before .before in
+    question-of (entry .args .tears) 16 4 _ _ _ _ (sym (c .before .question .ensures) ∙ c .if1 .left) .store
 
 returns-2 : tie.Need-returns-2
 returns-2 c =
-    let a = c .before .before .before .before .before .before .before .before .args in
+    let entry = c .before .before .before .before .before .before .before .before in
+    let question = c .before .before .before .question in
+    let a = entry .args in
     let edition = editionOf 16 (a .joint) (a .tears) in
-    let N = c .before .before .before .before .before .before .before .before .pre in
-    let fits = sym (c .before .before .before .question .ensures) ∙ c .before .before .if1 .left in
+    let N = entry .pre in
+    let fits = sym (question .ensures) ∙ c .before .before .if1 .left in
     let l = question-of (a .tears) 16 4 _ _ _ _ fits in
     state-refused (a .tears) edition (N .many) (kept (a .e) (a .work .now) (a .store .now)) (a .event .now) (a .write .now) (a .index) fits _ (c .before .is-state .ensures edition (a .work .now) N (l .work)) (not-true _ (c .if2 .taken))
 
 event-of-requires : tie.Need-event-of-requires
-event-of-requires c κs = question-of (c .before .before .before .before .before .before .before .before .before .before .before .args .tears) 16 4 _ _ _ _ (sym (c .before .before .before .before .before .before .question .ensures) ∙ c .before .before .before .before .before .if1 .left) .event
+event-of-requires c κs =
+    let entry = c .before .before .before .before .before .before .before .before .before .before .before in
+    let question = c .before .before .before .before .before .before .question in
+    let if1 = c .before .before .before .before .before .if1 in
+    question-of (entry .args .tears) 16 4 _ _ _ _ (sym (question .ensures) ∙ if1 .left) .event
 
 slice-aggregate-page-write : tie.Need-slice-aggregate-page-write
 slice-aggregate-page-write c =
-    let a = c .before .before .before .before .before .before .before .before .before .before .before .before .before .before .before .args in
+    let entry = c .before .before .before .before .before .before .before .before .before .before .before .before .before .before .before in
+    let question = c .before .before .before .before .before .before .before .before .before .before .question in
+    let if1 = c .before .before .before .before .before .before .before .before .before .if1 in
+    let is-state = c .before .before .before .before .before .before .before .before .is-state in
+    let if2 = c .before .before .before .before .before .before .before .if2 in
+    let a = entry .args in
     let edition = editionOf 16 (a .joint) (a .tears) in
-    let N = c .before .before .before .before .before .before .before .before .before .before .before .before .before .before .before .pre in
-    let l = question-of (a .tears) 16 4 _ _ _ _ (sym (c .before .before .before .before .before .before .before .before .before .before .question .ensures) ∙ c .before .before .before .before .before .before .before .before .before .if1 .left) in
-    sym (writers-long (a .tears) edition (N .many) _ (c .before .before .before .before .before .before .before .before .is-state .ensures edition (a .work .now) N (l .work) .yes (not-false _ (c .before .before .before .before .before .before .before .if2 .left)) .0))
+    let N = entry .pre in
+    let l = question-of (a .tears) 16 4 _ _ _ _ (sym (question .ensures) ∙ if1 .left) in
+    sym (writers-long (a .tears) edition (N .many) _ (is-state .ensures edition (a .work .now) N (l .work) .yes (not-false _ (if2 .left)) .0))
 
 page-write-requires : tie.Need-page-write-requires
 page-write-requires c κs =
-    let a = c .before .before .before .before .before .before .before .before .before .before .before .before .before .before .before .before .args in
+    let entry = c .before .before .before .before .before .before .before .before .before .before .before .before .before .before .before .before in
+    let question = c .before .before .before .before .before .before .before .before .before .before .before .question in
+    let if1 = c .before .before .before .before .before .before .before .before .before .before .if1 in
+    let is-state = c .before .before .before .before .before .before .before .before .before .is-state in
+    let if2 = c .before .before .before .before .before .before .before .before .if2 in
+    let event-of = c .before .before .before .before .event-of in
+    let a = entry .args in
     let edition = editionOf 16 (a .joint) (a .tears) in
-    let N = c .before .before .before .before .before .before .before .before .before .before .before .before .before .before .before .before .pre in
-    let l = question-of (a .tears) 16 4 _ _ _ _ (sym (c .before .before .before .before .before .before .before .before .before .before .before .question .ensures) ∙ c .before .before .before .before .before .before .before .before .before .before .if1 .left) in
-    let I = c .before .before .before .before .before .before .before .before .before .is-state .ensures edition (a .work .now) N (l .work) .yes (not-false _ (c .before .before .before .before .before .before .before .before .if2 .left)) .0 in
-    let t = c .before .before .before .before .event-of .ensures edition (four-of edition (N .many)) (N .torn) in
+    let N = entry .pre in
+    let l = question-of (a .tears) 16 4 _ _ _ _ (sym (question .ensures) ∙ if1 .left) in
+    let I = is-state .ensures edition (a .work .now) N (l .work) .yes (not-false _ (if2 .left)) .0 in
+    let t = event-of .ensures edition (four-of edition (N .many)) (N .torn) in
     (inl refl, (λ _. refl), (λ k. sym (N .two-phase) ∙ t .1 .joint k), I .form .parents, I .form .depths, writers-long (a .tears) edition (N .many) _ I, l .work, l .store, l .write ∙ sym (write-size (a .tears)), parent-named (formIn (a .tears) (geometryOf edition)) _ I)
 
 same-length : tie.Need-same-length
@@ -59,15 +79,21 @@ same-length c = search needs
 
 returns-3 : tie.Need-returns-3
 returns-3 c =
-    let a = c .before .before .before .before .before .before .before .before .before .before .before .before .before .before .before .before .before .before .before .args in
+    let entry = c .before .before .before .before .before .before .before .before .before .before .before .before .before .before .before .before .before .before .before in
+    let question = c .before .before .before .before .before .before .before .before .before .before .before .before .before .before .question in
+    let if1 = c .before .before .before .before .before .before .before .before .before .before .before .before .before .if1 in
+    let is-state = c .before .before .before .before .before .before .before .before .before .before .before .before .is-state in
+    let if2 = c .before .before .before .before .before .before .before .before .before .before .before .if2 in
+    let event-of = c .before .before .before .before .before .before .before .event-of in
+    let a = entry .args in
     let edition = editionOf 16 (a .joint) (a .tears) in
-    let N = c .before .before .before .before .before .before .before .before .before .before .before .before .before .before .before .before .before .before .before .pre in
-    let fits = sym (c .before .before .before .before .before .before .before .before .before .before .before .before .before .before .question .ensures) ∙ c .before .before .before .before .before .before .before .before .before .before .before .before .before .if1 .left in
+    let N = entry .pre in
+    let fits = sym (question .ensures) ∙ if1 .left in
     let l = question-of (a .tears) 16 4 _ _ _ _ fits in
-    let D = c .before .before .before .before .before .before .before .before .before .before .before .before .is-state .ensures edition (a .work .now) N (l .work) in
-    question-answered (a .tears) edition (N .many) (kept (a .e) (a .work .now) (a .store .now)) (a .event .now) (a .write .now) (a .index) fits _ D (not-false _ (c .before .before .before .before .before .before .before .before .before .before .before .if2 .left)) _
-    (c .before .before .before .before .before .before .before .event-of .ensures edition (four-of edition (N .many)) (N .torn) .0) _ _
-    (c .before .before .page-write .ensures edition (a .e .line) (a .e .held) (a .e .retained) N (D .yes (not-false _ (c .before .before .before .before .before .before .before .before .before .before .before .if2 .left)) .0))
+    let D = is-state .ensures edition (a .work .now) N (l .work) in
+    question-answered (a .tears) edition (N .many) (kept (a .e) (a .work .now) (a .store .now)) (a .event .now) (a .write .now) (a .index) fits _ D (not-false _ (if2 .left)) _
+    (event-of .ensures edition (four-of edition (N .many)) (N .torn) .0) _ _
+    (c .before .before .page-write .ensures edition (a .e .line) (a .e .held) (a .e .retained) N (D .yes (not-false _ (if2 .left)) .0))
 
 pub page-write-of-spec : {M : Type 1} → statement M
 page-write-of-spec =

@@ -21,45 +21,55 @@ put-word-requires c κs = (omega arith, omega arith)
 
 loop-holds : tie.Need-loop-holds Inv-loop μ-loop
 loop-holds c =
-    let start = c .before .before .before .before .before .before .before in
-    (filling-start (start .args .s .now) (start .pre .0) (start .args .list .now) _ (c .before .before .before .event-word .result) (start .pre .1) (c .before .before .put-word .ensures) (c .before .before .before .event-word .ensures), omega arith)
+    let entry = c .before .before .before .before .before .before .before in
+    let event-word = c .before .before .before .event-word in
+    (filling-start (entry .args .s .now) (entry .pre .0) (entry .args .list .now) _ (event-word .result) (entry .pre .1) (c .before .before .put-word .ensures) (event-word .ensures), omega arith)
 
 next-turn-requires : tie.Need-next-turn-requires Inv-loop μ-loop
 next-turn-requires c κs =
-    let start = c .before .before .before .before .before .before .before .before .before in
-    (c .loop-test .taken, c .before .loop .inv .0 .place, start .pre .0)
+    let entry = c .before .before .before .before .before .before .before .before .before in
+    (c .loop-test .taken, c .before .loop .inv .0 .place, entry .pre .0)
 
 put-word-requires-2 : tie.Need-put-word-requires-2 Inv-loop μ-loop
 put-word-requires-2 c κs =
-    let start = c .before .before .before .before .before .before .before .before .before .before .before in
-    filling-room (start .args .s .now) (start .pre .0) (c .before .before .before .loop .inv .0) (c .before .next-turn .ensures)
+    let entry = c .before .before .before .before .before .before .before .before .before .before .before in
+    let loop = c .before .before .before .loop in
+    filling-room (entry .args .s .now) (entry .pre .0) (loop .inv .0) (c .before .next-turn .ensures)
 
 add-k : tie.Need-add-k Inv-loop μ-loop
 add-k c =
-    let start = c .before .before .before .before .before .before .before .before .before .before .before .before .before .before in
-    let r = filling-room (start .args .s .now) (start .pre .0) (c .before .before .before .before .before .before .loop .inv .0) (c .before .before .before .before .next-turn .ensures) in
+    let entry = c .before .before .before .before .before .before .before .before .before .before .before .before .before .before in
+    let loop = c .before .before .before .before .before .before .loop in
+    let next-turn = c .before .before .before .before .next-turn in
+    let r = filling-room (entry .args .s .now) (entry .pre .0) (loop .inv .0) (next-turn .ensures) in
     omega (arith, r .0)
 
 loop-less : tie.Need-loop-less Inv-loop μ-loop
 loop-less c =
-    let n = c .before .before .before .before .next-turn .ensures .further in
-    let m = c .before .before .before .before .next-turn .ensures .within in
+    let next-turn = c .before .before .before .before .next-turn in
+    let n = next-turn .ensures .further in
+    let m = next-turn .ensures .within in
     omega (arith, n, m)
 
 loop-again : tie.Need-loop-again Inv-loop μ-loop
 loop-again c =
-    let start = c .before .before .before .before .before .before .before .before .before .before .before .before .before .before in
-    (filling-more (start .args .s .now) (start .pre .0) (c .before .before .before .before .before .before .loop .inv .0) (c .before .before .before .before .next-turn .ensures) (c .before .before .put-word2 .ensures), omega arith)
+    let entry = c .before .before .before .before .before .before .before .before .before .before .before .before .before .before in
+    let loop = c .before .before .before .before .before .before .loop in
+    let next-turn = c .before .before .before .before .next-turn in
+    (filling-more (entry .args .s .now) (entry .pre .0) (loop .inv .0) (next-turn .ensures) (c .before .before .put-word2 .ensures), omega arith)
 
 same-length : tie.Need-same-length Inv-loop μ-loop
 same-length c =
-    let start = c .before .before .before .before .before .before .before .before .before in
-    filling-length (start .args .s .now) (start .pre .0) (c .before .loop .inv .0) ∙ c .before .before .before .before .put-word .kept .0
+    let entry = c .before .before .before .before .before .before .before .before .before in
+    let put-word = c .before .before .before .before .put-word in
+    filling-length (entry .args .s .now) (entry .pre .0) (c .before .loop .inv .0) ∙ put-word .kept .0
 
 returns : tie.Need-returns Inv-loop μ-loop
 returns c =
-    let start = c .before .before .before .before .before .before .before .before .before in
-    filling-all (start .args .s .now) (start .pre .0) (start .args .list .now) _ _ (c .before .before .before .before .before .event-word .result) (start .pre .1) (c .before .before .before .before .put-word .ensures) (c .before .before .before .before .before .event-word .ensures) (c .before .loop .inv .1) (c .before .loop .inv .0) (omega arith)
+    let entry = c .before .before .before .before .before .before .before .before .before in
+    let event-word = c .before .before .before .before .before .event-word in
+    let put-word = c .before .before .before .before .put-word in
+    filling-all (entry .args .s .now) (entry .pre .0) (entry .args .list .now) _ _ (event-word .result) (entry .pre .1) (put-word .ensures) (event-word .ensures) (c .before .loop .inv .1) (c .before .loop .inv .0) (omega arith)
 
 pub fill-spec : {M : Type 1} → statement M
 fill-spec =

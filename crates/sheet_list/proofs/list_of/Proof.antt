@@ -18,14 +18,17 @@ enum-known-n c = search needs
 
 fill-requires : tie.Need-fill-requires
 fill-requires c κs =
-    let start = c .before .before .before .before .before .before .before .before in
-    let w = checked-good (start .args .sheet .now) (c .before .before .before .before .check .result) (c .before .before .n .given .0 .0) (c .before .before .n .given .1) (c .before .before .before .before .check .ensures) in
+    let entry = c .before .before .before .before .before .before .before .before in
+    let check = c .before .before .before .before .check in
+    let w = checked-good (entry .args .sheet .now) (check .result) (c .before .before .n .given .0 .0) (c .before .before .n .given .1) (check .ensures) in
     (whole-ends _ _ w, omega arith)
 
 mul-told : tie.Need-mul-told
 mul-told c =
-    let start = c .before .before .before .before .before .before .before .before .before .before .before in
-    let w = checked-good (start .args .sheet .now) (c .before .before .before .before .before .before .before .check .result) (c .before .before .before .before .before .n .given .0 .0) (c .before .before .before .before .before .n .given .1) (c .before .before .before .before .before .before .before .check .ensures) in
+    let entry = c .before .before .before .before .before .before .before .before .before .before .before in
+    let check = c .before .before .before .before .before .before .before .check in
+    let n = c .before .before .before .before .before .n in
+    let w = checked-good (entry .args .sheet .now) (check .result) (n .given .0 .0) (n .given .1) (check .ensures) in
     record { fits = omega (arith, whole-most _ _ w) }
 
 enum-known-p : tie.Need-enum-known-p
@@ -36,14 +39,17 @@ same-length c = search needs
 
 returns-2 : tie.Need-returns-2
 returns-2 c =
-    let start = c .before .before .before .before .before .before .before .before .before .before .before in
-    let w = checked-good (start .args .sheet .now) (c .before .before .before .before .before .before .before .check .result) (c .before .before .before .before .before .n .given .0 .0) (c .before .before .before .before .before .n .given .1) (c .before .before .before .before .before .before .before .check .ensures) in
-    made-list (start .args .sheet .now) (start .args .list .now) (c .before .before .fill .last .1 .0) (start .args .told .now) (c .before .before .before .before .before .n .given .0 .0) (omega arith) w (c .before .before .fill .ensures)
+    let entry = c .before .before .before .before .before .before .before .before .before .before .before in
+    let check = c .before .before .before .before .before .before .before .check in
+    let n = c .before .before .before .before .before .n in
+    let w = checked-good (entry .args .sheet .now) (check .result) (n .given .0 .0) (n .given .1) (check .ensures) in
+    made-list (entry .args .sheet .now) (entry .args .list .now) (c .before .before .fill .last .1 .0) (entry .args .told .now) (n .given .0 .0) (omega arith) w (c .before .before .fill .ensures)
 
 returns-3 : tie.Need-returns-3
 returns-3 c =
-    let start = c .before .before .before .before .before .before .before in
-    wrong (omega arith) (checked-fails (start .args .sheet .now) (c .before .before .before .check .result) (c .before .p .given .0 .0) (c .before .p .given .1) (c .before .before .before .check .ensures)) refl refl
+    let entry = c .before .before .before .before .before .before .before in
+    let check = c .before .before .before .check in
+    wrong (omega arith) (checked-fails (entry .args .sheet .now) (check .result) (c .before .p .given .0 .0) (c .before .p .given .1) (check .ensures)) refl refl
 
 pub list-of-spec : {M : Type 1} → statement M
 list-of-spec =

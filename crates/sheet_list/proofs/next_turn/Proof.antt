@@ -10,8 +10,8 @@ shared-slice-read-b c = search needs
 
 sub-t : tie.Need-sub-t
 sub-t c =
-    let start = c .before .before in
-    let low = inside-low (start .args .s .now) (start .pre .2) (start .args .at) (start .args .levels) (start .pre .0) (start .pre .1) in
+    let entry = c .before .before in
+    let low = inside-low (entry .args .s .now) (entry .pre .2) (entry .args .at) (entry .args .levels) (entry .pre .0) (entry .pre .1) in
     omega arith
 
 event-word-requires : tie.Need-event-word-requires
@@ -22,14 +22,14 @@ add-t10 c = search needs
 
 sub-t11 : tie.Need-sub-t11
 sub-t11 c =
-    let start = c .before .before .before .before in
-    let t = open-turns (start .args .s .now) (start .pre .2) (start .args .at) (start .args .levels) (c .event-word .result) (start .pre .0) (start .pre .1) (c .before .if1 .taken) (c .event-word .ensures) in
+    let entry = c .before .before .before .before in
+    let t = open-turns (entry .args .s .now) (entry .pre .2) (entry .args .at) (entry .args .levels) (c .event-word .result) (entry .pre .0) (entry .pre .1) (c .before .if1 .taken) (c .event-word .ensures) in
     omega (arith, t .0)
 
 returns : tie.Need-returns
 returns c =
-    let start = c .before .before .before .before in
-    open-turns (start .args .s .now) (start .pre .2) (start .args .at) (start .args .levels) (c .event-word .result) (start .pre .0) (start .pre .1) (c .before .if1 .taken) (c .event-word .ensures) .1
+    let entry = c .before .before .before .before in
+    open-turns (entry .args .s .now) (entry .pre .2) (entry .args .at) (entry .args .levels) (c .event-word .result) (entry .pre .0) (entry .pre .1) (c .before .if1 .taken) (c .event-word .ensures) .1
 
 event-word-requires-2 : tie.Need-event-word-requires-2
 event-word-requires-2 c κs = search needs
@@ -42,8 +42,8 @@ add-t14 c = search needs
 
 returns-2 : tie.Need-returns-2
 returns-2 c =
-    let start = c .before .before .before .before .before in
-    commit-turns (start .args .s .now) (start .pre .2) (start .args .at) (start .args .levels) (c .event-word2 .result) (start .pre .0) (start .pre .1) (c .before .if2 .taken) (c .event-word2 .ensures)
+    let entry = c .before .before .before .before .before in
+    commit-turns (entry .args .s .now) (entry .pre .2) (entry .args .at) (entry .args .levels) (c .event-word2 .result) (entry .pre .0) (entry .pre .1) (c .before .if2 .taken) (c .event-word2 .ensures)
 
 event-word-requires-3 : tie.Need-event-word-requires-3
 event-word-requires-3 c κs = search needs
@@ -56,8 +56,8 @@ add-t17 c = search needs
 
 returns-3 : tie.Need-returns-3
 returns-3 c =
-    let start = c .before .before .before .before .before .before in
-    abort-turns (start .args .s .now) (start .pre .2) (start .args .at) (start .args .levels) (c .event-word3 .result) (start .pre .0) (start .pre .1) (c .before .if3 .taken) (c .event-word3 .ensures)
+    let entry = c .before .before .before .before .before .before in
+    abort-turns (entry .args .s .now) (entry .pre .2) (entry .args .at) (entry .args .levels) (c .event-word3 .result) (entry .pre .0) (entry .pre .1) (c .before .if3 .taken) (c .event-word3 .ensures)
 
 plain-turn-requires : tie.Need-plain-turn-requires
 plain-turn-requires c κs = search needs

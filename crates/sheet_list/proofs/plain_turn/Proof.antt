@@ -10,8 +10,8 @@ shared-slice-read-b c = search needs
 
 sub-t : tie.Need-sub-t
 sub-t c =
-    let start = c .before .before in
-    let low = inside-low (start .args .s .now) (start .pre .2) (start .args .at) (start .args .levels) (start .pre .0) (start .pre .1) in
+    let entry = c .before .before in
+    let low = inside-low (entry .args .s .now) (entry .pre .2) (entry .args .at) (entry .args .levels) (entry .pre .0) (entry .pre .1) in
     omega arith
 
 add-digit-value : tie.Need-add-digit-value
@@ -19,8 +19,8 @@ add-digit-value c = search needs
 
 shared-slice-read-digit-value : tie.Need-shared-slice-read-digit-value
 shared-slice-read-digit-value c =
-    let start = c .before .before .before .before in
-    omega (arith, lock-long (start .args .s .now) (start .pre .2) (start .args .at) (start .args .levels) (start .pre .0) (start .pre .1) (c .before .if1 .taken))
+    let entry = c .before .before .before .before in
+    omega (arith, lock-long (entry .args .s .now) (entry .pre .2) (entry .args .at) (entry .args .levels) (entry .pre .0) (entry .pre .1) (c .before .if1 .taken))
 
 digit-value-requires : tie.Need-digit-value-requires
 digit-value-requires c κs = search needs
@@ -33,16 +33,17 @@ add-t14 c = search needs
 
 returns : tie.Need-returns
 returns c =
-    let start = c .before .before .before .before .before .before in
-    lock-turns (start .args .s .now) (start .pre .2) (start .args .at) (start .args .levels) (c .event-word .result) (c .before .digit-value .result) (start .pre .0) (start .pre .1) (c .before .before .before .if1 .taken) (c .before .digit-value .ensures .0) (c .event-word .ensures)
+    let entry = c .before .before .before .before .before .before in
+    let if1 = c .before .before .before .if1 in
+    lock-turns (entry .args .s .now) (entry .pre .2) (entry .args .at) (entry .args .levels) (c .event-word .result) (c .before .digit-value .result) (entry .pre .0) (entry .pre .1) (if1 .taken) (c .before .digit-value .ensures .0) (c .event-word .ensures)
 
 add-digit-value-2 : tie.Need-add-digit-value-2
 add-digit-value-2 c = search needs
 
 shared-slice-read-digit-value-2 : tie.Need-shared-slice-read-digit-value-2
 shared-slice-read-digit-value-2 c =
-    let start = c .before .before .before .before .before in
-    omega (arith, read-long (start .args .s .now) (start .pre .2) (start .args .at) (start .args .levels) (start .pre .0) (start .pre .1) (c .before .if2 .taken))
+    let entry = c .before .before .before .before .before in
+    omega (arith, read-long (entry .args .s .now) (entry .pre .2) (entry .args .at) (entry .args .levels) (entry .pre .0) (entry .pre .1) (c .before .if2 .taken))
 
 digit-value-requires-2 : tie.Need-digit-value-requires-2
 digit-value-requires-2 c κs = search needs
@@ -52,8 +53,8 @@ add-offset-at c = search needs
 
 offset-at-requires : tie.Need-offset-at-requires
 offset-at-requires c κs =
-    let start = c .before .before .before .before .before .before in
-    omega (arith, read-long (start .args .s .now) (start .pre .2) (start .args .at) (start .args .levels) (start .pre .0) (start .pre .1) (c .before .before .if2 .taken))
+    let entry = c .before .before .before .before .before .before in
+    omega (arith, read-long (entry .args .s .now) (entry .pre .2) (entry .args .at) (entry .args .levels) (entry .pre .0) (entry .pre .1) (c .before .before .if2 .taken))
 
 event-word-requires-2 : tie.Need-event-word-requires-2
 event-word-requires-2 c κs = search needs
@@ -63,17 +64,18 @@ add-t22 c = search needs
 
 returns-2 : tie.Need-returns-2
 returns-2 c =
-    let start = c .before .before .before .before .before .before .before .before in
-    read-turns (start .args .s .now) (start .pre .2) (start .args .at) (start .args .levels) (c .event-word2 .result) (c .before .before .digit-value2 .result) (c .before .offset-at .result) (start .pre .0) (start .pre .1) (c .before .before .before .before .if2 .taken) (c .before .before .digit-value2 .ensures .0) (c .before .offset-at .ensures .0) (c .event-word2 .ensures)
+    let entry = c .before .before .before .before .before .before .before .before in
+    let if2 = c .before .before .before .before .if2 in
+    read-turns (entry .args .s .now) (entry .pre .2) (entry .args .at) (entry .args .levels) (c .event-word2 .result) (c .before .before .digit-value2 .result) (c .before .offset-at .result) (entry .pre .0) (entry .pre .1) (if2 .taken) (c .before .before .digit-value2 .ensures .0) (c .before .offset-at .ensures .0) (c .event-word2 .ensures)
 
 add-digit-value-3 : tie.Need-add-digit-value-3
 add-digit-value-3 c = search needs
 
 shared-slice-read-digit-value-3 : tie.Need-shared-slice-read-digit-value-3
 shared-slice-read-digit-value-3 c =
-    let start = c .before .before .before .before .before in
-    let writes = must-write (start .args .s .now) (start .pre .2) (start .args .at) (start .args .levels) (start .pre .0) (start .pre .1) (start .pre .3) (start .pre .4) (start .pre .5) (c .before .before .if1 .left) (c .before .if2 .left) in
-    omega (arith, write-long (start .args .s .now) (start .pre .2) (start .args .at) (start .args .levels) (start .pre .0) (start .pre .1) writes)
+    let entry = c .before .before .before .before .before in
+    let writes = must-write (entry .args .s .now) (entry .pre .2) (entry .args .at) (entry .args .levels) (entry .pre .0) (entry .pre .1) (entry .pre .3) (entry .pre .4) (entry .pre .5) (c .before .before .if1 .left) (c .before .if2 .left) in
+    omega (arith, write-long (entry .args .s .now) (entry .pre .2) (entry .args .at) (entry .args .levels) (entry .pre .0) (entry .pre .1) writes)
 
 digit-value-requires-3 : tie.Need-digit-value-requires-3
 digit-value-requires-3 c κs = search needs
@@ -83,18 +85,21 @@ add-offset-at-2 c = search needs
 
 offset-at-requires-2 : tie.Need-offset-at-requires-2
 offset-at-requires-2 c κs =
-    let start = c .before .before .before .before .before .before in
-    let writes = must-write (start .args .s .now) (start .pre .2) (start .args .at) (start .args .levels) (start .pre .0) (start .pre .1) (start .pre .3) (start .pre .4) (start .pre .5) (c .before .before .before .if1 .left) (c .before .before .if2 .left) in
-    omega (arith, write-long (start .args .s .now) (start .pre .2) (start .args .at) (start .args .levels) (start .pre .0) (start .pre .1) writes)
+    let entry = c .before .before .before .before .before .before in
+    let if1 = c .before .before .before .if1 in
+    let writes = must-write (entry .args .s .now) (entry .pre .2) (entry .args .at) (entry .args .levels) (entry .pre .0) (entry .pre .1) (entry .pre .3) (entry .pre .4) (entry .pre .5) (if1 .left) (c .before .before .if2 .left) in
+    omega (arith, write-long (entry .args .s .now) (entry .pre .2) (entry .args .at) (entry .args .levels) (entry .pre .0) (entry .pre .1) writes)
 
 add-two-digits : tie.Need-add-two-digits
 add-two-digits c = search needs
 
 two-digits-requires : tie.Need-two-digits-requires
 two-digits-requires c κs =
-    let start = c .before .before .before .before .before .before .before in
-    let writes = must-write (start .args .s .now) (start .pre .2) (start .args .at) (start .args .levels) (start .pre .0) (start .pre .1) (start .pre .3) (start .pre .4) (start .pre .5) (c .before .before .before .before .if1 .left) (c .before .before .before .if2 .left) in
-    omega (arith, write-long (start .args .s .now) (start .pre .2) (start .args .at) (start .args .levels) (start .pre .0) (start .pre .1) writes)
+    let entry = c .before .before .before .before .before .before .before in
+    let if1 = c .before .before .before .before .if1 in
+    let if2 = c .before .before .before .if2 in
+    let writes = must-write (entry .args .s .now) (entry .pre .2) (entry .args .at) (entry .args .levels) (entry .pre .0) (entry .pre .1) (entry .pre .3) (entry .pre .4) (entry .pre .5) (if1 .left) (if2 .left) in
+    omega (arith, write-long (entry .args .s .now) (entry .pre .2) (entry .args .at) (entry .args .levels) (entry .pre .0) (entry .pre .1) writes)
 
 event-word-requires-3 : tie.Need-event-word-requires-3
 event-word-requires-3 c κs = search needs
@@ -104,9 +109,12 @@ add-t31 c = search needs
 
 returns-3 : tie.Need-returns-3
 returns-3 c =
-    let start = c .before .before .before .before .before .before .before .before .before in
-    let writes = must-write (start .args .s .now) (start .pre .2) (start .args .at) (start .args .levels) (start .pre .0) (start .pre .1) (start .pre .3) (start .pre .4) (start .pre .5) (c .before .before .before .before .before .before .if1 .left) (c .before .before .before .before .before .if2 .left) in
-    write-turns (start .args .s .now) (start .pre .2) (start .args .at) (start .args .levels) (c .event-word3 .result) (c .before .before .before .digit-value3 .result) (c .before .before .offset-at2 .result) (c .before .two-digits .result) (start .pre .0) (start .pre .1) writes (c .before .before .before .digit-value3 .ensures .0) (c .before .before .offset-at2 .ensures .0) (c .before .two-digits .ensures .0) (c .event-word3 .ensures)
+    let entry = c .before .before .before .before .before .before .before .before .before in
+    let if1 = c .before .before .before .before .before .before .if1 in
+    let if2 = c .before .before .before .before .before .if2 in
+    let digit-value3 = c .before .before .before .digit-value3 in
+    let writes = must-write (entry .args .s .now) (entry .pre .2) (entry .args .at) (entry .args .levels) (entry .pre .0) (entry .pre .1) (entry .pre .3) (entry .pre .4) (entry .pre .5) (if1 .left) (if2 .left) in
+    write-turns (entry .args .s .now) (entry .pre .2) (entry .args .at) (entry .args .levels) (c .event-word3 .result) (digit-value3 .result) (c .before .before .offset-at2 .result) (c .before .two-digits .result) (entry .pre .0) (entry .pre .1) writes (digit-value3 .ensures .0) (c .before .before .offset-at2 .ensures .0) (c .before .two-digits .ensures .0) (c .event-word3 .ensures)
 
 pub plain-turn-spec : {M : Type 1} → statement M
 plain-turn-spec =

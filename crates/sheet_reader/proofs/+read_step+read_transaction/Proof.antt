@@ -91,9 +91,10 @@ read-transaction-read-step-requires :
     read-transaction-Inv-loop
     read-transaction-μ-loop
 read-transaction-read-step-requires t c κs =
+    let loop-test = c .before .before .before .loop-test in
     let l = c .before .before .before .before .loop in
     let p = c .before .before .before .before .before .before .pre in
-    (omega arith, (c .before .before .before .loop-test .taken, l .inv .2, p .1 .2, c .before .if1 .left, c .if2 .left))
+    (omega arith, (loop-test .taken, l .inv .2, p .1 .2, c .before .if1 .left, c .if2 .left))
 
 read-transaction-enum-known-c :
     (t : ℕ) →
@@ -165,7 +166,9 @@ read-step-returns : (t : ℕ) → read-step-lts.Need-returns (
   read-plain-reads.Learnt,
 ) (read-step-at t) read-step.Post
 read-step-returns t c =
-    let h = c .before .before .before .before .pre .1 in no-level-on (h .0) (h .1) (c .before .if1 .taken) (c .if2 .taken)
+    let entry = c .before .before .before .before in
+    let h = entry .pre .1 in
+    no-level-on (h .0) (h .1) (c .before .if1 .taken) (c .if2 .taken)
 
 read-step-returns-2 : (t : ℕ) → read-step-lts.Need-returns-2 (
   read-transaction-below t,
@@ -174,7 +177,9 @@ read-step-returns-2 : (t : ℕ) → read-step-lts.Need-returns-2 (
   read-plain-reads.Learnt,
 ) (read-step-at t) read-step.Post
 read-step-returns-2 t c =
-    let h = c .before .before .before .before .before .pre .1 in too-few-on (h .0) (h .1) (c .before .before .if1 .taken) (c .if3 .taken)
+    let entry = c .before .before .before .before .before in
+    let h = entry .pre .1 in
+    too-few-on (h .0) (h .1) (c .before .before .if1 .taken) (c .if3 .taken)
 
 read-step-add-read-transaction : (t : ℕ) → read-step-lts.Need-add-read-transaction (
   read-transaction-below t,
@@ -199,8 +204,9 @@ read-step-read-transaction-requires : (t : ℕ) → read-step-lts.Need-read-tran
   read-plain-reads.Learnt,
 ) (read-step-at t) read-step.Post
 read-step-read-transaction-requires t c κs =
-    let a = c .before .before .before .before .before .args in
-    let h = c .before .before .before .before .before .pre in
+    let entry = c .before .before .before .before .before in
+    let a = entry .args in
+    let h = entry .pre in
     (omega arith, (omega arith, opened-on (a .levels) (a .room) (h .1 .1) (c .before .before .if1 .taken) (omega arith) (omega arith), omega arith))
 
 read-step-returns-3 : (t : ℕ) → read-step-lts.Need-returns-3 (
@@ -210,8 +216,9 @@ read-step-returns-3 : (t : ℕ) → read-step-lts.Need-returns-3 (
   read-plain-reads.Learnt,
 ) (read-step-at t) read-step.Post
 read-step-returns-3 t c =
-    let a = c .before .before .before .before .before .before .args in
-    let h = c .before .before .before .before .before .before .pre .1 in
+    let entry = c .before .before .before .before .before .before in
+    let a = entry .args in
+    let h = entry .pre .1 in
     from-before (a .s .now) (a .at) (a .at + 1) (between (a .levels)) (c .read-transaction .result) (omega arith) (inner-left (a .s .now) (a .at + 1) (a .levels) (c .read-transaction .result) (omega arith) (h .2) (c .read-transaction .ensures))
 
 read-step-read-plain-requires : (t : ℕ) → read-step-lts.Need-read-plain-requires (
@@ -221,7 +228,9 @@ read-step-read-plain-requires : (t : ℕ) → read-step-lts.Need-read-plain-requ
   read-plain-reads.Learnt,
 ) (read-step-at t) read-step.Post
 read-step-read-plain-requires t c κs =
-    let h = c .before .before .before .pre .1 in (h .0, h .1, c .if1 .left, h .3, h .4)
+    let entry = c .before .before .before in
+    let h = entry .pre .1 in
+    (h .0, h .1, c .if1 .left, h .3, h .4)
 
 read-step-returns-4 : (t : ℕ) → read-step-lts.Need-returns-4 (
   read-transaction-below t,

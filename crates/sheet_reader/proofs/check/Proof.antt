@@ -16,7 +16,9 @@ shared-slice-read-if2 : tie.Need-shared-slice-read-if2
 shared-slice-read-if2 c = search needs
 
 returns-2 : tie.Need-returns-2
-returns-2 c = stuck-fault (c .before .before .before .before .args .s .now) 0 (unopened-text (c .if2 .taken))
+returns-2 c =
+    let entry = c .before .before .before .before in
+    stuck-fault (entry .args .s .now) 0 (unopened-text (c .if2 .taken))
 
 read-transaction-requires : tie.Need-read-transaction-requires
 read-transaction-requires c κs = (omega arith, opened-text (omega arith), omega arith)
@@ -26,14 +28,16 @@ enum-known-c c = search needs
 
 returns-3 : tie.Need-returns-3
 returns-3 c =
-    let s = c .before .before .before .before .before .before .before .before .before .args .s .now in
+    let entry = c .before .before .before .before .before .before .before .before .before in
+    let s = entry .args .s .now in
     let f = c .before .before .before .before .read-transaction in
     let h = found-next s 1 (levelClosed 15) (f .result) (c .before .before .c .given .0 .0) (c .before .before .c .given .1) (f .ensures) in
     stuck-fault s _ (trailing (c .if3 .taken) (top-left (h .stands)))
 
 sub-t12 : tie.Need-sub-t12
 sub-t12 c =
-    let s = c .before .before .before .before .before .before .before .before .before .args .s .now in
+    let entry = c .before .before .before .before .before .before .before .before .before in
+    let s = entry .args .s .now in
     let f = c .before .before .before .before .read-transaction in
     let h = found-next s 1 (levelClosed 15) (f .result) (c .before .before .c .given .0 .0) (c .before .before .c .given .1) (f .ensures) in
     omega (arith, room-most s _ _ (h .within) (top-left (h .stands) .is))
@@ -43,7 +47,8 @@ enum-known-p c = search needs
 
 returns-4 : tie.Need-returns-4
 returns-4 c =
-    let s = c .before .before .before .before .before .before .before .before .before .args .s .now in
+    let entry = c .before .before .before .before .before .before .before .before .before in
+    let s = entry .args .s .now in
     let f = c .before .before .before .before .read-transaction in
     let h = found-next s 1 (levelClosed 15) (f .result) (c .before .before .c .given .0 .0) (c .before .before .c .given .1) (f .ensures) in
     let e : c .before .before .c .given .0 .0 .at ≡ length s = omega (arith, h .within) in
@@ -52,7 +57,8 @@ returns-4 c =
 
 returns-5 : tie.Need-returns-5
 returns-5 c =
-    let s = c .before .before .before .before .before .before .before .before .args .s .now in
+    let entry = c .before .before .before .before .before .before .before .before in
+    let s = entry .args .s .now in
     let f = c .before .before .before .read-transaction in
     stuck-fault s (c .before .p .given .0 .0) (found-bad s 1 (levelClosed 15) (f .result) (c .before .p .given .0 .0) (c .before .p .given .1) (f .ensures))
 

@@ -41,9 +41,10 @@ is-digit-requires c κs = search needs
 returns-2 : tie.Need-returns-2 Inv-loop μ-loop
 unfolding same
 returns-2 c =
+    let loop-test = c .before .before .before .before .loop-test in
     let l = c .before .before .before .before .before .loop in
     let a = c .before .before .before .before .before .before .before .args in
-    digit-bad (omega arith) (to-come (a .s .now) (l .i) (l .k) (a .low) (a .levels) (a .room) (c .before .before .before .before .loop-test .taken) (l .inv .2)) (sym (c .before .is-digit .ensures) ∙ not-true _ (c .if2 .taken))
+    digit-bad (omega arith) (to-come (a .s .now) (l .i) (l .k) (a .low) (a .levels) (a .room) (loop-test .taken) (l .inv .2)) (sym (c .before .is-digit .ensures) ∙ not-true _ (c .if2 .taken))
 
 add-i : tie.Need-add-i Inv-loop μ-loop
 add-i c = search needs
@@ -54,9 +55,10 @@ loop-less c = search needs
 loop-again : tie.Need-loop-again Inv-loop μ-loop
 unfolding same
 loop-again c =
+    let loop-test = c .before .before .before .before .loop-test in
     let l = c .before .before .before .before .before .loop in
     let a = c .before .before .before .before .before .before .before .args in
-    (omega arith, omega arith, digit-on (to-come (a .s .now) (l .i) (l .k) (a .low) (a .levels) (a .room) (c .before .before .before .before .loop-test .taken) (l .inv .2)) (sym (c .before .is-digit .ensures) ∙ not-false _ (c .if2 .left)))
+    (omega arith, omega arith, digit-on (to-come (a .s .now) (l .i) (l .k) (a .low) (a .levels) (a .room) (loop-test .taken) (l .inv .2)) (sym (c .before .is-digit .ensures) ∙ not-false _ (c .if2 .left)))
 
 returns-3 : tie.Need-returns-3 Inv-loop μ-loop
 returns-3 c =

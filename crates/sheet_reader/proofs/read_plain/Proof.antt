@@ -12,8 +12,9 @@ use Rattle.sheet_reader.proofs.read_plain.Tie as tie
 
 returns : tie.Need-returns
 returns c =
-    let a = c .before .before .args in
-    let h = c .before .before .pre in
+    let entry = c .before .before in
+    let a = entry .args in
+    let h = entry .pre in
     letter-bad (h .0) (h .1) refl (ap (λ (r : ℕ). stepped (letterOf (getD (a .s .now) (a .at) 0)) (a .levels) r) (c .if1 .taken) ∙ no-step (getD (a .s .now) (a .at) 0) (a .levels) (h .2) (h .3) (h .4))
 
 shared-slice-read-b : tie.Need-shared-slice-read-b
@@ -27,8 +28,9 @@ sub-read-digits c = search needs
 
 read-digits-requires : tie.Need-read-digits-requires
 read-digits-requires c κs =
-    let a = c .before .before .before .before .args in
-    let h = c .before .before .before .before .pre in
+    let entry = c .before .before .before .before in
+    let a = entry .args in
+    let h = entry .pre in
     (omega arith, omega arith, plain-on (a .room) 0 9 (h .1) (is-lock (c .if2 .taken)) (omega arith))
 
 returns-2 : tie.Need-returns-2
@@ -44,8 +46,9 @@ sub-read-digits-2 c = search needs
 
 read-digits-requires-2 : tie.Need-read-digits-requires-2
 read-digits-requires-2 c κs =
-    let a = c .before .before .before .before .before .args in
-    let h = c .before .before .before .before .before .pre in
+    let entry = c .before .before .before .before .before in
+    let a = entry .args in
+    let h = entry .pre in
     (omega arith, omega arith, plain-on (a .room) 4 3 (h .1) (is-write (c .if3 .taken)) (omega arith))
 
 returns-3 : tie.Need-returns-3
@@ -61,8 +64,9 @@ sub-read-digits-3 c = search needs
 
 read-digits-requires-3 : tie.Need-read-digits-requires-3
 read-digits-requires-3 c κs =
-    let a = c .before .before .before .before .before .before .args in
-    let h = c .before .before .before .before .before .before .pre in
+    let entry = c .before .before .before .before .before .before in
+    let a = entry .args in
+    let h = entry .pre in
     (omega arith, omega arith, plain-on (a .room) 2 1 (h .1) (is-read (c .if4 .taken)) (omega arith))
 
 returns-4 : tie.Need-returns-4
@@ -72,8 +76,9 @@ returns-4 c =
 
 returns-5 : tie.Need-returns-5
 returns-5 c =
-    let a = c .before .before .before .before .before .before .args in
-    let h = c .before .before .before .before .before .before .pre in
+    let entry = c .before .before .before .before .before .before in
+    let a = entry .args in
+    let h = entry .pre in
     letter-bad (h .0) (h .1) (is-unknown (getD (a .s .now) (a .at) 0) (h .2) (h .3) (h .4) (c .before .before .if2 .left) (c .before .if3 .left) (c .if4 .left)) (no-letter (a .levels) (a .room))
 
 pub read-plain-spec : {M : Type 1} → statement M

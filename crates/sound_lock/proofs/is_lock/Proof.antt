@@ -23,9 +23,13 @@ within-requires-5 : tie.Need-within-requires-5
 within-requires-5 c κs = search needs
 
 returns : tie.Need-returns
-returns c = let a = c .before .before .before .before .before .before .args in
-    lock-decided (a .live) (a .held) (a .held-writing) (a .retained) (a .retained-writing) (a .writers) (c .before .before .before .before .before .is-set .ensures)
-    (c .before .before .before .before .within .ensures) (c .before .before .before .within2 .ensures) (c .before .before .within3 .ensures) (c .before .within4 .ensures)
+returns c =
+    let is-set = c .before .before .before .before .before .is-set in
+    let within = c .before .before .before .before .within in
+    let within2 = c .before .before .before .within2 in
+    let a = c .before .before .before .before .before .before .args in
+    lock-decided (a .live) (a .held) (a .held-writing) (a .retained) (a .retained-writing) (a .writers) (is-set .ensures)
+    (within .ensures) (within2 .ensures) (c .before .before .within3 .ensures) (c .before .within4 .ensures)
     (c .within5 .ensures)
 
 pub is-lock-spec : {M : Type 1} → statement M

@@ -29,10 +29,16 @@ within-requires-4 : tie.Need-within-requires-4
 within-requires-4 c κs = search needs
 
 returns : tie.Need-returns
-returns c = let a = c .before .before .before .before .before .before .before .before .args in
+returns c =
+    let contains = c .before .before .before .before .before .before .before .contains in
+    let contains2 = c .before .before .before .before .before .before .contains2 in
+    let contains3 = c .before .before .before .before .before .contains3 in
+    let within = c .before .before .before .before .within in
+    let single = c .before .before .before .single in
+    let a = c .before .before .before .before .before .before .before .before .args in
     share-decided (a .above) (a .beneath) (a .held) (a .held-writing) (a .retained) (a .retained-writing) (a .t) _
-    (c .before .before .before .before .before .before .before .contains .ensures) (c .before .before .before .before .before .before .contains2 .ensures) (c .before .before .before .before .before .contains3 .ensures)
-    (c .before .before .before .single .ensures) (c .before .before .before .before .within .ensures) (c .before .before .within2 .ensures) (c .before .within3 .ensures) (c .within4 .ensures)
+    (contains .ensures) (contains2 .ensures) (contains3 .ensures)
+    (single .ensures) (within .ensures) (c .before .before .within2 .ensures) (c .before .within3 .ensures) (c .within4 .ensures)
 
 pub is-share-spec : {M : Type 1} → statement M
 is-share-spec =

@@ -68,7 +68,9 @@ loop-less c = search needs
 
 loop-again : tie.Need-loop-again Inv-loop μ-loop
 unfolding sets anyMode writeMode
-loop-again c = let a = c .before .before .before .before .before .before .before .before .args in let l = c .before .before .before .before .before .before .before .loop in
+loop-again c =
+    let a = c .before .before .before .before .before .before .before .before .args in
+    let l = c .before .before .before .before .before .before .before .loop in
     (search needs, decides-more (LockOf (bits (a .live)) (a .held .now) (a .retained .now) (a .writers .now)) (l .r) (l .inv .1) (c .is-lock .ensures))
 
 returns : tie.Need-returns Inv-loop μ-loop

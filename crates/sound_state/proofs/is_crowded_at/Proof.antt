@@ -56,7 +56,8 @@ joined held retained r t =
     ∙ ap (λ (b : Bool). b || bits (getD retained (2 * r) 0) t) (bits-or (getD held (2 * r) 0) (getD held (2 * r + 1) 0) t))
 
 returns : tie.Need-returns
-returns c = let a = c .before .before .before .before .before .args in
+returns c =
+    let a = c .before .before .before .before .before .args in
     λ e t u f g. c .is-crowded .ensures e t u (joined (a .held .now) (a .retained .now) (a .r) t ∙ f) (joined (a .held .now) (a .retained .now) (a .r) u ∙ g)
 
 pub is-crowded-at-spec : {M : Type 1} → statement M

@@ -27,12 +27,16 @@ is-status-sound-requires : tie.Need-is-status-sound-requires
 is-status-sound-requires c κs = search needs
 
 returns : tie.Need-returns
-returns c = λ edition work N long. let a = c .before .before .before .before .before .before .args in
+returns c =
+    let entry = c .before .before .before .before .before .before in
+    let is-tree = c .before .before .before .before .is-tree in
+    let live-set = c .before .before .before .live-set in
+    λ edition work N long. let a = entry .args in
     let S = served-of edition in
-    whole-decided (a .tears) (geometryOf edition) (N .many) (record { few = S .few; deep = S .deep }) (a .up) (a .parent .now) (a .depth .now) (a .line .now) (a .held .now) (a .retained .now) (a .writers .now) work (a .store .now) (c .before .before .before .before .before .before .pre) long
-    (c .before .before .before .before .is-tree .ensures)
-    (subst (λ (f : ℕ → Bool). Decides (c .before .before .are-locks .result) (Locks f (a .held .now) (a .retained .now) (a .writers .now))) (c .before .before .before .live-set .ensures) (c .before .before .are-locks .ensures))
-    (c .before .are-shares .ensures) (c .is-status-sound .ensures edition (a .depth .now) N (c .before .before .before .live-set .ensures))
+    whole-decided (a .tears) (geometryOf edition) (N .many) (record { few = S .few; deep = S .deep }) (a .up) (a .parent .now) (a .depth .now) (a .line .now) (a .held .now) (a .retained .now) (a .writers .now) work (a .store .now) (entry .pre) long
+    (is-tree .ensures)
+    (subst (λ (f : ℕ → Bool). Decides (c .before .before .are-locks .result) (Locks f (a .held .now) (a .retained .now) (a .writers .now))) (live-set .ensures) (c .before .before .are-locks .ensures))
+    (c .before .are-shares .ensures) (c .is-status-sound .ensures edition (a .depth .now) N (live-set .ensures))
 
 pub is-sound-spec : {M : Type 1} → statement M
 is-sound-spec =

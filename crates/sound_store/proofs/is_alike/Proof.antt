@@ -65,11 +65,12 @@ loop-again c =
 
 returns : tie.Need-returns Inv-loop μ-loop
 returns c =
-    let a = c .before .before .args in
+    let entry = c .before .before in
+    let a = entry .args in
     let l = c .before .loop in
     let e : l .i ≡ 32 = omega arith in
     l .inv .1 ∙ ap (λ (m : ℕ). all m (λ (k : ℕ). same (getD (a .bytes .now) (66 * a .n + 1 + k) 0) (getD (a .bytes .now) (66 * a .n + 33 + 1 + k) 0))) e
-    ∙ alike-is (a .bytes .now) (a .n) (c .before .before .pre .1)
+    ∙ alike-is (a .bytes .now) (a .n) (entry .pre .1)
 
 pub is-alike-spec : {M : Type 1} → statement M
 is-alike-spec =

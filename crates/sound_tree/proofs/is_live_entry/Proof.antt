@@ -28,7 +28,12 @@ add-level c = search needs
 
 returns : tie.Need-returns
 unfolding same
-returns c = let a = c .before .before .before .before .before .before .args in let e = c .with .ensures in seated-decided (a .parent .now) (a .depth .now) (a .line .now) (a .t) _ _ _ _ _ (c .before .before .before .before .depth-at .ensures .0) (c .before .before .before .depth-at2 .ensures .0) (c .before .before .line-at .ensures) (c .before .line-at2 .ensures) e
+returns c =
+    let depth-at = c .before .before .before .before .depth-at in
+    let depth-at2 = c .before .before .before .depth-at2 in
+    let a = c .before .before .before .before .before .before .args in
+    let e = c .with .ensures in
+    seated-decided (a .parent .now) (a .depth .now) (a .line .now) (a .t) _ _ _ _ _ (depth-at .ensures .0) (depth-at2 .ensures .0) (c .before .before .line-at .ensures) (c .before .line-at2 .ensures) e
 
 pub is-live-entry-spec : {M : Type 1} → statement M
 is-live-entry-spec =

@@ -54,14 +54,18 @@ loop-less c = search needs
 
 loop-again : tie.Need-loop-again Inv-loop μ-loop
 unfolding same
-loop-again c = let a = c .before .before .before .before .before .before .args in let l = c .before .before .before .before .loop in (
-  search needs,
-  λ g e. decides-more (UnlockedOf g (a .map) (a .held .now) (a .retained .now)) (l .r) (l .inv .1 g e)
-      (unlocked-decided g (a .map) (a .held .now) (a .retained .now) (l .r) (c .names .ensures g e)),
-)
+loop-again c =
+    let a = c .before .before .before .before .before .before .args in
+    let l = c .before .before .before .before .loop in (
+      search needs,
+      λ g e. decides-more (UnlockedOf g (a .map) (a .held .now) (a .retained .now)) (l .r) (l .inv .1 g e)
+          (unlocked-decided g (a .map) (a .held .now) (a .retained .now) (l .r) (c .names .ensures g e)),
+    )
 
 returns-2 : tie.Need-returns-2 Inv-loop μ-loop
-returns-2 c = λ g e. let a = c .before .before .before .args in let l = c .before .loop in
+returns-2 c =
+    let entry = c .before .before .before in
+    λ g e. let a = entry .args in let l = c .before .loop in
     decides-bound (UnlockedOf g (a .map) (a .held .now) (a .retained .now)) (l .r) 16 (omega arith) (l .inv .1 g e)
 
 pub are-unlocked-spec : {M : Type 1} → statement M

@@ -20,17 +20,26 @@ is-emptied-requires : tie.Need-is-emptied-requires
 is-emptied-requires c κs = (inl refl, search needs)
 
 get-page-requires : tie.Need-get-page-requires
-get-page-requires c κs = let a = c .before .before .before .args in (search needs, first-page (a .tears) (16 + 16) (c .before .before .before .pre .2))
+get-page-requires c κs =
+    let entry = c .before .before .before in
+    let a = entry .args in
+    (search needs, first-page (a .tears) (16 + 16) (entry .pre .2))
 
 prepared-map-requires : tie.Need-prepared-map-requires
-prepared-map-requires c κs = λ g L e. let a = c .before .before .before .before .args in ap (λ (p : Page). isEmptied (readCommit g p)) (c .get-page .ensures) ∙ emptied-page (a .tears) g (a .store .now) (sym (c .before .is-emptied .ensures g L) ∙ e)
+prepared-map-requires c κs =
+    let entry = c .before .before .before .before in
+    λ g L e. let a = entry .args in ap (λ (p : Page). isEmptied (readCommit g p)) (c .get-page .ensures) ∙ emptied-page (a .tears) g (a .store .now) (sym (c .before .is-emptied .ensures g L) ∙ e)
 
 are-unlocked-requires : tie.Need-are-unlocked-requires
 are-unlocked-requires c κs = search needs
 
 returns : tie.Need-returns
 unfolding same
-returns c = λ edition depth N lives. let a = c .before .before .before .before .before .before .args in let g = geometryOf edition in let L = layout-of edition 16 (a .joint) (a .tears) N in phase-decided (a .tears) g (a .up) depth (a .held .now) (a .retained .now) (a .store .now) (c .before .prepared-map .result) (c .before .before .before .is-emptied .ensures g L) (c .before .prepared-map .ensures g L (N .two-phase) ∙ ap (λ (p : Page). overheard (readPrepared g p) .map) (c .before .before .get-page .ensures)) (idle-decided (a .live) depth lives (c .before .before .before .before .within .ensures)) (c .are-unlocked .ensures g (N .many))
+returns c =
+    let entry = c .before .before .before .before .before .before in
+    let within = c .before .before .before .before .within in
+    let is-emptied = c .before .before .before .is-emptied in
+    λ edition depth N lives. let a = entry .args in let g = geometryOf edition in let L = layout-of edition 16 (a .joint) (a .tears) N in phase-decided (a .tears) g (a .up) depth (a .held .now) (a .retained .now) (a .store .now) (c .before .prepared-map .result) (is-emptied .ensures g L) (c .before .prepared-map .ensures g L (N .two-phase) ∙ ap (λ (p : Page). overheard (readPrepared g p) .map) (c .before .before .get-page .ensures)) (idle-decided (a .live) depth lives (within .ensures)) (c .are-unlocked .ensures g (N .many))
 
 pub is-status-sound-spec : {M : Type 1} → statement M
 is-status-sound-spec = tie.close (tie.spec within-requires is-emptied-requires get-page-requires prepared-map-requires are-unlocked-requires returns)

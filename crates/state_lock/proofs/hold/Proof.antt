@@ -47,7 +47,12 @@ mul-with-2 : tie.Need-mul-with-2
 mul-with-2 c = search needs
 
 slice-read-with-2 : tie.Need-slice-read-with-2
-slice-read-with-2 c = let a = c .before .before .before .before .before .before .before .args in let i = c .before .before .before .before .index .result in let e = length-set (a .held .now) (2 * i) (c .before .before .with .result) in omega arith
+slice-read-with-2 c =
+    let index = c .before .before .before .before .index in
+    let a = c .before .before .before .before .before .before .before .args in
+    let i = index .result in
+    let e = length-set (a .held .now) (2 * i) (c .before .before .with .result) in
+    omega arith
 
 with-requires-2 : tie.Need-with-requires-2
 with-requires-2 c κs = search needs
@@ -56,30 +61,50 @@ mul-held-2 : tie.Need-mul-held-2
 mul-held-2 c = search needs
 
 slice-write-held-2 : tie.Need-slice-write-held-2
-slice-write-held-2 c = let a = c .before .before .before .before .before .before .before .before .args in let i = c .before .before .before .before .before .index .result in let e = length-set (a .held .now) (2 * i) (c .before .before .before .with .result) in omega arith
+slice-write-held-2 c =
+    let index = c .before .before .before .before .before .index in
+    let with = c .before .before .before .with in
+    let a = c .before .before .before .before .before .before .before .before .args in
+    let i = index .result in
+    let e = length-set (a .held .now) (2 * i) (with .result) in
+    omega arith
 
 same-length : tie.Need-same-length
 same-length c = search needs
 
 returns : tie.Need-returns
 unfolding sets joinedFor accessWhen
-returns c = let a = c .before .before .before .before .before .before .before .before .args in let n = c .before .before .before .before .before .before .number .result in let i = c .before .before .before .before .before .index .result in let v = c .before .before .before .with .result in joined-as (accessWhen (a .reading)) n _ i _ (a .held .now) _ (c .before .before .before .before .before .before .number .ensures .0) (c .before .before .before .before .before .index .ensures .0) (record {
-  are = sets-joined (set (a .held .now) (2 * i) v) n (2 * i + 1) _ (omega (arith, length-set (a .held .now) (2 * i) v)) (c .with2 .ensures)
-      ∙ ap (joined n (2 * i + 1)) (sets-joined (a .held .now) n (2 * i) v (omega arith) (c .before .before .before .with .ensures))
-      ∙ sym (ap (λ (b : Bool). joinedFor (accessWhen b) n i (sets (a .held .now))) (not-true (a .reading) (c .before .before .if1 .taken)));
-  long = search needs;
-})
+returns c =
+    let number = c .before .before .before .before .before .before .number in
+    let index = c .before .before .before .before .before .index in
+    let with = c .before .before .before .with in
+    let a = c .before .before .before .before .before .before .before .before .args in
+    let n = number .result in
+    let i = index .result in
+    let v = with .result in
+    joined-as (accessWhen (a .reading)) n _ i _ (a .held .now) _ (number .ensures .0) (index .ensures .0) (record {
+      are = sets-joined (set (a .held .now) (2 * i) v) n (2 * i + 1) _ (omega (arith, length-set (a .held .now) (2 * i) v)) (c .with2 .ensures)
+          ∙ ap (joined n (2 * i + 1)) (sets-joined (a .held .now) n (2 * i) v (omega arith) (with .ensures))
+          ∙ sym (ap (λ (b : Bool). joinedFor (accessWhen b) n i (sets (a .held .now))) (not-true (a .reading) (c .before .before .if1 .taken)));
+      long = search needs;
+    })
 
 same-length-2 : tie.Need-same-length-2
 same-length-2 c = search needs
 
 returns-2 : tie.Need-returns-2
 unfolding sets joinedFor accessWhen
-returns-2 c = let a = c .before .before .before .before .before .before .args in let n = c .before .before .before .before .number .result in let i = c .before .before .before .index .result in joined-as (accessWhen (a .reading)) n _ i _ (a .held .now) _ (c .before .before .before .before .number .ensures .0) (c .before .before .before .index .ensures .0) (record {
-  are = sets-joined (a .held .now) n (2 * i) _ (omega arith) (c .before .with .ensures)
-      ∙ sym (ap (λ (b : Bool). joinedFor (accessWhen b) n i (sets (a .held .now))) (not-false (a .reading) (c .if1 .left)));
-  long = search needs;
-})
+returns-2 c =
+    let number = c .before .before .before .before .number in
+    let index = c .before .before .before .index in
+    let a = c .before .before .before .before .before .before .args in
+    let n = number .result in
+    let i = index .result in
+    joined-as (accessWhen (a .reading)) n _ i _ (a .held .now) _ (number .ensures .0) (index .ensures .0) (record {
+      are = sets-joined (a .held .now) n (2 * i) _ (omega arith) (c .before .with .ensures)
+          ∙ sym (ap (λ (b : Bool). joinedFor (accessWhen b) n i (sets (a .held .now))) (not-false (a .reading) (c .if1 .left)));
+      long = search needs;
+    })
 
 pub hold-spec : {M : Type 1} → statement M
 hold-spec =

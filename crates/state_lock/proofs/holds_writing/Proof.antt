@@ -30,7 +30,10 @@ contains-requires c κs = search needs
 
 returns : tie.Need-returns
 unfolding writeMode sets
-returns c = c .contains .ensures ∙ ap₂ (λ (i n : ℕ). sets (c .before .before .before .before .before .args .held .now) (2 * i + 1) n) (c .before .before .before .index .ensures .0) (c .before .number .ensures .0)
+returns c =
+    let entry = c .before .before .before .before .before in
+    let index = c .before .before .before .index in
+    c .contains .ensures ∙ ap₂ (λ (i n : ℕ). sets (entry .args .held .now) (2 * i + 1) n) (index .ensures .0) (c .before .number .ensures .0)
 
 pub holds-writing-spec : {M : Type 1} → statement M
 holds-writing-spec =

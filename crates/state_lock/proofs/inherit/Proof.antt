@@ -19,7 +19,9 @@ abbrev μ-loop : tie.MeasureT-loop
 μ-loop held retained₀ n t p k₀ retained k = n - k
 
 loop-holds : tie.Need-loop-holds Inv-loop μ-loop
-loop-holds c = (search needs, c .before .before .pre .2, upto-none (c .before .before .args .n) _ _ (c .before .before .pre .3))
+loop-holds c =
+    let entry = c .before .before in
+    (search needs, entry .pre .2, upto-none (entry .args .n) _ _ (entry .pre .3))
 
 mul-m : tie.Need-mul-m Inv-loop μ-loop
 mul-m c = search needs
@@ -56,18 +58,23 @@ loop-less c = search needs
 
 loop-again : tie.Need-loop-again Inv-loop μ-loop
 unfolding sets inheriting
-loop-again c = let l = c .before .before .before .before .before .before .loop in let a = c .before .before .before .before .before .before .before .before .before .args in (
-  search needs,
-  l .inv .1,
-  upto-more (a .n) _ (l .retained) (a .retained .now) _ (l .k) _ (l .inv .2) (omega arith) (record { word = _; is = refl; holds = c .replace .ensures ∙ ap₂ (λ (x y : Bool). replacing (x || y) (sets (l .retained) (l .k)) (a .t) (a .p)) (c .before .before .contains .ensures) (c .before .contains2 .ensures) })
-      (ap (λ (z : ℕ → Bool). replacing (sets (a .held .now) (l .k) (a .t) || z (a .t)) z (a .t) (a .p)) (l .inv .2 .swept .above (l .k) (omega arith))),
-)
+loop-again c =
+    let l = c .before .before .before .before .before .before .loop in
+    let a = c .before .before .before .before .before .before .before .before .before .args in (
+      search needs,
+      l .inv .1,
+      upto-more (a .n) _ (l .retained) (a .retained .now) _ (l .k) _ (l .inv .2) (omega arith) (record { word = _; is = refl; holds = c .replace .ensures ∙ ap₂ (λ (x y : Bool). replacing (x || y) (sets (l .retained) (l .k)) (a .t) (a .p)) (c .before .before .contains .ensures) (c .before .contains2 .ensures) })
+          (ap (λ (z : ℕ → Bool). replacing (sets (a .held .now) (l .k) (a .t) || z (a .t)) z (a .t) (a .p)) (l .inv .2 .swept .above (l .k) (omega arith))),
+    )
 
 same-length : tie.Need-same-length Inv-loop μ-loop
 same-length c = search needs
 
 returns : tie.Need-returns Inv-loop μ-loop
-returns c = let l = c .before .loop in let a = c .before .before .before .before .args in upto-all (a .n) _ _ _ _ (l .inv .2) (λ k h. inheriting-past (a .held .now) (a .retained .now) (a .t) (a .p) k (omega arith) (omega arith))
+returns c =
+    let l = c .before .loop in
+    let a = c .before .before .before .before .args in
+    upto-all (a .n) _ _ _ _ (l .inv .2) (λ k h. inheriting-past (a .held .now) (a .retained .now) (a .t) (a .p) k (omega arith) (omega arith))
 
 pub inherit-spec : {M : Type 1} → statement M
 inherit-spec =

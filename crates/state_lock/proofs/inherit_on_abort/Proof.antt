@@ -8,24 +8,32 @@ use Rattle.state_lock.proofs.inherit_on_abort.Statement.{statement}
 use Rattle.state_lock.proofs.inherit_on_abort.Tie as tie
 
 inherit-requires : tie.Need-inherit-requires
-inherit-requires c κs = (c .before .before .before .before .pre .0, c .before .before .before .before .pre .1 (c .before .if1 .taken), c .before .before .before .before .pre .2, c .before .before .before .before .pre .3)
+inherit-requires c κs =
+    let entry = c .before .before .before .before in
+    (entry .pre .0, entry .pre .1 (c .before .if1 .taken), entry .pre .2, entry .pre .3)
 
 same-length : tie.Need-same-length
 same-length c = search needs
 
 returns : tie.Need-returns
 unfolding reporting
-returns c = let a = c .before .before .before .before .before .before .before .args in record {
-  are = c .before .before .inherit .ensures .are ∙ sym (ap (λ (b : Bool). reporting b (a .t) (a .p) (sets (a .held .now)) (sets (a .retained .now))) (c .before .before .before .before .if1 .taken));
-  long = c .before .before .inherit .ensures .long;
-}
+returns c =
+    let if1 = c .before .before .before .before .if1 in
+    let a = c .before .before .before .before .before .before .before .args in
+    record {
+      are = c .before .before .inherit .ensures .are ∙ sym (ap (λ (b : Bool). reporting b (a .t) (a .p) (sets (a .held .now)) (sets (a .retained .now))) (if1 .taken));
+      long = c .before .before .inherit .ensures .long;
+    }
 
 returns-2 : tie.Need-returns-2
 unfolding reporting
-returns-2 c = let a = c .before .before .before .args in record {
-  are = sym (ap (λ (b : Bool). reporting b (a .t) (a .p) (sets (a .held .now)) (sets (a .retained .now))) (c .if1 .left));
-  long = c .before .before .before .pre .3;
-}
+returns-2 c =
+    let entry = c .before .before .before in
+    let a = entry .args in
+    record {
+      are = sym (ap (λ (b : Bool). reporting b (a .t) (a .p) (sets (a .held .now)) (sets (a .retained .now))) (c .if1 .left));
+      long = entry .pre .3;
+    }
 
 pub inherit-on-abort-spec : {M : Type 1} → statement M
 inherit-on-abort-spec =

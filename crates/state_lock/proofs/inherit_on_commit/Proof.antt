@@ -24,10 +24,13 @@ same-length-2 : tie.Need-same-length-2
 same-length-2 c = search needs
 
 returns : tie.Need-returns
-returns c = let a = c .before .before .before .before .before .before .before .before .before .before .before .before .args in (
-  record { are = c .before .before .leave .ensures .are ∙ ap (λ (f : ℕ → Bool). leaving f (sets (a .held .now))) (c .before .before .before .single .ensures); long = c .before .before .leave .ensures .long },
-  c .before .before .before .before .before .before .before .inherit .ensures,
-)
+returns c =
+    let inherit = c .before .before .before .before .before .before .before .inherit in
+    let single = c .before .before .before .single in
+    let a = c .before .before .before .before .before .before .before .before .before .before .before .before .args in (
+      record { are = c .before .before .leave .ensures .are ∙ ap (λ (f : ℕ → Bool). leaving f (sets (a .held .now))) (single .ensures); long = c .before .before .leave .ensures .long },
+      inherit .ensures,
+    )
 
 pub inherit-on-commit-spec : {M : Type 1} → statement M
 inherit-on-commit-spec =

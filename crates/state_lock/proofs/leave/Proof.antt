@@ -44,16 +44,21 @@ loop-less c = search needs
 
 loop-again : tie.Need-loop-again Inv-loop μ-loop
 unfolding sets less leaving
-loop-again c = let l = c .before .before .before .loop in let a = c .before .before .before .before .before .args in (
-  search needs,
-  upto-more (a .n) _ (l .s) (a .s .now) _ (l .k) _ (l .inv .1) (omega arith) (record { word = _; is = refl; holds = c .minus .ensures }) (ap {B = ℕ → Bool} (less (bits (a .gone))) (l .inv .1 .swept .above (l .k) (omega arith))),
-)
+loop-again c =
+    let l = c .before .before .before .loop in
+    let a = c .before .before .before .before .before .args in (
+      search needs,
+      upto-more (a .n) _ (l .s) (a .s .now) _ (l .k) _ (l .inv .1) (omega arith) (record { word = _; is = refl; holds = c .minus .ensures }) (ap {B = ℕ → Bool} (less (bits (a .gone))) (l .inv .1 .swept .above (l .k) (omega arith))),
+    )
 
 same-length : tie.Need-same-length Inv-loop μ-loop
 same-length c = search needs
 
 returns : tie.Need-returns Inv-loop μ-loop
-returns c = let l = c .before .loop in let a = c .before .before .before .args in upto-all (a .n) _ _ _ _ (l .inv .1) (λ k h. leaving-past (bits (a .gone)) (a .s .now) k (omega arith))
+returns c =
+    let l = c .before .loop in
+    let a = c .before .before .before .args in
+    upto-all (a .n) _ _ _ _ (l .inv .1) (λ k h. leaving-past (bits (a .gone)) (a .s .now) k (omega arith))
 
 pub leave-spec : {M : Type 1} → statement M
 leave-spec =

@@ -57,20 +57,38 @@ same-length c = search needs
 
 returns : tie.Need-returns
 unfolding sets
-returns c = let a = c .before .before .before .before .before .before .before .before .before .before .before .before .before .before .before .before .before .args in let q = accessWhen (a .reading) in
+returns c =
+    let index = c .before .before .before .before .before .before .before .before .before .before .before .before .before .before .index in
+    let barring-place = c .before .before .before .before .before .before .before .before .before .before .before .before .before .barring-place in
+    let number = c .before .before .before .before .before .before .before .before .before .before .before .before .number in
+    let single = c .before .before .before .before .before .before .before .before .before .before .before .single in
+    let within = c .before .before .before .before .before .before .before .before .before .within in
+    let index2 = c .before .before .before .before .before .before .before .index2 in
+    let within2 = c .before .before .before .before .before .within2 in
+    let if1 = c .before .before .before .before .if1 in
+    let a = c .before .before .before .before .before .before .before .before .before .before .before .before .before .before .before .before .before .args in
+    let q = accessWhen (a .reading) in
     record {
-      says = open-is _ (sets (a .held .now)) (sets (a .retained .now)) _ _ _ _ _ (c .before .before .before .before .before .before .before .before .before .before .before .single .ensures) (c .before .before .before .before .before .before .before .before .before .within .ensures) (c .before .before .before .before .before .within2 .ensures)
-          ∙ asked (sets (a .held .now)) (sets (a .retained .now)) (sets (a .line .now)) q (c .before .before .before .before .before .before .before .index2 .ensures .0) (c .before .before .before .before .before .before .before .before .before .before .before .before .number .ensures .0) (c .before .before .before .before .before .before .before .before .before .before .before .before .before .before .index .ensures .0) (c .before .before .before .before .before .before .before .before .before .before .before .before .before .barring-place .ensures .0);
-      does = c .before .before .hold .ensures .are ∙ sym (ap (λ (b : Bool). cond b (joinedFor q (transactionOf (a .t)) (recordOf (a .r)) (sets (a .held .now))) (sets (a .held .now))) (c .before .before .before .before .if1 .taken));
+      says = open-is _ (sets (a .held .now)) (sets (a .retained .now)) _ _ _ _ _ (single .ensures) (within .ensures) (within2 .ensures)
+          ∙ asked (sets (a .held .now)) (sets (a .retained .now)) (sets (a .line .now)) q (index2 .ensures .0) (number .ensures .0) (index .ensures .0) (barring-place .ensures .0);
+      does = c .before .before .hold .ensures .are ∙ sym (ap (λ (b : Bool). cond b (joinedFor q (transactionOf (a .t)) (recordOf (a .r)) (sets (a .held .now))) (sets (a .held .now))) (if1 .taken));
       long = c .before .before .hold .ensures .long;
     }
 
 returns-2 : tie.Need-returns-2
 unfolding sets
-returns-2 c = let a = c .before .before .before .before .before .before .before .before .before .before .before .before .before .args in let q = accessWhen (a .reading) in
+returns-2 c =
+    let index = c .before .before .before .before .before .before .before .before .before .before .index in
+    let barring-place = c .before .before .before .before .before .before .before .before .before .barring-place in
+    let number = c .before .before .before .before .before .before .before .before .number in
+    let single = c .before .before .before .before .before .before .before .single in
+    let within = c .before .before .before .before .before .within in
+    let index2 = c .before .before .before .index2 in
+    let a = c .before .before .before .before .before .before .before .before .before .before .before .before .before .args in
+    let q = accessWhen (a .reading) in
     record {
-      says = open-is _ (sets (a .held .now)) (sets (a .retained .now)) _ _ _ _ _ (c .before .before .before .before .before .before .before .single .ensures) (c .before .before .before .before .before .within .ensures) (c .before .within2 .ensures)
-          ∙ asked (sets (a .held .now)) (sets (a .retained .now)) (sets (a .line .now)) q (c .before .before .before .index2 .ensures .0) (c .before .before .before .before .before .before .before .before .number .ensures .0) (c .before .before .before .before .before .before .before .before .before .before .index .ensures .0) (c .before .before .before .before .before .before .before .before .before .barring-place .ensures .0);
+      says = open-is _ (sets (a .held .now)) (sets (a .retained .now)) _ _ _ _ _ (single .ensures) (within .ensures) (c .before .within2 .ensures)
+          ∙ asked (sets (a .held .now)) (sets (a .retained .now)) (sets (a .line .now)) q (index2 .ensures .0) (number .ensures .0) (index .ensures .0) (barring-place .ensures .0);
       does = sym (ap (λ (b : Bool). cond b (joinedFor q (transactionOf (a .t)) (recordOf (a .r)) (sets (a .held .now))) (sets (a .held .now))) (c .if1 .left));
       long = search needs;
     }

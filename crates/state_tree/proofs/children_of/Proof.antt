@@ -33,8 +33,10 @@ cast-add-child-if : tie.Need-cast-add-child-if Inv-loop μ-loop
 cast-add-child-if c = search needs
 
 add-child-if-requires : tie.Need-add-child-if-requires Inv-loop μ-loop
-add-child-if-requires c κs = let l = c .before .before .before .before .loop in
-    (c .before .before .before .before .before .pre .2 (l .j), omega arith, l .inv .1)
+add-child-if-requires c κs =
+    let entry = c .before .before .before .before .before in
+    let l = c .before .before .before .before .loop in
+    (entry .pre .2 (l .j), omega arith, l .inv .1)
 
 add-j : tie.Need-add-j Inv-loop μ-loop
 add-j c = search needs
@@ -44,7 +46,10 @@ loop-less c = search needs
 
 loop-again : tie.Need-loop-again Inv-loop μ-loop
 unfolding same sets
-loop-again c = let l = c .before .before .before .before .before .loop in let a = c .before .before .before .before .before .before .args in let e : l .j % 256 ≡ l .j = omega arith in
+loop-again c =
+    let l = c .before .before .before .before .before .loop in
+    let a = c .before .before .before .before .before .before .args in
+    let e : l .j % 256 ≡ l .j = omega arith in
     let b : ℕ → ℕ → Bool = λ q u. not (same (getD (a .depth .now) u 0) 0) && same (getD (a .parent .now) u 0) q in
     let r : sets (c .add-child-if .last .0) ≡ (λ q k. sets (l .children) q k || (same k (l .j % 256) && b q (l .j))) = c .add-child-if .ensures .are in (
       search needs,

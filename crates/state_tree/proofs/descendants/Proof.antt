@@ -46,7 +46,10 @@ loop-less c = search needs
 
 loop-again : tie.Need-loop-again Inv-loop μ-loop
 unfolding sets
-loop-again c = let l = c .before .before .before .before .loop in let a = c .before .before .before .before .before .args in let e : l .j % 256 ≡ l .j = omega arith in
+loop-again c =
+    let l = c .before .before .before .before .loop in
+    let a = c .before .before .before .before .before .args in
+    let e : l .j % 256 ≡ l .j = omega arith in
     (search needs, fills-more (λ u. sets (a .line .now) u (a .t)) (l .m) _ (l .j) _ (l .inv .1) (c .before .contains .ensures) (c .with-if .ensures ∙ ap {B = ℕ → Bool} (λ (i : ℕ) k. bits (l .m) k || (same k i && c .before .contains .result)) e))
 
 returns : tie.Need-returns Inv-loop μ-loop

@@ -27,7 +27,9 @@ loop-less : tie.Need-loop-less Inv-loop μ-loop
 loop-less c = search needs
 
 loop-again : tie.Need-loop-again Inv-loop μ-loop
-loop-again c = let l = c .before .before .before .before .before .loop in let e = c .free-if .ensures in
+loop-again c =
+    let l = c .before .before .before .before .before .loop in
+    let e = c .free-if .ensures in
     (search needs, clearing-more _ (l .parent) _ _ (l .j) (l .inv .1) (omega arith) (e .0), clearing-more _ (l .depth) _ _ (l .j) (l .inv .2) (omega arith) (e .1), clearing-more _ (l .line) _ _ (l .j) (l .inv .3) (omega arith) (e .2))
 
 returns : tie.Need-returns Inv-loop μ-loop

@@ -40,7 +40,10 @@ loop-less c = search needs
 
 loop-again : tie.Need-loop-again Inv-loop μ-loop
 unfolding same
-loop-again c = let l = c .before .before .before .loop in let a = c .before .before .before .before .args in let e : l .j % 256 ≡ l .j = omega arith in
+loop-again c =
+    let l = c .before .before .before .loop in
+    let a = c .before .before .before .before .args in
+    let e : l .j % 256 ≡ l .j = omega arith in
     let q : bits (c .with-if .result) ≡ (λ k. bits (l .m) k || (same k (l .j % 256) && not (same (getD (a .depth .now) (l .j) 0) 0))) = c .with-if .ensures in (
       search needs,
       fills-more (λ u. not (same (getD (a .depth .now) u 0) 0)) (l .m) _ (l .j) (not (same (getD (a .depth .now) (l .j) 0) 0)) (l .inv .1) refl

@@ -24,7 +24,9 @@ abbrev μ-loop : tie.MeasureT-loop
 μ-loop writers₀ work₀ n t p d r₀ writers work r = n - r
 
 loop-holds : tie.Need-loop-holds Inv-loop μ-loop
-loop-holds c = (search needs, search needs, upto-none (c .before .before .args .n) _ _ (c .before .before .pre .5), swept-none (pagesOf (c .before .before .args .work .now)) _)
+loop-holds c =
+    let entry = c .before .before in
+    (search needs, search needs, upto-none (entry .args .n) _ _ (entry .pre .5), swept-none (pagesOf (entry .args .work .now)) _)
 
 hand-up-row-requires : tie.Need-hand-up-row-requires Inv-loop μ-loop
 hand-up-row-requires c κs = search needs
@@ -37,7 +39,11 @@ loop-less c = search needs
 
 loop-again : tie.Need-loop-again Inv-loop μ-loop
 unfolding handed
-loop-again c = let l = c .before .before .before .before .before .before .before .before .loop in let a = c .before .before .before .before .before .before .before .before .before .before .before .args in let e = c .before .before .before .before .hand-up-row .ensures in
+loop-again c =
+    let hand-up-row = c .before .before .before .before .hand-up-row in
+    let l = c .before .before .before .before .before .before .before .before .loop in
+    let a = c .before .before .before .before .before .before .before .before .before .before .before .args in
+    let e = hand-up-row .ensures in
     let q = l .inv .2 .swept .above (l .r) (omega arith) in (
       search needs,
       search needs,
@@ -52,10 +58,12 @@ same-length-2 : tie.Need-same-length-2 Inv-loop μ-loop
 same-length-2 c = search needs
 
 returns : tie.Need-returns Inv-loop μ-loop
-returns c = let l = c .before .loop in let a = c .before .before .before .before .args in (
-  swept-all (l .inv .3) (λ k h. lifts-past (sets (a .writers .now)) (a .t) (a .d) (pagesOf (a .work .now)) (omega arith) (omega arith) (a .n) k (λ r g. sets-past (a .writers .now) r (a .t) (omega arith)) (omega arith)),
-  upto-all (a .n) _ _ _ _ (l .inv .2) (λ k h. handed-past (a .writers .now) (a .t) (a .p) k (omega arith)),
-)
+returns c =
+    let l = c .before .loop in
+    let a = c .before .before .before .before .args in (
+      swept-all (l .inv .3) (λ k h. lifts-past (sets (a .writers .now)) (a .t) (a .d) (pagesOf (a .work .now)) (omega arith) (omega arith) (a .n) k (λ r g. sets-past (a .writers .now) r (a .t) (omega arith)) (omega arith)),
+      upto-all (a .n) _ _ _ _ (l .inv .2) (λ k h. handed-past (a .writers .now) (a .t) (a .p) k (omega arith)),
+    )
 
 pub hand-up-spec : {M : Type 1} → statement M
 hand-up-spec =

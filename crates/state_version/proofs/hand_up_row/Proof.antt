@@ -54,9 +54,18 @@ same-length-2 c = search needs
 
 returns : tie.Need-returns
 unfolding sets
-returns c = let a = c .before .before .before .before .before .before .before .before .before .before .before .before .before .args in let s = a .work .now in let m = slot (a .r) (a .d) in let n = slot (a .r) (a .d - 1) in
-    let e : sets (a .writers .now) (a .r) (a .t) ≡ true = sym (c .before .before .before .before .before .before .before .before .before .contains .ensures) ∙ c .before .before .before .before .before .before .before .before .if1 .taken in (
-      c .before .before .before .before .copy-page .ensures ∙ ap₂ (λ (i j : ℕ). updated i (pagesOf s j) (pagesOf s)) (c .before .before .before .before .before .slot-of2 .ensures .0) (c .before .before .before .before .before .before .slot-of .ensures .0)
+returns c =
+    let contains = c .before .before .before .before .before .before .before .before .before .contains in
+    let if1 = c .before .before .before .before .before .before .before .before .if1 in
+    let slot-of = c .before .before .before .before .before .before .slot-of in
+    let slot-of2 = c .before .before .before .before .before .slot-of2 in
+    let copy-page = c .before .before .before .before .copy-page in
+    let a = c .before .before .before .before .before .before .before .before .before .before .before .before .before .args in
+    let s = a .work .now in
+    let m = slot (a .r) (a .d) in
+    let n = slot (a .r) (a .d - 1) in
+    let e : sets (a .writers .now) (a .r) (a .t) ≡ true = sym (contains .ensures) ∙ if1 .taken in (
+      copy-page .ensures ∙ ap₂ (λ (i j : ℕ). updated i (pagesOf s j) (pagesOf s)) (slot-of2 .ensures .0) (slot-of .ensures .0)
           ∙ sym (ap (λ (b : Bool). cond b (updated n (pagesOf s m) (pagesOf s)) (pagesOf s)) e),
       record {
         are = sets-handed (a .writers .now) (a .t) (a .p) (a .r) _ (omega arith) e (c .with .ensures ∙ ap {B = ℕ → Bool} (λ (f : ℕ → Bool) k. f k || same k (a .p)) (c .before .without .ensures));
@@ -66,7 +75,9 @@ returns c = let a = c .before .before .before .before .before .before .before .b
 
 returns-2 : tie.Need-returns-2
 unfolding sets
-returns-2 c = let a = c .before .before .before .before .before .args in let s = a .work .now in
+returns-2 c =
+    let a = c .before .before .before .before .before .args in
+    let s = a .work .now in
     let e : sets (a .writers .now) (a .r) (a .t) ≡ false = sym (c .before .contains .ensures) ∙ c .if1 .left in (
       sym (ap (λ (b : Bool). cond b (updated (slot (a .r) (a .d - 1)) (pagesOf s (slot (a .r) (a .d))) (pagesOf s)) (pagesOf s)) e),
       record { are = handed-none (sets (a .writers .now)) (a .t) (a .p) (a .r) e; long = search needs },

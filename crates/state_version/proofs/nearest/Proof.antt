@@ -21,7 +21,11 @@ element-copy-out-t10 : tie.Need-element-copy-out-t10
 element-copy-out-t10 c = search needs
 
 returns : tie.Need-returns
-returns c = walk-own _ _ (c .before .before .before .before .before .pre) _ _ _ (c .before .before .before .before .number .ensures .0) (ap (λ (i : ℕ). getD (c .before .before .before .before .before .args .depth .now) i 0) (c .before .index .ensures .0)) (ap (bits (c .before .before .before .before .before .args .w)) (sym (c .before .before .before .before .number .ensures .0)) ∙ sym (c .before .before .before .contains .ensures) ∙ c .before .before .if1 .taken)
+returns c =
+    let entry = c .before .before .before .before .before in
+    let number = c .before .before .before .before .number in
+    let contains = c .before .before .before .contains in
+    walk-own _ _ (entry .pre) _ _ _ (number .ensures .0) (ap (λ (i : ℕ). getD (entry .args .depth .now) i 0) (c .before .index .ensures .0)) (ap (bits (entry .args .w)) (sym (number .ensures .0)) ∙ sym (contains .ensures) ∙ c .before .before .if1 .taken)
 
 source-requires : tie.Need-source-requires
 source-requires c κs = search needs

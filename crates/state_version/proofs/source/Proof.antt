@@ -30,10 +30,14 @@ element-copy-out-t12 : tie.Need-element-copy-out-t12 Inv-loop μ-loop
 element-copy-out-t12 c = search needs
 
 loop-holds : tie.Need-loop-holds Inv-loop μ-loop
-loop-holds c = (search needs, walk-none _ _ (c .before .before .before .before .pre) _ _ _ refl (ap (λ (i : ℕ). getD (c .before .before .before .before .args .depth .now) i 0) (c .before .index .ensures .0 ∙ sym (c .before .before .number .ensures .0))))
+loop-holds c =
+    let entry = c .before .before .before .before in
+    (search needs, walk-none _ _ (entry .pre) _ _ _ refl (ap (λ (i : ℕ). getD (entry .args .depth .now) i 0) (c .before .index .ensures .0 ∙ sym (c .before .before .number .ensures .0))))
 
 one-up-requires : tie.Need-one-up-requires Inv-loop μ-loop
-one-up-requires c κs = λ h. deep-below (c .before .before .before .before .before .before .args .depth .now) (c .before .loop .c .at) (c .before .loop .c .left - 1) (let k = c .before .loop .inv .1 .level in omega arith) (c .before .before .before .before .before .before .pre .long)
+one-up-requires c κs =
+    let entry = c .before .before .before .before .before .before in
+    λ h. deep-below (entry .args .depth .now) (c .before .loop .c .at) (c .before .loop .c .left - 1) (let k = c .before .loop .inv .1 .level in omega arith) (entry .pre .long)
 
 add-n : tie.Need-add-n Inv-loop μ-loop
 add-n c = search needs
@@ -42,10 +46,18 @@ loop-less : tie.Need-loop-less Inv-loop μ-loop
 loop-less c = search needs
 
 loop-again : tie.Need-loop-again Inv-loop μ-loop
-loop-again c = let l = c .before .before .loop in let a = c .before .before .before .before .before .before .before .args in (search needs, walk-more _ _ (c .before .before .before .before .before .before .before .pre) (a .w) _ (l .c) _ (l .n) (l .inv .1) (omega arith) (c .one-up .ensures))
+loop-again c =
+    let entry = c .before .before .before .before .before .before .before in
+    let l = c .before .before .loop in
+    let a = entry .args in
+    (search needs, walk-more _ _ (entry .pre) (a .w) _ (l .c) _ (l .n) (l .inv .1) (omega arith) (c .one-up .ensures))
 
 returns-2 : tie.Need-returns-2 Inv-loop μ-loop
-returns-2 c = let l = c .before .loop in subst (λ (t : ℕ). Climbed (c .before .before .before .before .before .before .args .parent .now) (c .before .before .before .before .before .before .args .depth .now) (c .before .before .before .before .before .before .args .w) t (l .c)) (c .before .before .before .before .number .ensures .0) (walk-all _ _ (c .before .before .before .before .before .before .pre) _ _ _ (l .n) (omega arith) (l .inv .1))
+returns-2 c =
+    let entry = c .before .before .before .before .before .before in
+    let number = c .before .before .before .before .number in
+    let l = c .before .loop in
+    subst (λ (t : ℕ). Climbed (entry .args .parent .now) (entry .args .depth .now) (entry .args .w) t (l .c)) (number .ensures .0) (walk-all _ _ (entry .pre) _ _ _ (l .n) (omega arith) (l .inv .1))
 
 pub source-spec : {M : Type 1} → statement M
 source-spec =

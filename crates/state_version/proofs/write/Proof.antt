@@ -23,7 +23,9 @@ element-copy-out-slot-of : tie.Need-element-copy-out-slot-of
 element-copy-out-slot-of c = search needs
 
 slot-of-requires : tie.Need-slot-of-requires
-slot-of-requires c κs = (omega arith, subst⁻¹ (λ (i : ℕ). 0 < getD (c .before .before .before .before .before .before .before .before .before .before .before .before .before .before .args .depth .now) i 0) (c .before .index2 .ensures .0) (c .before .before .before .before .before .before .before .before .before .before .before .before .before .before .pre .5), c .before .before .before .before .before .before .before .before .before .before .before .before .before .before .pre .6 .shallow (c .before .index2 .result))
+slot-of-requires c κs =
+    let entry = c .before .before .before .before .before .before .before .before .before .before .before .before .before .before in
+    (omega arith, subst⁻¹ (λ (i : ℕ). 0 < getD (entry .args .depth .now) i 0) (c .before .index2 .ensures .0) (entry .pre .5), entry .pre .6 .shallow (c .before .index2 .result))
 
 put-byte-requires : tie.Need-put-byte-requires
 put-byte-requires c κs = search needs
@@ -35,7 +37,13 @@ same-length-2 : tie.Need-same-length-2
 same-length-2 c = search needs
 
 returns : tie.Need-returns
-returns c = let a = c .before .before .before .before .before .before .before .before .before .before .before .before .before .before .before .before .before .before .args in written-byte (slot (recordOf (a .r)) (getD (a .depth .now) (transactionOf (a .t)) 0)) _ (transactionOf (a .t)) (recordOf (a .r)) (a .o) (a .v) _ _ _ _ _ _ (c .before .before .before .before .before .before .before .before .before .before .before .before .make-version .ensures) (c .before .before .before .slot-of .ensures .0 ∙ ap₂ (λ (i j : ℕ). slot i (getD (a .depth .now) j 0)) (c .before .before .before .before .before .before .index .ensures .0) (c .before .before .before .before .before .index2 .ensures .0)) (c .before .before .put-byte .ensures)
+returns c =
+    let make-version = c .before .before .before .before .before .before .before .before .before .before .before .before .make-version in
+    let index = c .before .before .before .before .before .before .index in
+    let index2 = c .before .before .before .before .before .index2 in
+    let slot-of = c .before .before .before .slot-of in
+    let a = c .before .before .before .before .before .before .before .before .before .before .before .before .before .before .before .before .before .before .args in
+    written-byte (slot (recordOf (a .r)) (getD (a .depth .now) (transactionOf (a .t)) 0)) _ (transactionOf (a .t)) (recordOf (a .r)) (a .o) (a .v) _ _ _ _ _ _ (make-version .ensures) (slot-of .ensures .0 ∙ ap₂ (λ (i j : ℕ). slot i (getD (a .depth .now) j 0)) (index .ensures .0) (index2 .ensures .0)) (c .before .before .put-byte .ensures)
 
 pub write-spec : {M : Type 1} → statement M
 write-spec =

@@ -22,8 +22,9 @@ add-get-page c = search needs
 
 get-page-requires : tie.Need-get-page-requires
 get-page-requires c κs =
-    let a = c .before .before .before .before .args in
-    (omega arith, room (a .n) (a .store .now) (a .tears) (1 + a .r) (omega arith) (c .before .before .before .before .pre .2))
+    let entry = c .before .before .before .before in
+    let a = entry .args in
+    (omega arith, room (a .n) (a .store .now) (a .tears) (1 + a .r) (omega arith) (entry .pre .2))
 
 add-write-counted : tie.Need-add-write-counted
 add-write-counted c = search needs
@@ -33,18 +34,22 @@ add-write-counted-2 c = search needs
 
 write-counted-requires : tie.Need-write-counted-requires
 write-counted-requires c κs =
-    let a = c .before .before .before .before .before .before .args in
-    (omega arith, room (a .n) (a .store .now) (a .tears) (1 + a .n + a .r) (omega arith) (c .before .before .before .before .before .before .pre .2))
+    let entry = c .before .before .before .before .before .before in
+    let a = entry .args in
+    (omega arith, room (a .n) (a .store .now) (a .tears) (1 + a .n + a .r) (omega arith) (entry .pre .2))
 
 same-length : tie.Need-same-length
 same-length c = search needs
 
 returns : tie.Need-returns
 returns c =
+    let names = c .before .before .before .before .before .before .before .names in
+    let if1 = c .before .before .before .before .before .before .if1 in
+    let get-page = c .before .before .before .before .get-page in
     let a = c .before .before .before .before .before .before .before .before .before .args in (
       λ g m.
           row-made (named g (a .map)) (1 + a .n) (λ j. shownIn (a .tears) (storeOf (a .tears) (a .store .now)) (1 + j)) (a .r) (a .left)
-          (sym (c .before .before .before .before .before .before .before .names .ensures g m) ∙ c .before .before .before .before .before .before .if1 .taken) (phase-page (c .before .before .before .before .get-page .ensures) (c .before .before .write-counted .ensures .0)),
+          (sym (names .ensures g m) ∙ if1 .taken) (phase-page (get-page .ensures) (c .before .before .write-counted .ensures .0)),
       c .before .before .write-counted .ensures .1,
     )
 

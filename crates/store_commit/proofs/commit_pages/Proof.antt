@@ -16,7 +16,10 @@ returns c =
     (a .tears) (storeOf (a .tears) (a .store .now)) (a .k) (c .if1 .taken))
 
 write-versions-requires : tie.Need-write-versions-requires
-write-versions-requires c κs = let few = known-small (c .before .before .before .before .args .n) (c .before .before .before .before .pre .0) .0 in search needs
+write-versions-requires c κs =
+    let entry = c .before .before .before .before in
+    let few = known-small (entry .args .n) (entry .pre .0) .0 in
+    search needs
 
 mark-requires : tie.Need-mark-requires
 mark-requires c κs = search needs
@@ -25,7 +28,10 @@ add-write-versions : tie.Need-add-write-versions
 add-write-versions c = search needs
 
 write-versions-requires-2 : tie.Need-write-versions-requires-2
-write-versions-requires-2 c κs = let few = known-small (c .before .before .before .before .before .before .before .before .before .before .before .before .args .n) (c .before .before .before .before .before .before .before .before .before .before .before .before .pre .0) .0 in search needs
+write-versions-requires-2 c κs =
+    let entry = c .before .before .before .before .before .before .before .before .before .before .before .before in
+    let few = known-small (entry .args .n) (entry .pre .0) .0 in
+    search needs
 
 mark-requires-2 : tie.Need-mark-requires-2
 mark-requires-2 c κs = search needs
@@ -41,12 +47,18 @@ same-length c = search needs
 
 returns-2 : tie.Need-returns-2
 returns-2 c =
-    let a = c .before .before .before .before .before .before .before .before .before .before .before .before .before .before .before .before .before .before .before .before .before .args in
+    let entry = c .before .before .before .before .before .before .before .before .before .before .before .before .before .before .before .before .before .before .before .before .before in
+    let if1 = c .before .before .before .before .before .before .before .before .before .before .before .before .before .before .before .before .before .before .if1 in
+    let write-versions = c .before .before .before .before .before .before .before .before .before .before .before .before .before .before .before .before .write-versions in
+    let mark = c .before .before .before .before .before .before .before .before .before .before .before .before .mark in
+    let write-versions2 = c .before .before .before .before .before .before .before .before .write-versions2 in
+    let mark2 = c .before .before .before .before .mark2 in
+    let a = entry .args in
     λ g L.
-    by-commit (a .tears) g (a .store .now) (c .before .before .before .before .mark2 .last .0) (versionsIn g (a .map) (a .work .now)) (a .k) _ _
+    by-commit (a .tears) g (a .store .now) (mark2 .last .0) (versionsIn g (a .map) (a .work .now)) (a .k) _ _
     (told (c .before .made .ensures) (c .is-cut .ensures)
     (commit-leaves g (a .n) (L .many) (a .map) (versionsIn g (a .map) (a .work .now)) (topSlot (a .work .now)) (slots-are g (a .n) (L .many) (a .map) (a .work .now))
-    (c .before .before .before .before .before .before .before .before .before .before .before .before .before .before .before .before .before .before .before .before .before .pre .1) (c .before .before .before .before .before .before .before .before .before .before .before .before .before .before .before .before .before .before .if1 .left) (c .before .before .before .before .before .before .before .before .before .before .before .before .before .before .before .before .write-versions .ensures .0 g (L .many)) (c .before .before .before .before .before .before .before .before .before .before .before .before .mark .ensures .0 g L) (c .before .before .before .before .before .before .before .before .write-versions2 .ensures .0 g (L .many)) (c .before .before .before .before .mark2 .ensures .0 g L)))
+    (entry .pre .1) (if1 .left) (write-versions .ensures .0 g (L .many)) (mark .ensures .0 g L) (write-versions2 .ensures .0 g (L .many)) (mark2 .ensures .0 g L)))
 
 pub commit-pages-spec : {M : Type 1} → statement M
 commit-pages-spec =

@@ -18,7 +18,9 @@ write-versions-requires : tie.Need-write-versions-requires
 write-versions-requires c κs = search needs
 
 mark-prepared-requires : tie.Need-mark-prepared-requires
-mark-prepared-requires c κs = let entry = c .before .before .before .before .before .before .before .before in (subst (λ (k : ℕ). entry .args .map < 2 ^ k) (entry .pre .0) (entry .pre .1), search needs)
+mark-prepared-requires c κs =
+    let entry = c .before .before .before .before .before .before .before .before in
+    (subst (λ (k : ℕ). entry .args .map < 2 ^ k) (entry .pre .0) (entry .pre .1), search needs)
 
 sub-t14 : tie.Need-sub-t14
 sub-t14 c = search needs
@@ -30,10 +32,12 @@ returns-2 : tie.Need-returns-2
 unfolding same
 returns-2 c =
     let entry = c .before .before .before .before .before .before .before .before .before .before .before in
+    let if1 = c .before .before .before .before .before .before .before .before .if1 in
+    let write-versions = c .before .before .before .before .before .before .write-versions in
     let a = entry .args in
     λ g L.
-    prepare-leaves g (a .n) (L .many) (a .map) (a .work .now) (a .identity) (entry .pre .1) (c .before .before .before .before .before .before .before .before .if1 .left)
-    (c .before .before .before .before .before .before .write-versions .ensures .0 g (L .many))
+    prepare-leaves g (a .n) (L .many) (a .map) (a .work .now) (a .identity) (entry .pre .1) (if1 .left)
+    (write-versions .ensures .0 g (L .many))
     (c .before .before .mark-prepared .ensures .0 g (subst (Layout g) (entry .pre .0) L))
 
 pub prepare-pages-spec : {M : Type 1} → statement M

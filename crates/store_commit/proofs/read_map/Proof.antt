@@ -19,23 +19,31 @@ read-page-requires : tie.Need-read-page-requires
 read-page-requires c κs = search needs
 
 add-any-lost : tie.Need-add-any-lost
-add-any-lost c = let few = known-small (c .before .before .before .args .n) (c .before .before .before .pre .0) .0 in search needs
+add-any-lost c =
+    let entry = c .before .before .before in
+    let few = known-small (entry .args .n) (entry .pre .0) .0 in
+    search needs
 
 add-any-lost-2 : tie.Need-add-any-lost-2
-add-any-lost-2 c = let few = known-small (c .before .before .before .args .n) (c .before .before .before .pre .0) .0 in search needs
+add-any-lost-2 c =
+    let entry = c .before .before .before in
+    let few = known-small (entry .args .n) (entry .pre .0) .0 in
+    search needs
 
 any-lost-requires : tie.Need-any-lost-requires
 any-lost-requires c κs =
-    let a = c .before .before .before .args in
-    let few = known-small (a .n) (c .before .before .before .pre .0) .0 in
-    (omega arith, no-more (a .n) (a .store .now) (a .tears) (c .before .before .before .pre .2))
+    let entry = c .before .before .before in
+    let a = entry .args in
+    let few = known-small (a .n) (entry .pre .0) .0 in
+    (omega arith, no-more (a .n) (a .store .now) (a .tears) (entry .pre .2))
 
 returns : tie.Need-returns
 returns c =
+    let get-page = c .before .before .before .get-page in
     let a = c .before .before .before .before .before .args in (
       λ g L j.
           understood-is g (a .n) (L .many) (a .tears) (storeOf (a .tears) (a .store .now)) _ _ (c .before .any-lost .ensures)
-          (c .before .before .read-page .ensures .0 g L j ∙ ap (understood g) (c .before .before .before .get-page .ensures)),
+          (c .before .before .read-page .ensures .0 g L j ∙ ap (understood g) (get-page .ensures)),
       c .before .before .read-page .ensures .1,
     )
 

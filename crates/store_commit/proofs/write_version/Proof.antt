@@ -28,8 +28,9 @@ add-write-counted c = search needs
 
 write-counted-requires : tie.Need-write-counted-requires
 write-counted-requires c κs =
-    let a = c .before .before .before .before .before .before .args in
-    (omega arith, room (a .n) (a .store .now) (a .tears) (a .first + a .r) (omega arith) (c .before .before .before .before .before .before .pre .3))
+    let entry = c .before .before .before .before .before .before in
+    let a = entry .args in
+    (omega arith, room (a .n) (a .store .now) (a .tears) (a .first + a .r) (omega arith) (entry .pre .3))
 
 same-length : tie.Need-same-length
 same-length c = search needs
@@ -37,10 +38,13 @@ same-length c = search needs
 returns : tie.Need-returns
 unfolding topSlot
 returns c =
+    let names = c .before .before .before .before .before .before .names in
+    let if1 = c .before .before .before .before .before .if1 in
+    let get-page = c .before .before .before .before .get-page in
     let a = c .before .before .before .before .before .before .before .before .before .args in (
       λ g m.
-          row-made (named g (a .map)) (a .first) (topSlot (a .work .now)) (a .r) (a .left) (sym (c .before .before .before .before .before .before .names .ensures g m) ∙ c .before .before .before .before .before .if1 .taken)
-          (phase-page (c .before .before .before .before .get-page .ensures) (c .before .before .write-counted .ensures .0)),
+          row-made (named g (a .map)) (a .first) (topSlot (a .work .now)) (a .r) (a .left) (sym (names .ensures g m) ∙ if1 .taken)
+          (phase-page (get-page .ensures) (c .before .before .write-counted .ensures .0)),
       c .before .before .write-counted .ensures .1,
     )
 

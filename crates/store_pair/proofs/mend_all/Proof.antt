@@ -28,16 +28,19 @@ loop-less : tie.Need-loop-less Inv-loop μ-loop
 loop-less c = search needs
 
 loop-again : tie.Need-loop-again Inv-loop μ-loop
-loop-again c = (search needs, search needs, mended-more (c .before .before .before .before .before .loop .inv .2) (c .before .before .mend-pair .ensures))
+loop-again c =
+    let loop = c .before .before .before .before .before .loop in
+    (search needs, search needs, mended-more (loop .inv .2) (c .before .before .mend-pair .ensures))
 
 same-length : tie.Need-same-length Inv-loop μ-loop
 same-length c = search needs
 
 returns : tie.Need-returns Inv-loop μ-loop
 returns c =
-    let a = c .before .before .before .args in
+    let entry = c .before .before .before in
+    let a = entry .args in
     let l = c .before .loop in
-    mended-all (a .n) (l .p) (a .bytes .now) (c .before .before .before .pre .1) (omega arith) (l .inv .2)
+    mended-all (a .n) (l .p) (a .bytes .now) (entry .pre .1) (omega arith) (l .inv .2)
 
 pub mend-all-spec : {M : Type 1} → statement M
 mend-all-spec =

@@ -30,10 +30,13 @@ same-length-2 c = search needs
 
 returns-2 : tie.Need-returns-2
 returns-2 c =
+    let is-lost = c .before .before .before .before .before .before .before .is-lost in
+    let if1 = c .before .before .before .before .before .before .if1 in
+    let shown-page = c .before .before .before .before .shown-page in
     let a = c .before .before .before .before .before .before .before .before .before .before .args in
     let s = pairsOf (a .bytes .now) in
-    c .before .before .put-pair .ensures ∙ ap (λ (p : Page). updated (a .n) (whole p) s) (c .before .before .before .before .shown-page .ensures)
-    ∙ mend-found s (a .n) (sym (c .before .before .before .before .before .before .before .is-lost .ensures) ∙ c .before .before .before .before .before .before .if1 .left)
+    c .before .before .put-pair .ensures ∙ ap (λ (p : Page). updated (a .n) (whole p) s) (shown-page .ensures)
+    ∙ mend-found s (a .n) (sym (is-lost .ensures) ∙ if1 .left)
 
 pub mend-pair-spec : {M : Type 1} → statement M
 mend-pair-spec =

@@ -35,7 +35,8 @@ same-length : tie.Need-same-length
 same-length c = search needs
 
 returns : tie.Need-returns
-returns c = let a = c .before .before .before .before .before .args in
+returns c =
+    let a = c .before .before .before .before .before .args in
     let s = a .bytes .now in
     let sized : length (a .page) ≡ 32 = search needs in
     let W = whole-paired (a .page) sized in

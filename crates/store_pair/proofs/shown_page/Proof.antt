@@ -22,8 +22,9 @@ page-of-requires c κs = search needs
 
 returns : tie.Need-returns
 returns c =
+    let is-good = c .before .before .before .is-good in
     let a = c .before .before .before .before .before .args in
-    c .page-of .ensures ∙ shows-first (a .bytes .now) (a .n) (c .before .before .before .is-good .ensures) (c .before .before .is-good2 .ensures) (c .before .if1 .taken)
+    c .page-of .ensures ∙ shows-first (a .bytes .now) (a .n) (is-good .ensures) (c .before .before .is-good2 .ensures) (c .before .if1 .taken)
 
 add-page-of : tie.Need-add-page-of
 add-page-of c = search needs
@@ -33,8 +34,9 @@ page-of-requires-2 c κs = search needs
 
 returns-2 : tie.Need-returns-2
 returns-2 c =
+    let is-good = c .before .before .before .is-good in
     let a = c .before .before .before .before .before .args in
-    c .page-of2 .ensures ∙ shows-second (a .bytes .now) (a .n) (c .before .before .before .is-good .ensures) (c .before .before .is-good2 .ensures) (c .before .if1 .left)
+    c .page-of2 .ensures ∙ shows-second (a .bytes .now) (a .n) (is-good .ensures) (c .before .before .is-good2 .ensures) (c .before .if1 .left)
 
 pub shown-page-spec : {M : Type 1} → statement M
 shown-page-spec =

@@ -37,7 +37,8 @@ same-length c = search needs
 
 returns : tie.Need-returns
 unfolding pairsOf
-returns c = let a = c .before .before .before .before .before .args in
+returns c =
+    let a = c .before .before .before .before .before .args in
     let s = a .bytes .now in
     let sized : length (a .page) ≡ 32 = search needs in
     let old = take 66 (drop (66 * a .n) s) in

@@ -28,10 +28,12 @@ same-length : tie.Need-same-length
 same-length c = search needs
 
 returns : tie.Need-returns
-returns c = let a = c .before .before .before .before .before .args in
+returns c =
+    let entry = c .before .before .before .before .before in
+    let a = entry .args in
     let s = a .part .now in
     ap (λ (l : List ℕ). set l 0 1) (put-at 1 32 s (c .before .before .write-page .last .0) ∙ ap (λ (p : List ℕ). take 1 s ++ (p ++ drop 33 s)) (c .before .before .write-page .ensures))
-    ∙ copy-set s (a .page) (c .before .before .before .before .before .pre)
+    ∙ copy-set s (a .page) (entry .pre)
 
 pub write-copy-spec : {M : Type 1} → statement M
 write-copy-spec =

@@ -17,7 +17,8 @@ same-length : tie.Need-same-length
 same-length c = search needs
 
 returns : tie.Need-returns
-returns c = let a = c .before .before .before .before .before .before .args in
+returns c =
+    let a = c .before .before .before .before .before .before .args in
     (c .before .before .put-pair .ensures ∙ sym (cut-one-whole (a .left) (a .n) (a .page) (pairsOf (a .bytes .now)) (omega arith)), refl)
 
 tear-page-requires : tie.Need-tear-page-requires
@@ -27,11 +28,13 @@ same-length-2 : tie.Need-same-length-2
 same-length-2 c = search needs
 
 returns-2 : tie.Need-returns-2
-returns-2 c = let a = c .before .before .before .before .before .before .before .args in
+returns-2 c =
+    let a = c .before .before .before .before .before .before .before .args in
     (c .before .before .tear-page .ensures ∙ sym (cut-one-torn (a .left) (a .n) (a .page) (pairsOf (a .bytes .now)) (omega arith)), omega arith)
 
 returns-3 : tie.Need-returns-3
-returns-3 c = let a = c .before .before .before .args in
+returns-3 c =
+    let a = c .before .before .before .args in
     let z : 0 ≡ a .left = omega arith in
     (sym (cut-none (sets (a .n) (a .page) ∷ []) (pairsOf (a .bytes .now))) ∙ ap (λ (k : ℕ). cutPairs k (sets (a .n) (a .page) ∷ []) (pairsOf (a .bytes .now)) .store) z, omega arith)
 

@@ -25,10 +25,12 @@ same-length : tie.Need-same-length
 same-length c = search needs
 
 returns : tie.Need-returns
-returns c = let a = c .before .before .before .before .before .args in
+returns c =
+    let entry = c .before .before .before .before .before in
+    let a = entry .args in
     let s = a .part .now in
     put-at 0 33 s (c .before .before .write-copy .last .0) ∙ ap (λ (p : List ℕ). p ++ drop 33 s) (c .before .before .write-copy .ensures)
-    ∙ first-new s (a .page) (c .before .before .before .before .before .pre)
+    ∙ first-new s (a .page) (entry .pre)
 
 pub write-first-spec : {M : Type 1} → statement M
 write-first-spec =

@@ -28,13 +28,16 @@ same-length : tie.Need-same-length
 same-length c = search needs
 
 returns : tie.Need-returns
-returns c = let a = c .before .before .before .before .before .before .before .before .before .args in
+returns c =
+    let entry = c .before .before .before .before .before .before .before .before .before in
+    let write-first = c .before .before .before .before .before .before .write-first in
+    let a = entry .args in
     let s = a .part .now in
     let sized : length (a .page) ≡ 32 = search needs in
-    let t = c .before .before .before .before .before .before .write-first .last .0 in
+    let t = write-first .last .0 in
     put-at 33 33 t (c .before .before .write-copy .last .0)
-    ∙ ap₂ (λ (t p : List ℕ). take 33 t ++ (p ++ drop 66 t)) (c .before .before .before .before .before .before .write-first .ensures) (c .before .before .write-copy .ensures)
-    ∙ second-new s (a .page) sized (c .before .before .before .before .before .before .before .before .before .pre)
+    ∙ ap₂ (λ (t p : List ℕ). take 33 t ++ (p ++ drop 66 t)) (write-first .ensures) (c .before .before .write-copy .ensures)
+    ∙ second-new s (a .page) sized (entry .pre)
 
 pub write-pair-spec : {M : Type 1} → statement M
 write-pair-spec =

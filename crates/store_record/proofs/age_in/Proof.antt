@@ -18,30 +18,42 @@ add-any-lost-2 : tie.Need-add-any-lost-2
 add-any-lost-2 c = let h = known-small _ (c .before .pre .0) .0 in search needs
 
 any-lost-requires : tie.Need-any-lost-requires
-any-lost-requires c κs = let h = known-small _ (c .before .pre .0) .0 in (omega arith, within (c .before .args .tears) (c .before .args .n) (c .before .pre .2))
+any-lost-requires c κs =
+    let entry = c .before in
+    let h = known-small _ (entry .pre .0) .0 in
+    (omega arith, within (entry .args .tears) (entry .args .n) (entry .pre .2))
 
 returns : tie.Need-returns
 unfolding toldAs
 returns c =
+    let entry = c .before .before .before in
     λ g L j.
-    let a = c .before .before .before .args in
+    let a = entry .args in
     told-lost (a .tears) g _ (L .many) (a .store .now) _ (recordOf (a .r)) (a .clock .0) (a .limit .0) (c .before .any-lost .ensures) (c .if1 .taken)
 
 get-page-requires : tie.Need-get-page-requires
-get-page-requires c κs = let a = c .before .before .before .args in (omega arith, room (a .tears) 0 (a .n) (omega arith) (c .before .before .before .pre .2))
+get-page-requires c κs =
+    let entry = c .before .before .before in
+    let a = entry .args in
+    (omega arith, room (a .tears) 0 (a .n) (omega arith) (entry .pre .2))
 
 read-page-requires : tie.Need-read-page-requires
-read-page-requires c κs = (c .before .before .before .before .pre .0, c .before .before .before .before .pre .1)
+read-page-requires c κs =
+    let entry = c .before .before .before .before in
+    (entry .pre .0, entry .pre .1)
 
 settled-page-requires : tie.Need-settled-page-requires
-settled-page-requires c κs = (known-small _ (c .before .before .before .before .before .before .pre .0) .0, c .before .before .before .before .before .before .pre .3)
+settled-page-requires c κs =
+    let entry = c .before .before .before .before .before .before in
+    (known-small _ (entry .pre .0) .0, entry .pre .3)
 
 stamp-on-requires : tie.Need-stamp-on-requires
 stamp-on-requires c κs =
-    let a = c .before .before .before .before .before .before .before .args in
-    let h = known-small _ (c .before .before .before .before .before .before .before .pre .0) .0 in
+    let entry = c .before .before .before .before .before .before .before in
+    let a = entry .args in
+    let h = known-small _ (entry .pre .0) .0 in
     let b = c .settled-page .ensures .1 in
-    (omega arith, room (a .tears) (c .settled-page .result) (a .n) b (c .before .before .before .before .before .before .before .pre .2))
+    (omega arith, room (a .tears) (c .settled-page .result) (a .n) b (entry .pre .2))
 
 new-requires : tie.Need-new-requires
 new-requires c κs = search needs
@@ -55,21 +67,32 @@ judged-by-requires c κs = search needs
 returns-2 : tie.Need-returns-2
 unfolding toldAs
 returns-2 c =
+    let entry = c .before .before .before .before .before .before .before .before .before .before .before in
+    let any-lost = c .before .before .before .before .before .before .before .before .before .any-lost in
+    let if1 = c .before .before .before .before .before .before .before .before .if1 in
+    let get-page = c .before .before .before .before .before .before .before .get-page in
+    let read-page = c .before .before .before .before .before .before .read-page in
+    let if2 = c .before .before .before .before .before .if2 in
+    let settled-page = c .before .before .before .before .settled-page in
+    let stamp-on = c .before .before .before .stamp-on in
     λ g L j.
-    let a = c .before .before .before .before .before .before .before .before .before .before .before .args in
-    let read = c .before .before .before .before .before .before .read-page in
-    told-good (a .tears) g _ (L .many) (a .store .now) _ (c .before .before .before .before .before .before .before .get-page .result) (read .result) (recordOf (a .r)) (a .clock .0) (a .limit .0)
-    (c .before .before .before .before .settled-page .result) (c .before .before .new .result .0) (c .before .since .result .0) (judgedAge (c .judged-by .result))
-    (c .before .before .before .before .before .before .before .before .before .any-lost .ensures) (c .before .before .before .before .before .before .before .before .if1 .left) (c .before .before .before .before .before .before .before .get-page .ensures) (read .ensures .0 g L j) (c .before .before .before .before .before .if2 .taken) (c .before .before .before .before .before .before .before .before .before .before .before .pre .3)
-    (c .before .before .before .before .settled-page .ensures .0 g (L .many)) (c .before .before .new .ensures ∙ c .before .before .before .stamp-on .ensures) (c .before .since .ensures) (c .judged-by .ensures)
+    let a = entry .args in
+    let read = read-page in
+    told-good (a .tears) g _ (L .many) (a .store .now) _ (get-page .result) (read .result) (recordOf (a .r)) (a .clock .0) (a .limit .0)
+    (settled-page .result) (c .before .before .new .result .0) (c .before .since .result .0) (judgedAge (c .judged-by .result))
+    (any-lost .ensures) (if1 .left) (get-page .ensures) (read .ensures .0 g L j) (if2 .taken) (entry .pre .3)
+    (settled-page .ensures .0 g (L .many)) (c .before .before .new .ensures ∙ stamp-on .ensures) (c .before .since .ensures) (c .judged-by .ensures)
 
 returns-3 : tie.Need-returns-3
 unfolding toldAs
 returns-3 c =
+    let entry = c .before .before .before .before .before .before in
+    let any-lost = c .before .before .before .before .any-lost in
+    let if1 = c .before .before .before .if1 in
     λ g L j.
-    let a = c .before .before .before .before .before .before .args in
+    let a = entry .args in
     told-bad (a .tears) g _ (L .many) (a .store .now) _ (c .before .before .get-page .result) (c .before .read-page .result) (recordOf (a .r)) (a .clock .0) (a .limit .0)
-    (c .before .before .before .before .any-lost .ensures) (c .before .before .before .if1 .left) (c .before .before .get-page .ensures) (c .before .read-page .ensures .0 g L j) (c .if2 .left)
+    (any-lost .ensures) (if1 .left) (c .before .before .get-page .ensures) (c .before .read-page .ensures .0 g L j) (c .if2 .left)
 
 pub age-in-spec : {M : Type 1} → statement M
 age-in-spec =

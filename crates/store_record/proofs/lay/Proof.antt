@@ -31,7 +31,9 @@ add-pages-2 : tie.Need-add-pages-2 Inv-loop μ-loop
 add-pages-2 c = let h = known-small _ (c .before .pre .0) .0 in search needs
 
 loop-holds : tie.Need-loop-holds Inv-loop μ-loop
-loop-holds c = (omega arith, known-small _ (c .before .pre .0) .0, search needs, λ g L. laid-none (c .before .args .tears) g (c .before .pre .1 ∙ sym (store-size _ g (L .many) (c .before .args .tears))))
+loop-holds c =
+    let entry = c .before in
+    (omega arith, known-small _ (entry .pre .0) .0, search needs, λ g L. laid-none (entry .args .tears) g (entry .pre .1 ∙ sym (store-size _ g (L .many) (entry .args .tears))))
 
 fresh-page-requires : tie.Need-fresh-page-requires Inv-loop μ-loop
 fresh-page-requires c κs = search needs
@@ -51,20 +53,26 @@ loop-less c = search needs
 
 loop-again : tie.Need-loop-again Inv-loop μ-loop
 loop-again c =
+    let entry = c .before .before .before .before .before .before .before .before in
+    let fresh-page = c .before .before .before .fresh-page in
     let at = c .before .before .before .before .before .before .loop in
-    let known = c .before .before .before .before .before .before .before .before .pre .0 in (
+    let known = entry .pre .0 in (
       omega arith,
       at .inv .1,
       search needs,
-      λ g L. laid-more (c .before .before .before .before .before .before .before .before .args .tears) g (at .inv .3 g L) (search needs)
-          (c .before .before .write-counted .ensures .0 .store ∙ ap (λ (page : Page). leftBy (c .before .before .before .before .before .before .before .before .args .tears) 255 (sets (at .p) page ∷ []) (storeOf (c .before .before .before .before .before .before .before .before .args .tears) (at .store))) (c .before .before .before .fresh-page .ensures g L)),
+      λ g L. laid-more (entry .args .tears) g (at .inv .3 g L) (search needs)
+          (c .before .before .write-counted .ensures .0 .store ∙ ap (λ (page : Page). leftBy (entry .args .tears) 255 (sets (at .p) page ∷ []) (storeOf (entry .args .tears) (at .store))) (fresh-page .ensures g L)),
     )
 
 same-length : tie.Need-same-length Inv-loop μ-loop
 same-length c = search needs
 
 returns : tie.Need-returns Inv-loop μ-loop
-returns c = let l = c .before .loop in let n = c .before .before .before .args .n in λ g L. let e : l .p ≡ 1 + (n + n) = omega arith in subst (λ (p : ℕ). LaidTo (c .before .before .before .args .tears) g p (l .store)) e (l .inv .3 g L)
+returns c =
+    let entry = c .before .before .before in
+    let l = c .before .loop in
+    let n = entry .args .n in
+    λ g L. let e : l .p ≡ 1 + (n + n) = omega arith in subst (λ (p : ℕ). LaidTo (entry .args .tears) g p (l .store)) e (l .inv .3 g L)
 
 pub lay-spec : {M : Type 1} → statement M
 lay-spec =

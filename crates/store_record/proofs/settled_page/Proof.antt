@@ -25,7 +25,8 @@ add-result c = search needs
 
 returns : tie.Need-returns
 returns c =
-    let at = c .before .before .before .index .ensures in
+    let index = c .before .before .before .index in
+    let at = index .ensures in
     let small = c .before .before .before .before .pre in (
       λ g m.
           let yes : named g _ (recordOf _) ≡ true = ap (named g _) (sym (c .before .before .number .ensures .0)) ∙ sym (c .before .names .ensures g m) ∙ c .if1 .taken in
@@ -41,7 +42,8 @@ add-result-3 c = search needs
 
 returns-2 : tie.Need-returns-2
 returns-2 c =
-    let at = c .before .before .before .index .ensures in
+    let index = c .before .before .before .index in
+    let at = index .ensures in
     let small = c .before .before .before .before .pre in (
       λ g m.
           let no : named g _ (recordOf _) ≡ false = ap (named g _) (sym (c .before .before .number .ensures .0)) ∙ sym (c .before .names .ensures g m) ∙ c .if1 .left in

@@ -26,17 +26,28 @@ enum-known-told-2 : tie.Need-enum-known-told-2
 enum-known-told-2 c = search needs
 
 returns : tie.Need-returns
-returns c = λ g L j.
-    let told = c .before .before .before .before .before .age-of in
-    answered-judged _ _ _ (told .result) (c .before .before .before .told .given .0 .0) (c .leave .result) (c .before .before .before .told .given .1)
-    (told .ensures g L j ∙ ap₂ (ageOf (formIn (c .before .before .before .before .before .before .before .before .before .args .tears) g) _ _) (c .before .before .before .before .before .before .before .new .ensures) (c .before .before .before .before .before .before .new2 .ensures))
+returns c =
+    let entry = c .before .before .before .before .before .before .before .before .before in
+    let new = c .before .before .before .before .before .before .before .new in
+    let new2 = c .before .before .before .before .before .before .new2 in
+    let age-of = c .before .before .before .before .before .age-of in
+    let at-told = c .before .before .before .told in
+    λ g L j.
+    let told = age-of in
+    answered-judged _ _ _ (told .result) (at-told .given .0 .0) (c .leave .result) (at-told .given .1)
+    (told .ensures g L j ∙ ap₂ (ageOf (formIn (entry .args .tears) g) _ _) (new .ensures) (new2 .ensures))
     (c .leave .ensures)
 
 returns-2 : tie.Need-returns-2
-returns-2 c = λ g L j.
-    let told = c .before .before .before .age-of in
+returns-2 c =
+    let entry = c .before .before .before .before .before .before .before in
+    let new = c .before .before .before .before .before .new in
+    let new2 = c .before .before .before .before .new2 in
+    let age-of = c .before .before .before .age-of in
+    λ g L j.
+    let told = age-of in
     answered-refused _ _ (told .result) (c .before .told2 .given .0 .0) (c .before .told2 .given .1)
-    (told .ensures g L j ∙ ap₂ (ageOf (formIn (c .before .before .before .before .before .before .before .args .tears) g) _ _) (c .before .before .before .before .before .new .ensures) (c .before .before .before .before .new2 .ensures))
+    (told .ensures g L j ∙ ap₂ (ageOf (formIn (entry .args .tears) g) _ _) (new .ensures) (new2 .ensures))
 
 pub tell-spec : {M : Type 1} → statement M
 tell-spec =

@@ -10,8 +10,9 @@ use Rattle.store_write.proofs.mend.Tie as tie
 
 mend-all-requires : tie.Need-mend-all-requires
 mend-all-requires c κs =
-    let a = c .before .before .before .args in
-    let P = c .before .before .before .pre in
+    let entry = c .before .before .before in
+    let a = entry .args in
+    let P = entry .pre in
     (P .0, subst (λ (b : Bool). length (a .store .now) ≡ strideOf b * a .n) (c .before .if1 .taken) (P .1))
 
 same-length : tie.Need-same-length
@@ -19,9 +20,10 @@ same-length c = search needs
 
 returns : tie.Need-returns
 returns c =
+    let if1 = c .before .before .before .before .if1 in
     let a = c .before .before .before .before .before .before .args in
     let w = c .before .before .mend-all in
-    subst⁻¹ (λ (b : Bool). storeOf b (w .last .0) ≡ mendedIn b (storeOf b (a .store .now))) (c .before .before .before .before .if1 .taken) (w .ensures)
+    subst⁻¹ (λ (b : Bool). storeOf b (w .last .0) ≡ mendedIn b (storeOf b (a .store .now))) (if1 .taken) (w .ensures)
 
 returns-2 : tie.Need-returns-2
 returns-2 c =

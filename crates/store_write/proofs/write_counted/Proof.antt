@@ -14,8 +14,9 @@ use Rattle.store_write.proofs.write_counted.Tie as tie
 
 write-counted-requires : tie.Need-write-counted-requires
 write-counted-requires c κs =
-    let a = c .before .before .before .args in
-    let P = c .before .before .before .pre in
+    let entry = c .before .before .before in
+    let a = entry .args in
+    let P = entry .pre in
     (P .0, subst (λ (b : Bool). strideOf b * a .n + strideOf b ≤ length (a .store .now)) (c .before .if1 .taken) (P .1))
 
 same-length : tie.Need-same-length
@@ -23,17 +24,19 @@ same-length c = search needs
 
 returns : tie.Need-returns
 returns c =
+    let if1 = c .before .before .before .before .if1 in
     let a = c .before .before .before .before .before .before .args in
     let w = c .before .before .write-counted in (
       subst⁻¹ (λ (b : Bool). WritesPhase b (a .left) (sets (a .n) (a .page) ∷ []) (storeOf b (a .store .now)) (storeOf b (w .last .0)) (w .result))
-          (c .before .before .before .before .if1 .taken) (record { store = w .ensures .0; count = w .ensures .1 }),
+          (if1 .taken) (record { store = w .ensures .0; count = w .ensures .1 }),
       omega (arith, w .ensures .1),
     )
 
 put-page-requires : tie.Need-put-page-requires
 put-page-requires c κs =
-    let a = c .before .before .before .before .args in
-    let P = c .before .before .before .before .pre in
+    let entry = c .before .before .before .before in
+    let a = entry .args in
+    let P = entry .pre in
     (P .0, subst (λ (b : Bool). strideOf b * a .n + strideOf b ≤ length (a .store .now)) (c .before .before .if1 .left) (P .1))
 
 sub-result : tie.Need-sub-result
@@ -44,10 +47,11 @@ same-length-2 c = search needs
 
 returns-2 : tie.Need-returns-2
 returns-2 c =
+    let if1 = c .before .before .before .before .before .if1 in
     let a = c .before .before .before .before .before .before .before .args in
     let w = c .before .before .put-page in (
       subst⁻¹ (λ (b : Bool). WritesPhase b (a .left) (sets (a .n) (a .page) ∷ []) (storeOf b (a .store .now)) (storeOf b (w .last .0)) (a .left - 1))
-          (c .before .before .before .before .before .if1 .left) (phase-one (omega arith) (w .ensures)),
+          (if1 .left) (phase-one (omega arith) (w .ensures)),
       omega arith,
     )
 

@@ -23,32 +23,39 @@ kept-requires : tie.Need-kept-requires Inv-loop μ-loop
 kept-requires c κs = c .pre .0
 
 loop-holds : tie.Need-loop-holds Inv-loop μ-loop
-loop-holds c = (holds-first (sets (c .before .args .points .now)) (λ t u e. sets-small (c .before .args .points .now) t u (c .before .pre .0) e), c .kept .ensures)
+loop-holds c =
+    let entry = c .before in
+    (holds-first (sets (entry .args .points .now)) (λ t u e. sets-small (entry .args .points .now) t u (entry .pre .0) e), c .kept .ensures)
 
 within-requires : tie.Need-within-requires Inv-loop μ-loop
 within-requires c κs = search needs
 
 kept-requires-2 : tie.Need-kept-requires-2 Inv-loop μ-loop
-kept-requires-2 c κs = c .before .before .before .before .pre .0
+kept-requires-2 c κs =
+    let entry = c .before .before .before .before in
+    entry .pre .0
 
 loop-less : tie.Need-loop-less Inv-loop μ-loop
 loop-less c =
+    let entry = c .before .before .before .before .before in
     let l = c .before .before .before .loop in
-    let p = sets (c .before .before .before .before .before .args .points .now) in
+    let p = sets (entry .args .points .now) in
     let e : all transactions (λ k. not (bits (l .m) k) || goesOn p (bits (l .m)) k) ≡ false =
     ap (λ (f : ℕ → Bool). all transactions (λ k. not (bits (l .m) k) || f k)) (sym (l .inv .1)) ∙ sym (c .before .before .within .ensures) ∙ not-true _ (c .before .if1 .taken) in
     subst (λ (f : ℕ → Bool). count transactions f < count transactions (bits (l .m))) (sym (l .inv .1)) (fewer p (bits (l .m)) e)
 
 loop-again : tie.Need-loop-again Inv-loop μ-loop
 loop-again c =
+    let entry = c .before .before .before .before .before in
     let l = c .before .before .before .loop in
-    let p = sets (c .before .before .before .before .before .args .points .now) in
-    (subst (Holds p) (sym (l .inv .1)) (holds-on p (bits (l .m)) (c .before .before .before .before .before .pre .1) (l .inv .0)), c .kept2 .ensures)
+    let p = sets (entry .args .points .now) in
+    (subst (Holds p) (sym (l .inv .1)) (holds-on p (bits (l .m)) (entry .pre .1) (l .inv .0)), c .kept2 .ensures)
 
 returns : tie.Need-returns Inv-loop μ-loop
 returns c =
+    let entry = c .before .before .before .before in
     let l = c .before .before .loop in
-    let p = sets (c .before .before .before .before .args .points .now) in
+    let p = sets (entry .args .points .now) in
     let e : all transactions (λ k. not (bits (l .m) k) || goesOn p (bits (l .m)) k) ≡ true =
     ap (λ (f : ℕ → Bool). all transactions (λ k. not (bits (l .m) k) || f k)) (sym (l .inv .1)) ∙ sym (c .before .within .ensures) ∙ not-false _ (c .if1 .left) in
     record { holds = l .inv .0; closed = closed-at p (bits (l .m)) e }

@@ -17,9 +17,10 @@ clear-requires c κs = search needs
 
 returns : tie.Need-returns
 returns c =
+    let entry = c .before .before .before .before in
     let k = c .before .before .before .core in
-    let l = c .before .before .before .before .args .points .now in
-    let h = c .before .before .before .before .pre in
+    let l = entry .args .points .now in
+    let h = entry .pre in
     acyclic (none-left (sets l) (bits (k .result)) (k .ensures) (λ t u e. sets-small l t u (h .0) e) (nothing-left (k .result) (c .before .before .if1 .taken))) refl (c .clear .ensures)
 
 walk-requires : tie.Need-walk-requires
@@ -30,8 +31,9 @@ place-of-requires c κs = let w = c .before .before .walk in (w .ensures .short,
 
 show-requires : tie.Need-show-requires
 show-requires c κs =
+    let entry = c .before .before .before .before .before .before .before .before in
     let w = c .before .before .before .before .before .walk in
-    (c .before .before .place-of .ensures .0, w .ensures .short, w .ensures .long, c .before .before .before .before .before .before .before .before .pre .2)
+    (c .before .before .place-of .ensures .0, w .ensures .short, w .ensures .long, entry .pre .2)
 
 sub-result : tie.Need-sub-result
 sub-result c = search needs
@@ -41,9 +43,10 @@ cast-result c = search needs
 
 returns-2 : tie.Need-returns-2
 returns-2 c =
+    let entry = c .before .before .before .before .before .before .before .before .before in
     let w = c .before .before .before .before .before .before .walk in
     let k = c .before .before .before .place-of in
-    found-cycle (sets (c .before .before .before .before .before .before .before .before .before .args .points .now)) (w .result .path) _ (w .result .n) (w .result .t) (k .result) (w .ensures) (k .ensures .0) (k .ensures .1) (c .show .ensures)
+    found-cycle (sets (entry .args .points .now)) (w .result .path) _ (w .result .n) (w .result .t) (k .result) (w .ensures) (k .ensures .0) (k .ensures .1) (c .show .ensures)
 
 pub find-spec : {M : Type 1} → statement M
 find-spec =

@@ -42,9 +42,10 @@ loop-again c =
 
 returns : tie.Need-returns Inv-loop μ-loop
 returns c =
+    let entry = c .before .before in
     let l = c .before .loop in
-    let a = c .before .before .args in
-    swept-all (l .inv .1) (λ k h. sym (goes-past (a .points .now) (bits (a .m)) k (omega (arith, c .before .before .pre))))
+    let a = entry .args in
+    swept-all (l .inv .1) (λ k h. sym (goes-past (a .points .now) (bits (a .m)) k (omega (arith, entry .pre))))
 
 pub kept-spec : {M : Type 1} → statement M
 kept-spec =

@@ -32,29 +32,45 @@ with-requires : tie.Need-with-requires Inv-loop μ-loop
 with-requires c κs = omega (arith, c .before .before .loop .inv .low)
 
 add-n : tie.Need-add-n Inv-loop μ-loop
-add-n c = let l = c .before .before .before .loop in record { fits = omega (arith, going-short (l .inv)) }
+add-n c =
+    let l = c .before .before .before .loop in
+    record { fits = omega (arith, going-short (l .inv)) }
 
 cast-first-of : tie.Need-cast-first-of Inv-loop μ-loop
 cast-first-of c = search needs
 
 mul-first-of : tie.Need-mul-first-of Inv-loop μ-loop
-mul-first-of c = let l = c .before .before .before .loop in record { fits = omega (arith, l .inv .low) }
+mul-first-of c =
+    let l = c .before .before .before .loop in
+    record { fits = omega (arith, l .inv .low) }
 
 element-copy-out-first-of : tie.Need-element-copy-out-first-of Inv-loop μ-loop
-element-copy-out-first-of c = let l = c .before .before .before .loop in omega (arith, l .inv .low)
+element-copy-out-first-of c =
+    let l = c .before .before .before .loop in
+    omega (arith, l .inv .low)
 
 first-of-requires-2 : tie.Need-first-of-requires-2 Inv-loop μ-loop
-first-of-requires-2 c κs = let l = c .before .before .before .before .loop in let a = c .before .before .before .before .before .before .args in next-some (a .points .now) (a .core) (l .t) (c .before .before .before .before .before .before .pre .0) (l .inv .low) (l .inv .inside)
+first-of-requires-2 c κs =
+    let entry = c .before .before .before .before .before .before in
+    let l = c .before .before .before .before .loop in
+    let a = entry .args in
+    next-some (a .points .now) (a .core) (l .t) (entry .pre .0) (l .inv .low) (l .inv .inside)
 
 loop-less : tie.Need-loop-less Inv-loop μ-loop
-loop-less c = let l = c .before .before .before .before .before .loop in omega (arith, going-low (l .inv) (sym (c .before .before .before .before .contains .ensures) ∙ not-true _ (c .before .before .before .if1 .taken)))
+loop-less c =
+    let contains = c .before .before .before .before .contains in
+    let if1 = c .before .before .before .if1 in
+    let l = c .before .before .before .before .before .loop in
+    omega (arith, going-low (l .inv) (sym (contains .ensures) ∙ not-true _ (if1 .taken)))
 
 loop-again : tie.Need-loop-again Inv-loop μ-loop
 loop-again c =
+    let contains = c .before .before .before .before .contains in
+    let if1 = c .before .before .before .if1 in
     let l = c .before .before .before .before .before .loop in
     let a = c .before .before .before .before .before .before .before .args in
     let q = next-is (a .points .now) (a .core) (l .t) (c .first-of2 .result) (c .first-of2 .ensures .1) in
-    going-more (l .inv) (c .before .before .with .result) (c .first-of2 .result) (sym (c .before .before .before .before .contains .ensures) ∙ not-true _ (c .before .before .before .if1 .taken)) (c .before .before .with .ensures) (c .first-of2 .ensures .0) (q .1) (q .0)
+    going-more (l .inv) (c .before .before .with .result) (c .first-of2 .result) (sym (contains .ensures) ∙ not-true _ (if1 .taken)) (c .before .before .with .ensures) (c .first-of2 .ensures .0) (q .1) (q .0)
 
 returns : tie.Need-returns Inv-loop μ-loop
 returns c = let l = c .before .before .loop in going-done (l .inv) (sym (c .before .contains .ensures) ∙ not-false _ (c .if1 .left)) (going-short (l .inv))

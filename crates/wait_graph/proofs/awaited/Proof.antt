@@ -38,9 +38,10 @@ reach-requires c κs = search needs
 returns : tie.Need-returns
 unfolding sets blockersAt waitedOn
 returns c =
+    let barring-place = c .before .before .before .before .before .barring-place in
     let a = c .before .before .before .before .before .before .args in
     c .reach .ensures ∙ ap (pointedTo (sets (a .line .now)) (sets (a .line .now) (a .t)))
-    (c .before .blockers .ensures ∙ ap {B = ℕ → Bool} (blockersAt (sets (a .held .now)) (sets (a .retained .now)) (sets (a .line .now) (a .t)) (a .t)) (c .before .before .before .before .before .barring-place .ensures .0))
+    (c .before .blockers .ensures ∙ ap {B = ℕ → Bool} (blockersAt (sets (a .held .now)) (sets (a .retained .now)) (sets (a .line .now) (a .t)) (a .t)) (barring-place .ensures .0))
 
 pub awaited-spec : {M : Type 1} → statement M
 awaited-spec =

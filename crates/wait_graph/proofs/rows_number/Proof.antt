@@ -31,10 +31,11 @@ row-number-requires c κs = search needs
 
 returns : tie.Need-returns Inv-loop μ-loop
 returns c =
+    let loop-test = c .before .before .before .loop-test in
     let l = c .before .before .before .before .loop in
     let a = c .before .before .before .before .before .args in
     let m = c .before .row-number in
-    (sym (l .inv .1 ∙ numbers-stop (livesIn (a .depth .now)) (a .words .now) (l .i) (a .n) (m .result) (c .before .before .before .loop-test .taken) (sym (m .ensures .0)) (c .if1 .taken)), λ e. absurd (c .if1 .taken e))
+    (sym (l .inv .1 ∙ numbers-stop (livesIn (a .depth .now)) (a .words .now) (l .i) (a .n) (m .result) (loop-test .taken) (sym (m .ensures .0)) (c .if1 .taken)), λ e. absurd (c .if1 .taken e))
 
 add-i : tie.Need-add-i Inv-loop μ-loop
 add-i c = search needs
@@ -44,10 +45,11 @@ loop-less c = search needs
 
 loop-again : tie.Need-loop-again Inv-loop μ-loop
 loop-again c =
+    let loop-test = c .before .before .before .loop-test in
     let l = c .before .before .before .before .loop in
     let a = c .before .before .before .before .before .args in
     let m = c .before .row-number in
-    (search needs, l .inv .1 ∙ numbers-next (livesIn (a .depth .now)) (a .words .now) (l .i) (a .n) (c .before .before .before .loop-test .taken) (sym (m .ensures .0) ∙ c .if1 .left), below-more _ _ (l .inv .2) (m .ensures .1 (c .if1 .left)))
+    (search needs, l .inv .1 ∙ numbers-next (livesIn (a .depth .now)) (a .words .now) (l .i) (a .n) (loop-test .taken) (sym (m .ensures .0) ∙ c .if1 .left), below-more _ _ (l .inv .2) (m .ensures .1 (c .if1 .left)))
 
 returns-2 : tie.Need-returns-2 Inv-loop μ-loop
 returns-2 c =

@@ -82,10 +82,12 @@ add-result-3 c = search needs
 -- src/lib.rt:97:5
 returns : tie.Need-returns
 returns c =
+    let wide = c .before .before .before .before .before .before .wide in
+    let wide2 = c .before .before .before .before .wide2 in
     let a = c .before .before .before .before .before .before .before .before .before .args in
     ap₂ _+_
     (ap₂ _+_
-    (ap₂ (λ (x y : ℕ). x * 16777216 + y * 65536) (c .before .before .before .before .before .before .wide .ensures .0) (c .before .before .before .before .wide2 .ensures .0))
+    (ap₂ (λ (x y : ℕ). x * 16777216 + y * 65536) (wide .ensures .0) (wide2 .ensures .0))
     (ap (λ (x : ℕ). x * 256) (c .before .before .wide3 .ensures .0)))
     (c .wide4 .ensures .0)
     ∙ sym (four-at (4 * a .k) (a .events .now) (omega arith))
