@@ -142,7 +142,7 @@ module _ (g : Geometry) where
   bad-keeps s w k q = rw q
 
   -- an event that is cut: what is due up to the cut is carried out
-  failed-store : (s : StateOf (atomic g)) (w k : ℕ) (o : Option Event) → decode g w ≡ o
+  pub failed-store : (s : StateOf (atomic g)) (w k : ℕ) (o : Option Event) → decode g w ≡ o
       → carried k (dueOf g s o) (s .store) ≡ step (atomic g) s (decode g (cutWord g w k o)) .state .store
   unfolding dueOf
   failed-store s w k none q = carried-none k (s .store) ∙ bad-keeps s w k q

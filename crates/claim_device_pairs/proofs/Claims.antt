@@ -77,7 +77,7 @@ module _ (g : Geometry) where
       rw (decode-encode g x (and-left (fits g x) (allFit g xs) f), and-left (isRestart (some x)) (allRestart xs) e)
       (words-restart xs (and-right (fits g x) (allFit g xs) f) (and-right (isRestart (some x)) (allRestart xs) e))
 
-  list-append : (hs ks : List TornHappening) → allEventsFor g (hs ++ ks) ≡ allEventsFor g hs ++ allEventsFor g ks
+  pub list-append : (hs ks : List TornHappening) → allEventsFor g (hs ++ ks) ≡ allEventsFor g hs ++ allEventsFor g ks
   unfolding allEventsFor
   list-append [] ks = refl
   list-append (h ∷ hs) ks = ap (eventsFor g h ++_) (list-append hs ks) ∙ sym (append-assoc (eventsFor g h) (allEventsFor g hs) (allEventsFor g ks))
@@ -86,17 +86,17 @@ module _ (g : Geometry) where
   map-append [] ys = refl
   map-append (x ∷ xs) ys = ap (λ (l : List ℕ). encode g x ∷ l) (map-append xs ys)
 
-  both-fit : (xs ys : List Event) → allFit g xs ≡ true → allFit g ys ≡ true → allFit g (xs ++ ys) ≡ true
+  pub both-fit : (xs ys : List Event) → allFit g xs ≡ true → allFit g ys ≡ true → allFit g (xs ++ ys) ≡ true
   unfolding allFit
   both-fit [] ys p q = q
   both-fit (x ∷ xs) ys p q = rw (and-left (fits g x) (allFit g xs) p) (both-fit xs ys (and-right (fits g x) (allFit g xs) p) q)
 
 module _ (g : Geometry) (proper : Proper g) (torn : g .tears ≡ true) (store : List ℕ) (sized : length store ≡ pairedPages g .size) where
-  laws : MediumLaws g (pairedPages g)
+  pub laws : MediumLaws g (pairedPages g)
   laws = paired-laws g proper torn
 
   module _ (hs : List TornHappening) (fit : allFit g (allEventsFor g hs) ≡ true) where
-    follow : Follows g proper torn (tornDeviceAfter g store hs) (stateAfter (inPairs g) store (wordsFor g hs))
+    pub follow : Follows g proper torn (tornDeviceAfter g store hs) (stateAfter (inPairs g) store (wordsFor g hs))
     unfolding tornDeviceAfter stateAfter restartedPairs down wordsFor
     follow =
         let F = lives-follows g proper torn (restartedPairs g (pairsOf store)) refl hs fit in
@@ -105,7 +105,7 @@ module _ (g : Geometry) (proper : Proper g) (torn : g .tears ≡ true) (store : 
     medium-is : tornDeviceAfter g store hs .medium ≡ stateAfter (inPairs g) store (wordsFor g hs) .store
     medium-is = follow .medium ∙ ap (λ s. s .store) (follow .memory)
 
-    reached : Reached (inPairs g) laws (stateAfter (inPairs g) store (wordsFor g hs))
+    pub reached : Reached (inPairs g) laws (stateAfter (inPairs g) store (wordsFor g hs))
     unfolding stateAfter
     reached = reached-play (inPairs g) laws (down (pairsOf store)) (reached-start (inPairs g) laws store sized) (wordsFor g hs)
 

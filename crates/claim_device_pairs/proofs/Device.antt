@@ -127,11 +127,11 @@ module _ (g : Geometry) (proper : Proper g) (torn : g .tears ≡ true) where
     pub memory : d .memory ≡ s
     pub medium : d .medium ≡ d .memory .store
 
-  crash-falls : (s : Memory g) → step (inPairs g) s (some crash) .state ≡ down (s .store)
+  pub crash-falls : (s : Memory g) → step (inPairs g) s (some crash) .state ≡ down (s .store)
   unfolding step outcomeBy refusal refusals firstOf act finished
   crash-falls s = refl
 
-  happens-follows : (d : TornDevice g) → d .medium ≡ d .memory .store → (h : TornHappening) → allFit g (eventsFor g h) ≡ true → Follows (happensPairs g d h) (after g (d .memory) (eventsFor g h))
+  pub happens-follows : (d : TornDevice g) → d .medium ≡ d .memory .store → (h : TornHappening) → allFit g (eventsFor g h) ≡ true → Follows (happensPairs g d h) (after g (d .memory) (eventsFor g h))
   unfolding happensPairs eventsFor after restartedPairs allFit wholly
   happens-follows d a (plays e) f = record {
     memory = refl;

@@ -5,13 +5,15 @@ use Prim.Native.Nat.{ℕ}
 use mathlib.Core.Path.{_≡_}
 use mathlib.Core.Bool.{Bool, true, _&&_}
 use mathlib.Core.List.{List, [], _∷_, _++_, map}
+use mathlib.Core.Logic.{_⊎_}
 use mathlib.Core.Option.{Option, none, some}
 use Rattle.rules.specs.Geometry.{Geometry, pageCount, uncut}
 use Rattle.rules.specs.Store.{settled}
 use Rattle.rules.specs.Event.{Event, begin, lock, write, read, commit, abort, crash, recover, prepare, decide, query, encode, fits}
-use Rattle.rules.specs.State.{live, down}
+use Rattle.rules.specs.State.{live, lineOf, down}
+use Rattle.rules.specs.Versions.{else}
 use Rattle.rules.specs.Pairs.{Pairs, shown, mended, OneBadAtMost, pairsOf, flatPairs, inPairs}
-use Rattle.rules.specs.Step.{StateOf, visible, refusal, step}
+use Rattle.rules.specs.Step.{done, StateOf, visible, refusal, step}
 use Rattle.history.specs.History.{History, overlaid}
 use Rattle.history.specs.Demand3.{Surviving-overlay, Independent-of-lost-writes, startOf}
 use Rattle.history.specs.Claims.{seenBy, isRestart, stateAfter, rowsAfter, historyAfter}
@@ -157,6 +159,27 @@ module _ (g : Geometry) where
         (rowsAfter (inPairs g) store (wordsFor hs′)) (settled g (shown (tornDeviceAfter store hs′ .medium)))
     -- No page is lost: from a medium with at most one bad copy in each pair, it always has that.
     pub one-bad : OneBadAtMost g (pairsOf store) → OneBadAtMost g (tornDeviceAfter store hs .medium)
+
+  -- t's versions, settled on the medium after one more happening and any restarts behind it: all of them
+  abbrev pub Settles-all : List ℕ → List TornHappening → ℕ → TornHappening → List TornHappening → Type 0
+  Settles-all store hs t h more = (r : ℕ) → let before = tornDeviceAfter store hs in
+      settled g (shown (tornDeviceAfter store (hs ++ (h ∷ more)) .medium)) r ≡ else (before .memory .version t r) (settled g (shown (before .medium)) r)
+
+  -- none of them: the records are settled as they were
+  abbrev pub Settles-none : List ℕ → List TornHappening → TornHappening → List TornHappening → Type 0
+  Settles-none store hs h more = (r : ℕ) → settled g (shown (tornDeviceAfter store (hs ++ (h ∷ more)) .medium)) r ≡ settled g (shown (tornDeviceAfter store hs .medium)) r
+
+  -- OF EVERY COMMIT on such a device, of t, through any power cuts and recoveries after it, each cut or torn anywhere.
+  pub record Torn-commit-holds (store : List ℕ) (hs : List TornHappening) (t n : ℕ) : Type 0 where
+    -- The power goes behind any number of its copy writes, or within one: all its versions are settled on the medium, or none.
+    pub cut-between : (j : ℕ) (more : List TornHappening) → let h = fails (commit t n) j in allFit (allEventsFor (h ∷ more)) ≡ true → restartingPairs more ≡ true
+        → Settles-all store hs t h more ⊎ Settles-none store hs h more
+    pub cut-within : (j : ℕ) (more : List TornHappening) → let h = tears (commit t n) j in allFit (allEventsFor (h ∷ more)) ≡ true → restartingPairs more ≡ true
+        → Settles-all store hs t h more ⊎ Settles-none store hs h more
+    -- It is played and answers 0, for a top transaction: all its versions are settled on the medium.
+    pub acknowledged : (v : ℕ) → let memory = tornDeviceAfter store hs .memory in
+        step (inPairs g) memory (some (wholly (commit t n))) .answer ≡ done v → lineOf (memory .bearer) t ≡ t ∷ []
+        → (more : List TornHappening) → let h = plays (commit t n) in allFit (allEventsFor (h ∷ more)) ≡ true → restartingPairs more ≡ true → Settles-all store hs t h more
 
 -- opens the definitions of this module: for what is proved by computing
 unfoldable pub open-torn-device : Unit {0}

@@ -1,9 +1,11 @@
 -- What is delivered holds: each field is the theorem of the crate that it is about.
 use mathlib.Core.Path.{_≡_, refl}
 use mathlib.Core.Bool.{Bool, true, false, true≢false}
+use mathlib.Core.Option.{some}
 use mathlib.Core.List.{List}
 use Prim.Native.Nat.{ℕ}
 use lib.ListN.{length}
+use Rattle.rules.specs.Event.{commit, decode}
 use Rattle.rules.specs.Geometry.{Proper, records, wordSize, workSize}
 use Rattle.rules.specs.Form.{Form}
 use Rattle.rules.specs.Step.{StateOf}
@@ -21,9 +23,11 @@ use Rattle.history.proofs.Claims.{reads-overlay, commit-survives}
 use Rattle.history.proofs.Survival.{survives-in-k}
 use Rattle.history.proofs.Editions.{survives-in-k-pairs}
 use Rattle.claim_serial.proofs.Runs.{one-run-at-a-time}
-use Rattle.claim_device.specs.Device.{Happening, Device-holds}
+use Rattle.claim_device.specs.Device.{Happening, Device-holds, Commit-holds}
 use Rattle.claim_device.proofs.Claims.{device-holds}
+use Rattle.claim_device.proofs.Commits.{commit-holds}
 use Rattle.claim_device_pairs.proofs.Claims.{torn-device-pairs}
+use Rattle.claim_device_pairs.proofs.Commits.{torn-commit-pairs}
 use Rattle.depot_agreement.proofs.Agreement.{agreement-edition1}
 use Rattle.audit_rules.proofs.Audits.{audit1-is}
 use Rattle.state_whole.specs.Whole.{Served}
@@ -68,6 +72,12 @@ of-device first e = device-holds (geometryOf first) proper1
 of-device second e = device-holds (geometryOf second) proper2
 of-device paired e = absurd (true≢false e)
 
+of-commits : (k : Edition) → geometryOf k .tears ≡ false → (store : List ℕ) → length store ≡ formOf k .medium .size → (hs : List Happening)
+    → (w t n : ℕ) → decode (geometryOf k) w ≡ some (commit t n) → Commit-holds (geometryOf k) store hs w t
+of-commits first e = commit-holds (geometryOf first) proper1
+of-commits second e = commit-holds (geometryOf second) proper2
+of-commits paired e = absurd (true≢false e)
+
 of-portions : (f : Form) (M : MediumLaws (f .geometry) (f .medium)) → Served f → records (f .geometry) ≡ 16 → wordSize (f .geometry) ≡ 4 → workSize (f .geometry) ≡ workBytes
     → ((sound : StateOf f → Bool) → Takes f sound → (store : List ℕ) (ls : List Lent) (work answers : List ℕ) → length store ≡ f .medium .size → AllFit f ls
     → Fits f (record { events = allEvents ls; work = work; answers = answers }) → As-whole f sound store ls work answers)
@@ -85,6 +95,7 @@ of-torn-pages = record {
   mend-mend = mend-mend;
   one-bad-kept = one-bad-kept geometryPairs proper-pairs refl;
   device = torn-device-pairs;
+  commit-torn = torn-commit-pairs;
   torn-rows = torn-hold;
   rows = pairs-hold;
 }
@@ -94,6 +105,7 @@ pub delivered : Delivered
 delivered = record {
   runs = of-runs;
   device = of-device;
+  commit-on-device = of-commits;
   portions = of-portions edition1 (laws first) (served-of first) (first-in .many) bytes1 (work-size 16 geometry1 (first-in .many) refl) portions-whole-edition1;
   portions-torn = of-portions editionPairs (laws paired) (served-of paired) (paired-in .many) bytes-pairs (work-size 16 geometryPairs (paired-in .many) refl) portions-whole-pairs;
   torn-pages = of-torn-pages;

@@ -3,12 +3,12 @@
 use mathlib.Core.Path.{_≡_}
 use mathlib.Core.Bool.{true, false}
 use mathlib.Core.List.{List}
-use mathlib.Core.Option.{Option}
+use mathlib.Core.Option.{Option, some}
 use Prim.Native.Nat.{ℕ}
 use lib.Dec.{T}
 use lib.ListN.{length}
 use Rattle.rules.specs.Form.{Form}
-use Rattle.rules.specs.Event.{Event}
+use Rattle.rules.specs.Event.{Event, commit, decode}
 use Rattle.rules.specs.State.{down}
 use Rattle.rules.specs.Step.{StateOf, refused, step}
 use Rattle.rules.specs.Run.{play}
@@ -19,8 +19,8 @@ use Rattle.history.specs.Demand3.{Demand-3-holds}
 use Rattle.history.specs.Claims.{Reads-overlay, Commit-survives}
 use Rattle.history.specs.Survival.{Survives-in-k}
 use Rattle.claim_serial.specs.OneAtATime.{One-run-at-a-time-holds}
-use Rattle.claim_device.specs.Device.{Happening, Device-holds}
-use Rattle.claim_device_pairs.specs.Device.{TornHappening, allEventsFor, allFit, Torn-device-holds}
+use Rattle.claim_device.specs.Device.{Happening, Device-holds, Commit-holds}
+use Rattle.claim_device_pairs.specs.Device.{TornHappening, allEventsFor, allFit, Torn-device-holds, Torn-commit-holds}
 use Rattle.depot_agreement.specs.Agreement.{Agreement, Fresh}
 use Rattle.audit_rules.specs.Audit.{audit1}
 use Rattle.audit_rules.specs.Walk.{plainAudit}
@@ -71,6 +71,8 @@ pub record Promised-of-torn-pages : Type 0 where
       → (ws : List ℕ) → OneBadAtMost geometryPairs (play editionPairs (down (pairsOf store)) ws .state .store)
   -- Wherever the power goes among copy writes, between two or within one, the medium is what the rules' tears leave.
   pub device : (store : List ℕ) → length store ≡ 2178 → (hs : List TornHappening) → allFit geometryPairs (allEventsFor geometryPairs hs) ≡ true → Torn-device-holds geometryPairs store hs
+  -- A commit on it: all of it or nothing, wherever the power goes, through any cuts and tears after it; all of it once it is answered 0.
+  pub commit-torn : (store : List ℕ) → length store ≡ 2178 → (hs : List TornHappening) → allFit geometryPairs (allEventsFor geometryPairs hs) ≡ true → (t n : ℕ) → Torn-commit-holds geometryPairs store hs t n
   -- Each tear at each write of a commit and of a recovery, and torn again, by computing.
   pub torn-rows : T (allHold editionPairs commitRows) × T (allHold editionPairs wholeRows) × T (allHold editionPairs recoveryRows) × T (allHold editionPairs againRows)
   pub rows : T (allHold editionPairs mendRows) × T (allSo editionPairs calmRows) × AllHold editionPairs numbersPairs trialsOfPairs × AllGo editionPairs numbersPairs playedPairs
@@ -81,6 +83,9 @@ pub record Delivered : Type 1 where
   pub runs : (k : Edition) → Promised-of-runs (formOf k)
   -- of a medium that is written page by page while the power may go
   pub device : (k : Edition) → geometryOf k .tears ≡ false → (store : List ℕ) → length store ≡ formOf k .medium .size → (hs : List Happening) → Device-holds (geometryOf k) store hs
+  -- A commit on it: all of it or nothing, wherever the power goes; all of it once it is answered 0.
+  pub commit-on-device : (k : Edition) → geometryOf k .tears ≡ false → (store : List ℕ) → length store ≡ formOf k .medium .size → (hs : List Happening)
+      → (w t n : ℕ) → decode (geometryOf k) w ≡ some (commit t n) → Commit-holds (geometryOf k) store hs w t
   pub portions : Promised-of-portions edition1
   pub portions-torn : Promised-of-portions editionPairs
   pub torn-pages : Promised-of-torn-pages
