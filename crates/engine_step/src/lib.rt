@@ -262,7 +262,8 @@ fn named_event(
     }
 }
 
-// One event: the only place where all the arrays meet. A decision has two calls, so that the compiler leaves it out of the loop over the events.
+// One event: the refusals that several kinds share, in the order of the papers, and then the function of its kind. A decision has two calls, so that the compiler
+// leaves it out of the loop over the events.
 pub fn step(
     up: &mut u8,
     parent: &mut [u8; 24],
