@@ -1,5 +1,5 @@
 -- The auditor's tables: for each event the transaction that owns it, for each transaction its parent and its fate, for each number who bears it.
-use Rattle.std.specs.Prelude.{ℕ, ◌+◌, ◌-◌, ◌<◌, ◌≤◌, ◌≡◌, Bool, not, cond, ◌&&◌, ◌||◌, List, ◌≢◌, length, get_or}
+use Rattle.std.specs.Prelude.{ℕ, ◌+◌, ◌<◌, ◌≤◌, ◌≡◌, Bool, not, cond, ◌&&◌, ◌||◌, List, ◌≢◌, length, get_or}
 use Rattle.laws.specs.Tests.{same, under}
 use Rattle.history.specs.History.{climbs}
 use Rattle.audit_rules.specs.Plain.{Ledger}

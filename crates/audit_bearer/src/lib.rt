@@ -1,5 +1,7 @@
 // Who bears which transaction number, and what becomes of transactions.
 //   bearer[t]   the transaction that bears number t; 0 where it is free
+#![tactic(auto)]
+
 ghost use Rattle.std.specs.Prelude.{◌≡◌, cond, not, ◌&&◌, ℕ, ◌-◌, ◌<◌, ◌≤◌, length, get_or, set};
 ghost use Rattle.laws.specs.Tests.{same};
 ghost use Rattle.laws.specs.Counting.{any, lowest};

@@ -5,6 +5,8 @@
 //   start, store                                the bytes of a store: before the first event, and as they are due by now
 //   me, t                                       the transaction whose event it is, as counted in the tables, and the number that it bears
 // A contract says of the tables `before` the event and `after` it that the event is answered and told as it is due.
+#![tactic(auto)]
+
 ghost use Rattle.std.specs.Prelude.{◌≡◌, Bool, true, false, cond, not, ◌||◌, List, ◌≢◌, ℕ, ◌+◌, ◌-◌, ◌*◌, ◌<◌, ◌≤◌, length, get_or, set};
 ghost use Rattle.std.proofs.Math.Option.{some};
 ghost use Rattle.rules.specs.Store.{Page};

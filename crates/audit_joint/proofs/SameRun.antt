@@ -1,6 +1,6 @@
 -- THE RUN IS THE SAME WITH PREPARE, DECIDE AND QUERY AND WITHOUT, for a list that has none of them and a start store in which nothing is prepared.
 use mathlib.Core.Path.{◌≡◌, refl, ap, ap₂, ◌∙◌}
-use mathlib.Core.Bool.{true, false, true≢false}
+use mathlib.Core.Bool.{false, true≢false}
 use mathlib.Core.List.{List, [], ◌∷◌, ◌++◌}
 use mathlib.Core.Option.{Option, none, some}
 use Prim.Native.Nat.{ℕ, zero, suc, ◌*◌}

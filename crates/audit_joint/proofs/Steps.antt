@@ -3,11 +3,11 @@ use mathlib.Core.Path.{◌≡◌, refl, sym, ap, ◌∙◌}
 use mathlib.Core.Bool.{Bool, true, false, not, cond, ◌&&◌, ◌||◌, true≢false, false≢true, and-false, and-true}
 use mathlib.Core.List.{List, [], ◌∷◌}
 use mathlib.Core.Option.{Option, none, some}
-use Prim.Native.Nat.{ℕ, zero, suc}
-use Rattle.laws.specs.Tests.{same, under, open_tests}
+use Prim.Native.Nat.{ℕ, suc}
+use Rattle.laws.specs.Tests.{same, under}
 use Rattle.rules.specs.Geometry.{open_geometry}
 use Rattle.rules.specs.Store.{Page, Pages, Prepared, read_commit, read_prepared, identity_in, is_prepared, is_damaged, damaged, open_store}
-use Rattle.rules.specs.Event.{Event, Uses, Fields, begin, lock, write, read, commit, abort, crash, recover, prepare, decide, query, fields, row, no_kind, uses, uses_of, limits, limit_of, offset_limit_of, well_formed, event_of, decode}
+use Rattle.rules.specs.Event.{Event, Uses, Fields, begin, lock, write, read, commit, abort, crash, recover, prepare, decide, query, fields, limits, limit_of, offset_limit_of, well_formed, event_of, decode}
 use Rattle.rules.specs.State.{State, line_of, live}
 use Rattle.rules.specs.Locks.{grantable}
 use Rattle.rules.specs.Versions.{is_some}
@@ -20,23 +20,7 @@ use Rattle.rules.proofs.Plain.{none-prepared, none-pending, plain_damaged}
 use Rattle.audit_rules.specs.Audit.{is_two_phase}
 use Rattle.audit_rules.proofs.Free.{is_plain, Free, none-reserved, not-busy}
 use Rattle.audit_joint.specs.Without.{geometry_without, edition1_without}
-
--- the table of used fields differs at kinds 9 to 11 only
-uses_same : (n : ℕ) → (under 8 n && under n 12) ≡ false → uses_of geometry_without n ≡ uses_of geometry1 n
-unfolding uses_of uses row no_kind open_tests
-uses_same zero e = refl
-uses_same (suc zero) e = refl
-uses_same (suc (suc zero)) e = refl
-uses_same (suc (suc (suc zero))) e = refl
-uses_same (suc (suc (suc (suc zero)))) e = refl
-uses_same (suc (suc (suc (suc (suc zero))))) e = refl
-uses_same (suc (suc (suc (suc (suc (suc zero)))))) e = refl
-uses_same (suc (suc (suc (suc (suc (suc (suc zero))))))) e = refl
-uses_same (suc (suc (suc (suc (suc (suc (suc (suc zero)))))))) e = refl
-uses_same (suc (suc (suc (suc (suc (suc (suc (suc (suc zero))))))))) e = absurd (true≢false e)
-uses_same (suc (suc (suc (suc (suc (suc (suc (suc (suc (suc zero)))))))))) e = absurd (true≢false e)
-uses_same (suc (suc (suc (suc (suc (suc (suc (suc (suc (suc (suc zero))))))))))) e = absurd (true≢false e)
-uses_same (suc (suc (suc (suc (suc (suc (suc (suc (suc (suc (suc (suc n)))))))))))) e = refl
+use Rattle.audit_joint.proofs.PlainKinds.{uses_same}
 
 -- the test of the fields, by what the kind uses
 abbrev formed : Fields → Uses → Bool

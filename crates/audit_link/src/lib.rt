@@ -1,6 +1,8 @@
 // What has become of the transactions of a history. Transactions are counted from 1 as they begin; 0 is none.
 //   parent[i]   its parent, begun before it; 0 for a top one
 //   fate[i]     0 ended; 1 ended, and its locks went up; 2 a child that committed; 3 a top one that survives; 32 + t: it bears the number t
+#![tactic(auto)]
+
 ghost use Rattle.std.specs.Prelude.{◌≡◌, cond, not, ◌&&◌, ◌+◌, ◌-◌, ◌<◌, ◌≤◌};
 ghost use Rattle.laws.specs.Tests.{same};
 ghost use Rattle.history.specs.History.{climbs, is_committed};

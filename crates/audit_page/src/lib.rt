@@ -1,4 +1,6 @@
 // The auditor's own page writes: of a top transaction's commit, with pages found in the history, and of a recovery, each cut at a count.
+#![tactic(auto)]
+
 ghost use Rattle.std.specs.Prelude.{◌≡◌, true, false, cond, List, [], ◌∷◌, ◌++◌, ℕ, ◌+◌, ◌*◌, ◌<◌, ◌≤◌, length, get_or};
 ghost use Rattle.laws.specs.Tests.{same};
 ghost use Rattle.rules.specs.Geometry.{records};
@@ -25,7 +27,7 @@ pub struct Made {
 }
 
 // The same of a commit, with how many records it changed.
-#[derive(Drop)]
+#[derive(Clone, Copy)]
 pub struct Written {
     pub made: u8,
     pub crashed: bool,

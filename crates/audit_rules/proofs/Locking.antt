@@ -200,7 +200,7 @@ module _ {b : Bearers} {h : History} {root : ℕ → Root} (T : Table b h root) 
         w = T.who i t q
 
         go : Is (dead t) → φ (at t) ≡ stand (φ (lroot (h.parent i))) (passed' i) (cond (who i) new (bearing t))
-        go (yes' d) = rw (← w.0, picks t w.1, d) (goes t w.1 d ∙ sym (over_stand _ _ new over))
+        go (yes' d) = rw (← w.0, picks t w.1, d) (goes t w.1 d ∙ sym (over_stand (φ (lroot (h.parent (h.bearer t)))) (passed' (h.bearer t)) new over))
         go (no' d) = rw (← w.0, picks t w.1, d) (stays t d)
     ended_one i committed q = rw (other_passed i (rw q)) (push (passed i) _)
     ended_one i stored q = rw (other_passed i (rw q)) (push (passed i) _)

@@ -1,6 +1,8 @@
 // The history's accepted locks and writes, looked up event by event.
 //   events     the event words
 //   owner[k]   the transaction that event k belongs to, where it is an accepted lock or write; else 0
+#![tactic(auto)]
+
 ghost use Rattle.std.specs.Prelude.{◌≡◌, true, cond, not, ◌&&◌, ◌+◌, ◌*◌, ◌<◌, ◌≤◌, length, get_or};
 ghost use Rattle.laws.specs.Tests.{same};
 ghost use Rattle.leaf_event.specs.Flags.{flags};

@@ -1,1 +1,2 @@
 // Rows of the auditor, decided by computing. No code.
+#![tactic(auto)]

@@ -1,4 +1,6 @@
 // The auditor's verdict: from event to event what is due against what was answered, then page by page.
+#![tactic(auto)]
+
 ghost use Rattle.std.specs.Prelude.{◌≡◌, true, false, cond, not, ◌&&◌, ◌+◌, ◌-◌, ◌*◌, ◌<◌, ◌≤◌, length, get_or};
 ghost use Rattle.laws.specs.Tests.{same, under};
 ghost use Rattle.laws.specs.Counting.{lowest};

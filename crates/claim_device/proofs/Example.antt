@@ -1,7 +1,7 @@
 -- A refresh of two records on edition 1's device: its plan; the power goes among its writes; and the same pages sent in page order, which is the accident.
 use mathlib.Core.Path.{◌≡◌, refl}
 use mathlib.Core.Bool.{true, false}
-use mathlib.Core.List.{List, [], ◌∷◌, ◌++◌, map}
+use mathlib.Core.List.{List, [], ◌∷◌, ◌++◌}
 use Prim.Native.Nat.{ℕ}
 use lib.ListN.{replicate}
 use Rattle.laws.specs.Tests.{open_tests}

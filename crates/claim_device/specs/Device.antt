@@ -1,7 +1,7 @@
 -- A DEVICE: a medium of pages, and a machine that plays events on a copy of its own in memory. What an event writes is programmed on the medium
 -- page by page, and the power may go after any of these writes, before the first of them, and between two events. What the medium owes: a page
 -- write is carried out wholly or not at all, and in order.
-use Rattle.std.specs.Prelude.{ℕ, ◌-◌, ◌≡◌, Bool, true, ◌&&◌, List, [], ◌∷◌, ◌++◌, ◌⊎◌, length}
+use Rattle.std.specs.Prelude.{ℕ, ◌≡◌, Bool, true, ◌&&◌, List, [], ◌∷◌, ◌++◌, ◌⊎◌, length}
 use Rattle.std.proofs.Math.Option.{Option, none, some}
 use Rattle.rules.specs.Geometry.{Geometry, page_count}
 use Rattle.rules.specs.Store.{Pages, pages_of, flat, settled}

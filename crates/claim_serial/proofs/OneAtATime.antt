@@ -66,12 +66,12 @@ module _ (f : Form) where
   scripted_fits : (target : ℕ → Page) (u : StateOf f) (name : ℕ → ℕ) (xs : List Entry) → Replayed f target u name xs → AllFit g (script f u name xs)
   unfolding script
   scripted_fits target u name [] R = tt
-  scripted_fits target u name (x ∷ xs) R = (R.0, scripted_fits target _ _ xs R.2)
+  scripted_fits target u name (x ∷ xs) R = (R.0, scripted_fits target (step f u (some (again f name x.event))).state _ xs R.2)
 
   script-length : (u : StateOf f) (name : ℕ → ℕ) (xs : List Entry) → length (script f u name xs) ≡ length xs
   unfolding script
   script-length u name [] = refl
-  script-length u name (x ∷ xs) = ap suc (script-length _ _ xs)
+  script-length u name (x ∷ xs) = ap suc (script-length (step f u (some (again f name x.event))).state _ xs)
 
   -- over a damaged commit page nothing happens
   module _ (d : f.medium.Store) (bad : f.medium.damaged d ≡ true) where

@@ -83,7 +83,7 @@ module _ (f : Form) (L : MediumLaws f.geometry f.medium) (final : ℕ → Bool) 
     may_write : {d : f.medium.Store} {pick : ℕ → Bool} {v : StateOf f} {m : ℕ → ℕ} (M : Mirror f d pick s v m) (x : ℕ) → pick x ≡ true → (changes f s x && busy f s) ≡ false → Lean f h d s.store
         → (changes f v (m x) && busy f v) ≡ false
     unfolding changes
-    may_write {d} {pick} {v} {m} M x px clear (inl e) = unfold busy is_busy in rw (M.Store-is, e) (and-false (changes f v (m x)))
+    may_write {d} {pick} {v} {m} M x px clear (inl e) = unfold busy is_busy in rw (M.store_is, e) (and-false (changes f v (m x)))
     may_write {d} {pick} {v} {m} M x px clear (inr e) = rw none_there
       where
         none_there : changes f v (m x) ≡ false
@@ -166,20 +166,29 @@ module _ (f : Form) (L : MediumLaws f.geometry f.medium) (final : ℕ → Bool) 
         waits : awaits (h.fate w) ≡ true
         waits = only w ∙ same_refl w
 
+        alone : (w : ℕ) (d : Bool) (k i : ℕ) (a : Answer) → final w ≡ true → top_of h w ≡ w → order final (entry_of h (decide d k i) a w ∷ []) ≡ w ∷ []
+        alone w d k i a q c = unfold order is_last entry_of closes in rw (q, c, same_refl w)
+
         placed : order final (entry n h (some (decide d k i)) o.answer) ≡ w ∷ []
-        placed = ap (order final) eq ∙ (unfold order is_last entry_of closes in rw (plays-w, own_climbed h w p, same_refl w))
+        placed = ap (order final) eq ∙ alone w d k i o.answer plays-w (own_climbed h w p)
 
         -- the decision, in a state where the same is prepared
-        decided : (v : StateOf f) (m : ℕ → ℕ) → Open f L v → ((c : ℕ) → live v c ≡ false) → ((r : ℕ) → now f v r ≡ now f s r) → prepared_in f v ≡ prepared_in f s → ((r : ℕ) → pending_in f v r ≡ pending_in f s r)
-            → Replayed f target v m (X ∷ in_turn parts tops)
-        decided v m O' idle' nw' identity pages = unfold entry_of naming is_read in
+        decided_by : (w : ℕ) (d : Bool) (k i : ℕ) (o : OutcomeOf f) → prepared_in f s ≡ some i → ((r : ℕ) → now f o.state r ≡ cond d (else (pending_in f s r) (now f s r)) (now f s r))
+            → awaits ((told n h (some (decide d k i)) o.answer).fate 0) ≡ false → Held f.geometry (some (decide d k i)) → ReplaysFrom o.state (told n h (some (decide d k i)) o.answer) target (in_turn parts tops)
+            → (v : StateOf f) (m : ℕ → ℕ) → Open f L v → ((c : ℕ) → live v c ≡ false) → ((r : ℕ) → now f v r ≡ now f s r) → prepared_in f v ≡ prepared_in f s → ((r : ℕ) → pending_in f v r ≡ pending_in f s r)
+            → Replayed f target v m (entry_of h (decide d k i) o.answer w ∷ in_turn parts tops)
+        decided_by w d k i o here now_is free fit next v m O' idle' nw' identity pages = unfold entry_of naming is_read in
             let D = follow_decide f L v O' m d k i (identity ∙ here) fit in
             let fit' = fit_decide f L v O' m d k i (identity ∙ here) fit in (
               fit',
               (D.right, λ z. absurd (false≢true z)),
               next (step f v (some (again f m (decide d k i)))).state (record { reached = reached_event f L O'.reached (again f m (decide d k i)) fit'; ready = D.still_up }) (D.idle idle')
-                  (λ r. D.now_is r ∙ ap₂ (λ (q : Option Page) (x : Page). cond d (else q x) x) (pages r) (nw' r) ∙ sym (now_is r)) (inl (none_after 0, D.vacant)) m,
+                  (λ r. D.now_is r ∙ ap₂ (λ (q : Option Page) (x : Page). cond d (else q x) x) (pages r) (nw' r) ∙ sym (now_is r)) (inl (free, D.vacant)) m,
             )
+
+        decided : (v : StateOf f) (m : ℕ → ℕ) → Open f L v → ((c : ℕ) → live v c ≡ false) → ((r : ℕ) → now f v r ≡ now f s r) → prepared_in f v ≡ prepared_in f s → ((r : ℕ) → pending_in f v r ≡ pending_in f s r)
+            → Replayed f target v m (X ∷ in_turn parts tops)
+        decided = decided_by w d k i o here now_is (none_after 0) fit next
 
         by : Same w 0 → Even h s u → Replayed f target u name (pend w ++ (X ∷ in_turn parts tops))
         by (is z _ _) (inl e) = clash (ap (λ (j : ℕ). awaits (h.fate j)) (sym z) ∙ waits) e.0
@@ -272,7 +281,7 @@ module _ (f : Form) (L : MediumLaws f.geometry f.medium) (final : ℕ → Bool) 
           )
         where
           idle_clear : Mirror f u.store (sv f φ s N.x) s v m → (changes f v (m N.x) && busy f v) ≡ false
-          idle_clear Z = unfold changes busy is_busy in rw (Z.Store-is, vacant-u) (and-false (any (records f.geometry) (λ r. is_some (v.version (m N.x) r))))
+          idle_clear Z = unfold changes busy is_busy in rw (Z.store_is, vacant-u) (and-false (any (records f.geometry) (λ r. is_some (v.version (m N.x) r))))
 
   its_own : (h : History) (i : ℕ) (e : Event) (a : Answer) → top_of h i ≡ i → final i ≡ true → mine final i (entry_of h e a i ∷ []) ≡ entry_of h e a i ∷ []
   unfolding mine entry_of
@@ -373,7 +382,7 @@ module _ (f : Form) (L : MediumLaws f.geometry f.medium) (final : ℕ → Bool) 
       let gone : is_over (B.root' v) ≡ true = ap is_over (B.turned v le ∙ ap (turn f s (decode g w) a) (root_waits H.table v y)) ∙ over in
       ap₂ ◌++◌ (ap (pend v ++◌) (ap (mine final v) eq ∙ its_own h v ev a (own_climbed h v p) plays_v))
       (over_entries f L final ws A₁ B.tells M.holder v gone (omega (arith, le, grown))) ∙ join_nil _)
-      (λ v O' idle' nw' E' name'. one_by_one_lem ws A₁ B.tells M.holder k₁ more
+      (λ v O' idle' nw' E' name'. one_by_one_lem {s = s₁} {h = h₁} {root = B.root'} ws A₁ B.tells M.holder k₁ more
       (λ i b. ap₂ ◌++◌ (unborn i (omega (arith, b, grown))) (others i (unborn_apart f L final s H.table i (omega (arith, b, grown))) (unborn_apart f L final s₁ B.tells.table i b)
       (λ z. clash z (unborn_waits f L final s H.table i (omega (arith, b, grown))))))
       (λ y. ap₂ ◌++◌ (None-first (M.back y)) (others 0 (λ t l. bearer_some H.table t (unfold live in l)) (λ t l. bearer_some B.tells.table t (unfold live in l)) (λ z. y)))

@@ -233,4 +233,4 @@ module _ (f : Form) (L : MediumLaws f.geometry f.medium) (final : ℕ → Bool) 
       mine_join final i (entry_for f h s w) _
       ∙ ap₂ ◌++◌ (other_step f final i R.sound H.table W (over_apart s H.table i e) (decode f.geometry w)
       (record { sound = R₁.sound; root' = A.root'; table = A.tells.table; apart = over_apart (step_of f s w).state A.tells.table i k; spared = λ z. clash z (over_waits s H.table i e) }))
-      (over_entries ws R₁ A.tells M.holder i k (omega (arith, more, b)))
+      (over_entries {s = (step_of f s w).state} {h = told_of f h s w} {root = A.root'} ws R₁ A.tells M.holder i k (omega (arith, more, b)))

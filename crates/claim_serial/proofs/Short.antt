@@ -147,7 +147,7 @@ module _ (final : ℕ → Bool) where
         subst⁻¹ Once (order_join final (entry_for f h s w) xs)
         (once_turn A.sound H.table (decode g w) (step_of f s w) (order final xs)
         (ends_step f L A.sound H.table W φ F₁.on_settled F₁.on_lost final (first_plays f L final s h (w ∷ ws) k) (decode g w) (held_word g w) fin finw)
-        (once_order ws A₁ B.tells M.holder (finals_rest f L final s h w ws k))
+        (once_order {s = (step_of f s w).state} {h = told_of f h s w} {root = B.root'} ws A₁ B.tells M.holder (finals_rest f L final s h w ws k))
         (λ x al st.
         let known : h.bearer x ≤ h.begun = bearer_known H.table x (unfold live in al) in
         let gone : is_over (B.root' (h.bearer x)) ≡ true = ap is_over (B.turned (h.bearer x) known ∙ ap (turn f s (decode g w) (step_of f s w).answer) (root_bearer H.table x (unfold live in al)) ∙ st) in

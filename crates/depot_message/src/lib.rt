@@ -1,4 +1,6 @@
 // What depot and gateway tell each other, for an identity: the depot's next state and its reply by a constant table, and the gateway's vote.
+#![tactic(auto)]
+
 ghost use Rattle.std.specs.Prelude.{◌≡◌, ◌+◌, ◌*◌, ◌<◌};
 ghost use Rattle.depot_message.specs.Codes.{depot_left};
 ghost use Rattle.depot_message.specs.Votes.{vote_on, said};

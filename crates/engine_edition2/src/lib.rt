@@ -1,5 +1,7 @@
 // A list of edition 2's events over the engine, from the start, with an answer each. A crate beside edition 1's portions, for an archive of its own: where
 // `step` is called once, the compiler makes the numbers of the edition constants all the way down.
+#![tactic(auto)]
+
 ghost use Rattle.std.specs.Prelude.{◌≡◌, ◌*◌, ◌/◌, ◌≤◌, length};
 ghost use Rattle.engine_edition2.specs.Lists.{EndedAs};
 

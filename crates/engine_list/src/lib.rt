@@ -1,5 +1,7 @@
 // A list of events over the engine, with an answer each: the one loop of every edition. Whoever calls it passes the edition's numbers as constants, and in
 // one place of each archive, so that `step` has one call site there and the compiler makes the engine of that edition.
+#![tactic(auto)]
+
 ghost use Rattle.std.specs.Prelude.{◌≡◌, ◌+◌, ◌*◌, ◌/◌, ◌<◌, ◌≤◌, length, take, drop};
 ghost use Rattle.laws.specs.Bytes.{number};
 ghost use Rattle.rules.specs.Geometry.{word_size};

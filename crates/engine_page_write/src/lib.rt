@@ -1,6 +1,8 @@
 // The writes of an event one by one, before it is played: which of them a number names is told from the map of the records that it changes. For any
 // edition: there are `records` records, `joint` tells whether transactions can be prepared, and `tears` whether pages can tear: then every page write is two
 // copy writes.
+#![tactic(auto)]
+
 ghost use Rattle.std.specs.Prelude.{◌≡◌, Bool, true, false, cond, List, ℕ, ◌+◌, ◌*◌, ◌^◌, ◌<◌, ◌≤◌, length, get_or};
 ghost use Rattle.std.proofs.Math.Option.{some};
 ghost use Rattle.laws.specs.Counting.{those};

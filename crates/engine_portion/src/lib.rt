@@ -1,5 +1,7 @@
 // A portion, a list of events played on the state that the last one left; the state between two portions; and the start. Edition 1, on atomic pages or on
 // pages that can tear.
+#![tactic(auto)]
+
 ghost use Rattle.std.specs.Prelude.{◌≡◌, Bool, List, ℕ, ◌*◌, ◌/◌, ◌≤◌, length};
 ghost use Rattle.rules.specs.State.{down};
 ghost use Rattle.rules.specs.Editions.{Edition, geometry_of, form_in, InNumbers, edition_of, work_bytes};
@@ -15,7 +17,7 @@ const WORD: usize = 4;
 // The engine's state between two portions, 468 bytes with no padding; all zeros is the start. A caller keeps it and lends it: the order of the fields
 // is final.
 #[repr(C)]
-#[derive(Drop)]
+#[derive(Clone, Copy)]
 pub struct Engine {
     pub line: [u32; 24],
     pub held: [u32; 32],

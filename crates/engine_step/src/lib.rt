@@ -4,6 +4,8 @@
 // The functions are cut in the order of the refusals: `step` has those that come before a transaction is looked up, 1 for a bad event and 2 while down;
 // `named_event` has 5, for a transaction that isn't live, and 14, for an event at a record of a transaction with a live child; `end_event` and
 // `record_event` have what is left, by kind.
+#![tactic(auto)]
+
 ghost use Rattle.std.specs.Prelude.{◌≡◌, Bool, true, ◌≢◌, ℕ, ◌+◌, ◌*◌, ◌<◌, ◌≤◌, length, get_or};
 ghost use Rattle.rules.specs.Editions.{Edition, geometry_of, form_in, InNumbers, edition_of};
 ghost use Rattle.leaf_number.specs.Named.{transaction_of, record_of};

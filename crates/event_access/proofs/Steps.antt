@@ -3,7 +3,7 @@ use mathlib.Core.Path.{◌≡◌, refl, sym, ap, ap₂, subst, subst⁻¹, ◌�
 use mathlib.Core.Bool.{Bool, true, false, cond, or-true, and-false}
 use mathlib.Core.List.{List}
 use mathlib.Core.Option.{none, some}
-use Prim.Native.Nat.{ℕ, ◌-◌, ◌*◌, ◌<◌}
+use Prim.Native.Nat.{ℕ, ◌*◌, ◌<◌}
 use native.Mathlib.Omega.{arith}
 use lib.ListN.{length, get_or, set}
 use Rattle.laws.specs.Functions.{updated}
@@ -11,13 +11,13 @@ use Rattle.laws.proofs.Tests.{same_cases, Same, is, isnt, Is, is_cases, yes', no
 use Rattle.laws.proofs.Updated.{updated_same, updated_other}
 use Rattle.rules.specs.Store.{Page, named, pages_of}
 use Rattle.rules.specs.Event.{Access, lock, write, read}
-use Rattle.rules.specs.State.{line_of, live}
+use Rattle.rules.specs.State.{line_of}
 use Rattle.rules.specs.Locks.{grantable}
 use Rattle.rules.specs.Versions.{with_version}
 use Rattle.rules.specs.Form.{Form}
 use Rattle.rules.specs.Geometry.{Geometry, records}
 use Rattle.rules.specs.Step.{refused, reserved, number_of, value_of, locked, wrote, finished, visible}
-use Rattle.rules.specs.Editions.{depths, form_in}
+use Rattle.rules.specs.Editions.{form_in}
 use Rattle.leaf_set.specs.Sets.{sets}
 use Rattle.state_array.specs.View.{Owners, any_mode, write_mode, bearers_of, modes_of, Nested, slot, versions_of, seen}
 use Rattle.state_array.specs.Changes.{barring, open_to, joined, joined_for}

@@ -1,5 +1,7 @@
 // Locks, reads, writes and aborts, in place. The engine's state is a few arrays (crate state_whole tells what each holds); each function is lent those that it
 // needs. It promises, for every edition, on atomic pages or pages that can tear, and for any content of the other arrays, what the rules say of its event.
+#![tactic(auto)]
+
 ghost use Rattle.std.specs.Prelude.{◌≡◌, Bool, List, ℕ, ◌+◌, ◌*◌, ◌<◌, ◌≤◌, length, get_or, take, drop};
 ghost use Rattle.rules.specs.Event.{lock, write, read, abort};
 ghost use Rattle.rules.specs.Editions.{Edition, geometry_of, form_in, InNumbers};

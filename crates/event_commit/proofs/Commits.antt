@@ -14,7 +14,7 @@ use Rattle.laws.proofs.Tests.{same_cases, Same, is, isnt, same_refl, same-eq, ne
 use Rattle.laws.proofs.Booleans.{clash, or_cases, both, not-true, not-false}
 use Rattle.rules.specs.Store.{Page, pages_of, map_of}
 use Rattle.rules.specs.Event.{Event, commit, prepare}
-use Rattle.rules.specs.State.{Bearers, line_from, line_of, mem, live, down}
+use Rattle.rules.specs.State.{Bearers, line_from, line_of, mem, down}
 use Rattle.rules.specs.Versions.{also, handed_up, dropped}
 use Rattle.rules.specs.Commit.{Cut, prepare_at}
 use Rattle.rules.specs.Step.{done, cut, has_child, ended, passed, retaining, concluded, number_of, value_of, changes, busy, commits_top, commits_child, commits, step}

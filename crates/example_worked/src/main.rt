@@ -1,4 +1,7 @@
 // Document 01's list in full, played on a fresh store: each event with its answer, then how the commit page begins and the records, in hex.
+#![tactic(auto)]
+
+use std::io;
 
 // The sixteen event words.
 const EVENTS: [u8; 64] = [
@@ -8,55 +11,54 @@ const EVENTS: [u8; 64] = [
     0x80, 0x00, 0x3F, 0x00, 0x1F, 0x80, 0x00, 0x00, 0x20, 0x18, 0x00, 0x00, 0x40, 0x18, 0x80, 0x00,
 ];
 
-fn wide(x: u8) -> u64 {
-    x as u64
-}
-
-fn print_bytes(bytes: &[u8]) {
-    for i in 0..bytes.len() {
-        io::print_hex(1, wide(bytes[i]), 2);
+// The bytes in hex.
+fn print_bytes(rt: &impl Print, bytes: &[u8]) -> io::Result<()> {
+    for byte in bytes {
+        print!(rt; "{byte:02x}")?;
     }
+    Ok(())
 }
 
 // The bytes from `at` to `end`, if there are so many.
-fn print_part(bytes: &[u8], at: usize, end: usize) {
+fn print_part(rt: &impl Print, bytes: &[u8], at: usize, end: usize) -> io::Result<()> {
     if end <= bytes.len() {
         if at <= end {
-            print_bytes(&bytes[at..end]);
+            print_bytes(rt, &bytes[at..end])?;
         }
     }
+    Ok(())
 }
 
-fn print_events(events: &[u8], answers: &[u8]) {
+fn print_events(rt: &impl Print, events: &[u8], answers: &[u8]) -> io::Result<()> {
     for k in 0..16usize {
-        print_part(events, 4 * k, 4 * k + 4);
-        io::write_all(1, b" ");
-        print_part(answers, 2 * k, 2 * k + 2);
-        io::write_all(1, b"\n");
+        print_part(rt, events, 4 * k, 4 * k + 4)?;
+        print!(rt; " ")?;
+        print_part(rt, answers, 2 * k, 2 * k + 2)?;
+        println!(rt)?;
     }
+    Ok(())
 }
 
-fn print_records(store: &[u8]) {
-    for r in 0..16u64 {
-        io::write_all(1, b"record ");
-        io::print_decimal(1, r);
-        io::write_all(1, b" ");
-        let at = 32 * (17 + (r as usize));
-        print_part(store, at, at + 32);
-        io::write_all(1, b"\n");
+fn print_records(rt: &impl Print, store: &[u8]) -> io::Result<()> {
+    for r in 0..16usize {
+        print!(rt; "record {r} ")?;
+        let at = 32 * (17 + r);
+        print_part(rt, store, at, at + 32)?;
+        println!(rt)?;
     }
+    Ok(())
 }
 
-fn main() {
+fn main(rt: HostRuntime) -> io::Result<()> {
     let events = EVENTS;
     let mut store = [0u8; 1056];
     let mut work = [0u8; nekahuiro::WORK];
     let mut answers = [0u8; 32];
     nekahuiro::nekahuiro_fresh(&mut store);
     nekahuiro::nekahuiro_run(&mut store, &events, &mut work, &mut answers);
-    print_events(&events, &answers);
-    io::write_all(1, b"page 0 ");
-    print_part(&store, 0, 32);
-    io::write_all(1, b"\n");
-    print_records(&store);
+    print_events(&rt, &events, &answers)?;
+    print!(rt; "page 0 ")?;
+    print_part(&rt, &store, 0, 32)?;
+    println!(rt)?;
+    print_records(&rt, &store)
 }

@@ -1,13 +1,12 @@
 -- Who waits for the decision, as the history tells it: what each event makes of that.
 use mathlib.Core.Path.{◌≡◌, refl, ap, ◌∙◌}
 use mathlib.Core.Bool.{Bool, true, false, cond, false≢true}
-use mathlib.Core.Logic.{◌≢◌}
 use mathlib.Core.Option.{some}
 use Prim.Native.Nat.{ℕ, ◌≤◌}
 use native.Mathlib.Omega.{arith}
 use Rattle.laws.specs.Tests.{same}
 use Rattle.rules.specs.Event.{commit, abort, recover, decide}
-use Rattle.rules.specs.Step.{Answer, done, refused, cut, value_of, begun}
+use Rattle.rules.specs.Step.{Answer, done, refused, cut, value_of}
 use Rattle.history.specs.History.{Fate, bearing, committed, stored as stored_fate, waiting, ended, History, accepted, changed_by, turned, ending, all_ending, suffices, decided, effect, effect_of, commit_fate, resolved, after, told}
 use Rattle.history.specs.Entries.{awaits}
 

@@ -1,6 +1,6 @@
 -- The versions and the settled records hold the writes that stand with a transaction's line: kept by each kind of event,
 -- from facts about lines and locks that are premises here.
-use mathlib.Core.Path.{◌≡◌, refl, sym, ap, ap₂, ◌∙◌}
+use mathlib.Core.Path.{◌≡◌, refl, sym, ap, ap₂, ◌∙◌, subst⁻¹}
 use mathlib.Core.Bool.{Bool, true, false, cond, ◌||◌, true≢false, false≢true, and-false}
 use mathlib.Core.List.{List, [], ◌∷◌}
 use mathlib.Core.Logic.{◌≢◌}
@@ -61,7 +61,10 @@ module _ {line : Lines} {ver : Versions} {now start : ℕ → Page} {root : ℕ 
   write_version : (j r : ℕ) (p : Page) → Same j a → Same r x → with_version a x new ver j r ≡ some p → p ≡ overlaid (λ k. sees (line j) (root k)) r (w ∷ ws) (start r)
   unfolding open_state open_versions writes_to overlaid
   write_version j r p (is e s _) (is f t u) h =
-      rw (e, f, bears, own, same_refl x) (sym (some_inj (rw (s, t) at h)) ∙ ap (λ p. set p o v) (reads_is D x (line a) good))
+      rw (e, f, bears, own, same_refl x) (sym (some_inj (rw (s, t) at h)) ∙ ap (λ p. set p o v)
+      (subst⁻¹ (λ (z : ℕ). nearest ver (now x) x (line a) ≡ overlaid (λ k. sees (line z) (root k)) r ws (start x)) e
+      (subst⁻¹ (λ (y : ℕ). nearest ver (now x) x (line a) ≡ overlaid (λ k. sees (line a) (root k)) y ws (start x)) f
+      (reads_is D x (line a) good))))
   write_version j r p (is e s _) (isnt f t u) h = rw (u, and-false) (D.on_version j r p (rw (s, t) at h))
   write_version j r p (isnt e s _) (is f t u) h =
       let k : ver j r ≡ some p = rw s at h in

@@ -114,7 +114,7 @@ module _ (f : Form) (M : MediumLaws f.geometry f.medium) where
   words_independent store ws us R E =
       let d = f.medium.from_bytes store in
       let T = twice f M (survives (history g (start_of f store) (rows_from f (start store) ws))) R (start_holds f M d) (λ j r. none) d ws us (λ i. refl)
-      (record { shape = λ j r. refl; alike = λ j r e. refl; stores = M.Agree-refl d; calm = λ u. absurd (false≢true u); waits = λ z r. refl }) E in
+      (record { shape = λ j r. refl; alike = λ j r e. refl; stores = M.agree_refl d; calm = λ u. absurd (false≢true u); waits = λ z r. refl }) E in
       (T.0, λ r. M.agree_settled _ _ T.1 r)
 
   -- DEMAND 3

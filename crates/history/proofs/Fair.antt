@@ -196,4 +196,4 @@ module _ (f : Form) (M : MediumLaws f.geometry f.medium) where
   pub fair_run : {s : StateOf f} (ws : List ℕ) → Reached f M s → Fair (line_of s.bearer) (future f s ws)
   unfolding future
   fair_run {s} [] R = fair_end (line_of s.bearer)
-  fair_run {s} (w ∷ ws) R = fair_step f R.sound (future f (step_of f s w).state ws) (decode f.geometry w) (fair_run ws (reached_word f M R w))
+  fair_run {s} (w ∷ ws) R = fair_step f R.sound (future f (step_of f s w).state ws) (decode f.geometry w) (fair_run {s = (step_of f s w).state} ws (reached_word f M R w))

@@ -74,7 +74,7 @@ module _ (f : Form) (M : MediumLaws f.geometry f.medium) where
   run_after {root = root} [] R H = record { root' = root; turned = λ i k. refl; grown = omega arith; tells = H }
   run_after {start} {s} {h} {root} (w ∷ ws) R H =
       let A = step_after f M R.sound H (decode f.geometry w) (held_word f.geometry w) in
-      let B = run_after ws (reached_word f M R w) A.tells in
+      let B = run_after {s = (step_of f s w).state} {h = told_of f h s w} ws (reached_word f M R w) A.tells in
       let le : h.begun ≤ (told_of f h s w).begun = A.grown in
       subst⁻¹ (λ (h' : History). After f start (play f (step_of f s w).state ws).state h (history f.geometry h' (rows_from f (step_of f s w).state ws)) root (λ c. future f (step_of f s w).state ws (turn f s (decode f.geometry w) (step_of f s w).answer c)))
       (heard_is f h s w)

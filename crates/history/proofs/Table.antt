@@ -11,7 +11,7 @@ use Rattle.laws.specs.Counting.{count}
 use Rattle.laws.proofs.Tests.{same_cases, Same, is, isnt, same_refl, ne_false, Is, is_cases, yes', no', under-lt, not-under}
 use Rattle.rules.specs.State.{Bearer, Bearers, free, active, is_active, line_of, mem, open_state}
 use Rattle.rules.proofs.Bearers.{Rooted, parent_line}
-use Rattle.history.specs.History.{Fate, bearing, committed, stored, waiting, ended, History, is_committed, is_stored, is_bearing, climbs, is_within, follows, stands_with, survives, writes_to, changed_by, writes}
+use Rattle.history.specs.History.{Fate, bearing, committed, stored, waiting, ended, History, is_committed, is_stored, is_bearing, climbs, is_within, follows, stands_with, survives, writes_to, changed_by}
 use Rattle.history.proofs.Roots.{Root, settled, lost, waiting as awaiting, at, is_settled, is_at, sees}
 
 -- the label of a transaction that stands so, from its parent's

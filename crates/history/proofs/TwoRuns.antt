@@ -158,7 +158,7 @@ module _ (f : Form) (M : MediumLaws f.geometry f.medium) (final : ℕ → Bool) 
       let K' : Final s₁ (told_of f h s w) ws = subst (λ (h' : History). Final s₁ h' ws) (heard_is f h s w) K in
       let E' = subst (λ (h' : History). Along g (SameEvent g final) h' (rows_from f s₁ ws) (rows_from f (step_of f s₂ u).state us)) (heard_is f h s w) E.1 in
       let E'' = subst (λ (z : StateOf f). Along g (SameEvent g final) (told_of f h s w) (rows_from f s₁ ws) (rows_from f z us)) N.stands E' in
-      let T = twice R' A.tells N.ver N.store ws us K' N.twin E'' in
+      let T = twice {s = s₁} {h = told_of f h s w} R' A.tells N.ver N.store ws us K' N.twin E'' in
       subst⁻¹ (λ (z : StateOf f). (SameAnswer g final h (row_by w (step_of f s w).answer) (row_by u (step_of f s₂ u).answer)
       × Along g (SameAnswer g final) (heard g h (row_by w (step_of f s w).answer)) (rows_from f s₁ ws) (rows_from f z us))
       × M.Agree (play f s₁ ws).state.store (play f z us).state.store) N.stands

@@ -12,6 +12,7 @@ T_true false e = absurd (true≢false (sym e))
 
 true_T : (b : Bool) → T b → b ≡ true
 true_T true t = refl
+true_T false t = elim t [ ]
 
 pub same-eq : (a b : ℕ) → same a b ≡ true → a ≡ b
 unfolding same

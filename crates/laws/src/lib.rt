@@ -1,1 +1,3 @@
+#![tactic(auto)]
+
 // Laws that several crates cite. No code.

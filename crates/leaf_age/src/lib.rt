@@ -1,4 +1,6 @@
 // How old a stamp is at a clock reading. A clock reading, a limit and an age are types of their own: none can be handed in for another.
+#![tactic(auto)]
+
 ghost use Rattle.std.specs.Prelude.{◌≡◌};
 ghost use Rattle.std.proofs.Math.IntN.{sub_ℕ};
 ghost use Rattle.rules.specs.Age.{judged};

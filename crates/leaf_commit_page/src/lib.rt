@@ -3,6 +3,8 @@
 //
 // The number of records n tells the edition: 16 records are edition 1, 64 are edition 2. The map fills n / 8 whole bytes behind the first byte, and the
 // number of its ones begins in the byte behind them.
+#![tactic(auto)]
+
 ghost use Rattle.std.specs.Prelude.{◌≡◌, true, cond, ℕ, ◌+◌, ◌*◌, ◌/◌, ◌%◌, ◌^◌, ◌<◌, ◌≤◌, length, take, drop};
 ghost use Rattle.laws.specs.Tests.{same};
 ghost use Rattle.laws.specs.Counting.{count};

@@ -1,4 +1,6 @@
 // The event word: kind, transaction, record, offset, count and value, most significant first, and the fields that each kind uses; and the answer to an event.
+#![tactic(auto)]
+
 ghost use Rattle.std.specs.Prelude.{◌≡◌, ◌+◌, ◌*◌, ◌/◌, ◌%◌, ◌<◌, ◌≤◌, length, set, take, drop};
 ghost use Rattle.laws.specs.Bytes.{number};
 ghost use Rattle.rules.specs.Event.{decode, word};
@@ -29,7 +31,7 @@ impl Answer {
 }
 
 // An event by its fields. Kind 0 is a bad event.
-#[derive(Drop)]
+#[derive(Clone, Copy)]
 pub struct Event {
     pub kind: u8,
     pub transaction: u8,

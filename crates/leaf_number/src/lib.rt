@@ -1,13 +1,15 @@
 // Numbers of transactions and of records, as types of their own: neither can be taken for the other.
+#![tactic(auto)]
+
 ghost use Rattle.std.specs.Prelude.{◌≡◌, ◌<◌};
 ghost use Rattle.leaf_number.specs.Named.{transaction_named, record_named, transaction_of, record_of};
 
 // The number of a transaction, 0 to 23.
-#[derive(Drop)]
+#[derive(Clone, Copy)]
 pub struct TransactionNumber(u8);
 
 // What a name of five bits names. 24 to 31 are no bad event: there is no such transaction.
-#[derive(Drop)]
+#[derive(Clone, Copy)]
 pub enum TransactionNamed {
     Number(TransactionNumber),
     NoSuchTransaction,
@@ -47,11 +49,11 @@ impl TransactionNumber {
 }
 
 // The number of a record: below 64, the most records that an edition has.
-#[derive(Drop)]
+#[derive(Clone, Copy)]
 pub struct RecordNumber(u8);
 
 // What a byte names among some number of records.
-#[derive(Drop)]
+#[derive(Clone, Copy)]
 pub enum RecordNamed {
     Number(RecordNumber),
     NoSuchRecord,

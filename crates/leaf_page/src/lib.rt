@@ -1,4 +1,6 @@
 // Pages of 32 bytes in the store and in the working buffer. A page is read by value and written whole.
+#![tactic(auto)]
+
 ghost use Rattle.std.specs.Prelude.{◌≡◌, ◌+◌, ◌*◌, ◌<◌, ◌≤◌, length, take, drop, get_or, set};
 ghost use Rattle.laws.specs.Functions.{updated};
 ghost use Rattle.rules.specs.Store.{pages_of};

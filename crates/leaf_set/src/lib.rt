@@ -1,4 +1,6 @@
 // A set of transaction numbers: a word, with a bit for each number.
+#![tactic(auto)]
+
 ghost use Rattle.std.specs.Prelude.{◌≡◌, not, ◌&&◌, ◌||◌, ◌<◌};
 ghost use Rattle.laws.specs.Tests.{same};
 ghost use Rattle.laws.specs.Counting.{all};

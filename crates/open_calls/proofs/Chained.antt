@@ -64,7 +64,7 @@ module _ (f : Form) (M : MediumLaws f.geometry f.medium) (served : Served f) (ma
 
   carried_of : (x : LentState) → (Encoded f) x → Sound f ((state_in f) x) → Carried f M ((state_in f) x) x.store
   unfolding state_in state.view
-  carried_of x P S = record { reached = record { sound = S; shaped = M.IsShaped-from x.store P.form.stores }; reads = refl; writes = M.to_from x.store P.form.stores }
+  carried_of x P S = record { reached = record { sound = S; shaped = M.shaped_from x.store P.form.stores }; reads = refl; writes = M.to_from x.store P.form.stores }
 
   never_zero : (x : LentState) (l : Lent) → first x l ≢ some 0
   unfolding run_refusals

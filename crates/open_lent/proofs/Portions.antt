@@ -18,7 +18,6 @@ use Rattle.rules.specs.Form.{Form}
 use Rattle.rules.specs.Editions.{Edition, first, paired, geometry_of, form_in, InNumbers}
 use Rattle.rules.proofs.Portions.{Case, plays, refuses, which_case, lengths_first, unsound_refused, sound_played}
 use Rattle.event_crash.proofs.Editions.{served_of}
-use Rattle.state_whole.specs.Whole as state
 use Rattle.state_whole.specs.Whole.{Intact}
 use Rattle.state_whole.specs.Portion as portions
 use Rattle.state_whole.specs.Portion.{played}

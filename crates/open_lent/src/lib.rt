@@ -1,5 +1,7 @@
 // A run from the start; and what is lent as a state: whether it is one, and a portion, a page write and a report on it, by value. What is lent as a struct is
 // read and written by the open operations, which call these. Edition 1, on atomic pages (`joint`) or on pages that can tear (`tears`).
+#![tactic(auto)]
+
 ghost use Rattle.std.specs.Prelude.{◌≡◌, ℕ, List, length, replicate};
 ghost use Rattle.laws.specs.Bytes.{number};
 ghost use Rattle.rules.specs.Geometry.{word_size};

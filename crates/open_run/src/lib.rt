@@ -1,1 +1,2 @@
 // The promise of a run, refused or played, in any form, and its laws. No code.
+#![tactic(auto)]

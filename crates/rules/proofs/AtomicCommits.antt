@@ -101,9 +101,9 @@ module _ (g : Geometry) where
     pub commit_stored : stored (changed_in g v) (commit_at g s v k).made ≡ (same (changed_in g v) 0 || under (changed_in g v) k)
     commit_stored = ap (stored (changed_in g v)) commit_made ∙ stored_made (changed_in g v) k
 
-    pub commit_page_lem : (commit_at g s v k).store 0 ≡ committed_mark g k (map_of g (changed v)) (changes v) (s 0)
+    pub commit_page : (commit_at g s v k).store 0 ≡ committed_mark g k (map_of g (changed v)) (changes v) (s 0)
     unfolding commit_at cut_at changes changed
-    commit_page_lem = commit_mark g (page_in v) (map_of g (changed v)) (changes v) (changes_below v) k s
+    commit_page = commit_mark g (page_in v) (map_of g (changed v)) (changes v) (changes_below v) k s
 
     pub commit_sized : Sized (page_count g) s → Paged v → Sized (page_count g) (commit_at g s v k).store
     unfolding commit_at cut_at changes changed
@@ -242,7 +242,7 @@ module _ (g : Geometry) where
       unfolding emptied commit_due
       commit_whole e =
           let due : commit_due (changed_in g v) ≤ k = not-under k _ (sym (commit_crashed s v k) ∙ e) in (
-            ap (λ p. is_emptied (read_commit g p)) (commit_page_lem s v k) ∙ commit_ends g proper k (map_of g (changed v)) (changes v) (s 0) (rw (changes-length v) due) empty,
+            ap (λ p. is_emptied (read_commit g p)) (commit_page s v k) ∙ commit_ends g proper k (map_of g (changed v)) (changes v) (s 0) (rw (changes-length v) due) empty,
             commit_stored s v k ∙ go due (same_cases (changed_in g v) 0),
           )
         where
@@ -309,7 +309,7 @@ module _ (g : Geometry) where
       -- the commit page says what it said of a prepared transaction
       pub clear_held : (k : ℕ) → read_prepared g ((commit_at g s v k).store 0) ≡ read_prepared g (s 0)
       clear_held k = by_clear
-          (λ e. ap (read_prepared g) (commit_page_lem s v k) ∙ commit_unprepared g proper k (map_of g (changed v)) (map_of-lt g (changed v)) (changes v) (s 0) (emptied_unprepared s e) ∙ sym (emptied_unprepared s e))
+          (λ e. ap (read_prepared g) (commit_page s v k) ∙ commit_unprepared g proper k (map_of g (changed v)) (map_of-lt g (changed v)) (changes v) (s 0) (emptied_unprepared s e) ∙ sym (emptied_unprepared s e))
           (λ e. ap (λ (x : Pages). read_prepared g (x 0)) (commit_idle s v k e))
 
       pub clear_unmoved : (k : ℕ) → Unmoved (atomic_pages g) (commit_at g s v k).store s
@@ -322,7 +322,7 @@ module _ (g : Geometry) where
         → Agree (commit_at g s v k).store (commit_at g c w k).store × ((commit_at g c w k).made ≡ (commit_at g s v k).made) × ((commit_at g c w k).crashed ≡ (commit_at g s v k).crashed)
     unfolding Agree changes changed changed_in
     agree_commit s c v w k clear clear' ranged A shape same_pages = (
-      (commit_page_lem c w k ∙ ap₂ (λ (p : ℕ → Bool) (x : Page). committed_mark g k (map_of g p) (those (records g) p) x) shapes A.0 ∙ sym (commit_page_lem s v k), λ r. go r (is_cases (stored (changed_in g v) (commit_at g s v k).made))),
+      (commit_page c w k ∙ ap₂ (λ (p : ℕ → Bool) (x : Page). committed_mark g k (map_of g p) (those (records g) p) x) shapes A.0 ∙ sym (commit_page s v k), λ r. go r (is_cases (stored (changed_in g v) (commit_at g s v k).made))),
       made_same,
       commit_crashed c w k ∙ ap (λ n. under k (commit_due n)) counts ∙ sym (commit_crashed s v k),
     )

@@ -6,10 +6,9 @@ use Rattle.rules.specs.Geometry.{Geometry, Proper, page_count}
 use Rattle.rules.specs.Store.{Pages, home, read_commit, is_damaged, damaged, emptied, read_prepared, is_prepared, identity_in}
 use Rattle.rules.specs.Form.{atomic_pages}
 use Rattle.rules.proofs.Medium.{MediumLaws}
-use Rattle.rules.proofs.Cuts.{recover_settled, home_settled}
 use Rattle.rules.proofs.Prepares.{pending_free}
 use Rattle.rules.proofs.Pages.{Sized, flat-pages_of, pages_of-flat, pages_of_sized}
-use Rattle.rules.proofs.AtomicCommits.{commit_sized, commit_crash, recover_sized, unidentified, pending_below, emptied_unprepared, commit_kept, commit_lost, commit_whole, recover_whole, recover_keeps, Agree, agree_recover, clear_kept, clear_lost, clear_whole, clear_unmoved, agree_commit, recover_calm, recover_unmoved, home_calm}
+use Rattle.rules.proofs.AtomicCommits.{commit_sized, commit_crash, recover_sized, unidentified, pending_below, emptied_unprepared, recover_keeps, Agree, agree_recover, clear_kept, clear_lost, clear_whole, clear_unmoved, agree_commit, recover_calm, recover_unmoved, home_calm}
 use Rattle.rules.proofs.AtomicPrepares.{prepare_sized, prepare_idle, prepare_keeps, prepare_calm, prepare_taken, prepare_unmoved, agree_prepare}
 use Rattle.rules.proofs.AtomicDecides.{decide_sized, decide_first, decide_ended, decide_settled, decide_whole, agree_shape, agree_decide}
 use Rattle.rules.proofs.Uncut.{untorn, commits_uncut, recovers_uncut, prepares_uncut, decides_uncut, pending-some}

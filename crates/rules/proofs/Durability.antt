@@ -3,7 +3,6 @@
 use mathlib.Core.Path.{◌≡◌, refl, sym, ◌∙◌, ap}
 use mathlib.Core.Bool.{true, false, cond, true≢false}
 use mathlib.Core.List.{List, [], ◌∷◌}
-use mathlib.Core.Logic.{◌≢◌}
 use mathlib.Core.Option.{Option, some}
 use Prim.Native.Nat.{ℕ, zero, suc, ◌+◌, ◌*◌, ◌<◌}
 use native.Mathlib.Omega.{arith}
@@ -19,7 +18,7 @@ use Rattle.rules.specs.Form.{Medium, atomic_pages}
 use Rattle.rules.proofs.Medium.{changed_in, stored, Ranged, is_clear, MediumLaws}
 use Rattle.rules.proofs.Map.{map_of-lt}
 use Rattle.rules.proofs.Cuts.{commit_due, recover_due, broken, commit_readable, recover_readable}
-use Rattle.rules.proofs.AtomicCommits.{made_of, named_in, commit_made, commit_crashed, commit_page_lem, recover_made, recover_crashed, recover_page}
+use Rattle.rules.proofs.AtomicCommits.{made_of, named_in, commit_made, commit_crashed, commit_page, recover_made, recover_crashed, recover_page}
 use Rattle.rules.proofs.Prepares.{prepare_due, ruled, ruled-count, commits_first, commits_then, aborts_first, aborts_then}
 use Rattle.rules.proofs.AtomicPrepares.{prepare_made, prepare_crashed}
 use Rattle.rules.proofs.Uncut.{reserved_in, some-reserved}
@@ -127,4 +126,4 @@ module _ (g : Geometry) where
     -- a commit leaves a commit page that can be read, wherever it is cut
     pub commit_sound : (s : Pages) (v : ℕ → Option Page) (k : ℕ) → damaged g s ≡ false → damaged g (commit_at g s v k).store ≡ false
     unfolding damaged broken
-    commit_sound s v k e = ap (broken g) (commit_page_lem g s v k) ∙ commit_readable g proper k _ (map_of-lt g _) _ (s 0) e
+    commit_sound s v k e = ap (broken g) (commit_page g s v k) ∙ commit_readable g proper k _ (map_of-lt g _) _ (s 0) e

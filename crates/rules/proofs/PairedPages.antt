@@ -25,7 +25,7 @@ use Rattle.rules.proofs.Members.{those_below}
 use Rattle.rules.proofs.Cuts.{not_lt_under, commit_due, recover_due}
 use Rattle.rules.proofs.Prepares.{prepare_due, prepare_length}
 use Rattle.rules.proofs.Writable.{fit_commit, fit_recover, fit_prepare, fit_decide}
-use Rattle.rules.proofs.AtomicCommits.{changed, changes, changes_below, changes-length, no_changes, sound_versions, sound_planned, named_in, in_force, in_force_same, planned, Agree, commit_crashed as atomic-crashed, recover_crashed as atomic-recover-crashed}
+use Rattle.rules.proofs.AtomicCommits.{changed, changes, changes_below, changes-length, no_changes, sound_versions, sound_planned, named_in, in_force, in_force_same, planned, commit_crashed as atomic-crashed, recover_crashed as atomic-recover-crashed}
 use Rattle.rules.proofs.AtomicDecides.{reserved_planned}
 use Rattle.rules.proofs.AtomicPages.{atomic_laws, agree_first}
 use Rattle.rules.proofs.Uncut.{uncut-count, commit_room, recover_room, prepare_room}

@@ -1,7 +1,6 @@
 -- What a prepared transaction asks of the rest: nobody has a lock or a version of what it changed, and what is written beside it changes nothing.
 use mathlib.Core.Path.{◌≡◌, refl, ap, ◌∙◌}
 use mathlib.Core.Bool.{Bool, true, false, cond, ◌&&◌, ◌||◌, false≢true}
-use mathlib.Core.Logic.{◌≢◌}
 use mathlib.Core.Option.{Option, none, some}
 use Prim.Native.Nat.{ℕ, ◌^◌, ◌<◌}
 use Rattle.laws.specs.Tests.{same, under}
@@ -16,7 +15,7 @@ use Rattle.rules.specs.State.{Mode, nothing, is_lock, stronger, Modes, holds, re
 use Rattle.rules.specs.Locks.{inherited, discarded}
 use Rattle.rules.specs.Versions.{is_some}
 use Rattle.rules.specs.Form.{Form}
-use Rattle.rules.specs.Step.{is_busy, is_for, StateOf, changes, busy, reserved}
+use Rattle.rules.specs.Step.{is_busy, is_for, StateOf, changes, busy}
 use Rattle.rules.specs.Sound.{Sound, is_calm}
 use Rattle.rules.proofs.Medium.{changed_in, is_clear}
 use Rattle.rules.proofs.Grades.{any_mode, has}

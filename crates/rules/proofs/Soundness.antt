@@ -376,7 +376,7 @@ module _ (f : Form) (M : MediumLaws f.geometry f.medium) where
 
   pub reached_start : (bs : List ℕ) → length bs ≡ f.medium.size → Reached (down (f.medium.from_bytes bs))
   unfolding down
-  reached_start bs e = record { sound = sound_down f (f.medium.from_bytes bs); shaped = M.IsShaped-from bs e }
+  reached_start bs e = record { sound = sound_down f (f.medium.from_bytes bs); shaped = M.shaped_from bs e }
 
   pub reached_word : {s : StateOf f} → Reached s → (w : ℕ) → Reached (step f s (decode f.geometry w)).state
   reached_word {s} R w = go (decode f.geometry w) refl

@@ -1,6 +1,6 @@
 -- Page writes and cuts: the page writes of a top transaction's commit, its prepare and the decision on it, and of a recovery, and a crash among
 -- them.
-use Rattle.std.specs.Prelude.{ℕ, suc, Bool, true, false, cond, List, [], ◌∷◌, ◌++◌, map, length, take}
+use Rattle.std.specs.Prelude.{ℕ, Bool, true, false, cond, List, [], ◌∷◌, ◌++◌, map, length, take}
 use Rattle.std.proofs.Math.Option.{Option}
 use Rattle.laws.specs.Tests.{under}
 use Rattle.laws.specs.Counting.{those}

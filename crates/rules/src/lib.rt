@@ -1,1 +1,3 @@
+#![tactic(auto)]
+
 // Document 01's rules as definitions (specs/) with their laws (proofs/). No code.

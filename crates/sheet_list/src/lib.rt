@@ -1,5 +1,7 @@
 // What a job sheet becomes (document 02, L10): a list of event words. The sheet is read twice: first it is checked, and nothing is written; then each
 // of its steps gives one event.
+#![tactic(auto)]
+
 ghost use Rattle.std.specs.Prelude.{◌≡◌, ◌+◌, ◌*◌, ◌<◌, ◌≤◌, length, get_or};
 ghost use Rattle.std.proofs.lemmas.List.Edits.{sets};
 ghost use Rattle.laws.specs.Bytes.{bytes};

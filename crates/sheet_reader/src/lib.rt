@@ -1,6 +1,8 @@
 // Reads a job sheet (document 02, L10) and says whether it is taken, or the place of the first byte after which no taken sheet could follow. Writes
 // nothing. Two budgets fall while it reads: how many transactions may yet be opened within each other, `levels`, and how many events are free beside the
 // ends of those that are open, `room`.
+#![tactic(auto)]
+
 ghost use Rattle.std.specs.Prelude.{◌≡◌, ◌<◌, ◌≤◌, length, get_or};
 ghost use Rattle.sheet_text.specs.Scan.{Stands, between, within, level_closed, is_digit};
 ghost use Rattle.sheet_reader.specs.Reads.{Reads, Checks};

@@ -11,7 +11,7 @@ use Rattle.rules.specs.Geometry.{nobody}
 use Rattle.rules.specs.Event.{Event, begin, lock, write, read, to_write}
 use Rattle.sheet_text.specs.Sheet as sheet
 use Rattle.sheet_text.specs.Sheet.{Steps, none, locking, writing, reading, inner, Sheet, digit, digits, steps_text, text, proper, steps_depth, end_event, step_events, events, sheet_list, Good, Taken, open_sheet}
-use Rattle.sheet_text.specs.Scan.{between, within, dead, closing, is_digit, level_closed, open_scan}
+use Rattle.sheet_text.specs.Scan.{between, within, dead, is_digit, level_closed, open_scan}
 use Rattle.sheet_text.proofs.Count.{count_of, open_count}
 use Rattle.sheet_text.specs.Emit.{value, pair_of, offset_of, token_of, Reading, given, emit, emit_all, unread, open_emit}
 use Rattle.sheet_text.proofs.Letters.{has_both, level_up}

@@ -10,7 +10,6 @@ use lib.ListN.{length, take, get_or, replicate, take-append-drop, drop}
 use lib.Seq.{take-suc, take-length}
 use Rattle.laws.specs.Tests.{same, open_tests}
 use Rattle.laws.proofs.Tests.{ne_false}
-use Rattle.sheet_text.specs.Sheet as sheet
 use Rattle.sheet_text.specs.Sheet.{Sheet, events, Taken, Follows, Fault}
 use Rattle.sheet_text.specs.Scan.{Scan, start, between, within, ended, dead, is_digit, level_closed, scan_next, scan_after, Stuck, is_dead, is_ended, open_scan}
 use Rattle.sheet_text.proofs.Count.{count_of, run}

@@ -18,7 +18,7 @@ use Rattle.rules.specs.Event.{Event, begin, lock, write, read, to_write, word, e
 use Rattle.rules.specs.Editions.{geometry1}
 use Rattle.sheet_text.specs.Sheet as sheet
 use Rattle.sheet_text.specs.Sheet.{Sheet, events, end_event, event_bytes, Taken}
-use Rattle.sheet_text.specs.Scan.{Scan, start, between, within, ended, dead, Letter, closing, plain, letter_of, level_closed, scan_next, scan_after, stepped, is_ended}
+use Rattle.sheet_text.specs.Scan.{Scan, start, between, ended, dead, Letter, plain, letter_of, level_closed, scan_next, scan_after, stepped, is_ended}
 use Rattle.sheet_text.proofs.Count.{run}
 use Rattle.sheet_text.specs.Emit.{value, pair_of, offset_of, token_of, Reading, given, emit, emit_all, emits, unread}
 use Rattle.sheet_text.specs.Made.{over}

@@ -1,5 +1,7 @@
 // Whether any bytes in the engine's arrays encode a sound state, on atomic pages or on pages that can tear. The results of the tests are joined at the end, so that there are few branches; what a
 // free number has of the locks isn't looked at, since holders and retainers are live.
+#![tactic(auto)]
+
 ghost use Rattle.std.specs.Prelude.{◌≡◌, true, false, not, ◌||◌, List, ℕ, ◌<◌, length};
 ghost use Rattle.laws.specs.Counting.{all};
 ghost use Rattle.laws.specs.Bits.{bits};

@@ -1,5 +1,7 @@
 // Whether a store is emptied, as it is while it is up and nothing is prepared: its commit page is empty, and where pages tear (document 02, L5), "every pair good
 // and alike".
+#![tactic(auto)]
+
 ghost use Rattle.std.specs.Prelude.{◌≡◌, ◌+◌, ◌*◌, ◌<◌, ◌≤◌, length};
 ghost use Rattle.laws.specs.Bytes.{same_list};
 ghost use Rattle.laws.specs.Counting.{all};

@@ -1,5 +1,7 @@
 // Checks one entry of the transaction table: either the number is free and its entry is all zeros, or its parent is live (or there is none), its depth is
 // the parent's plus one, and its line is the parent's line plus itself.
+#![tactic(auto)]
+
 ghost use Rattle.std.specs.Prelude.{◌≡◌, ◌<◌, length, get_or};
 ghost use Rattle.sound_clause.specs.Decides.{Decides};
 ghost use Rattle.sound_clause.specs.Clauses.{FreeEntry, LiveEntry, TableEntry};

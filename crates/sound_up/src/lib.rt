@@ -1,4 +1,6 @@
 // Whether the flag, the live transactions, the locks and the store go together.
+#![tactic(auto)]
+
 ghost use Rattle.std.specs.Prelude.{◌≡◌, true, List, ℕ, ◌*◌, length};
 ghost use Rattle.laws.specs.Bits.{bits};
 ghost use Rattle.rules.specs.Store.{read_commit, is_emptied, read_prepared};

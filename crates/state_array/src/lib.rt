@@ -1,1 +1,2 @@
 // What the engine's arrays stand for, and what loops over them leave: definitions and laws only.
+#![tactic(auto)]

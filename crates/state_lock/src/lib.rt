@@ -1,6 +1,8 @@
 // Locks, as sets of transactions. `held` and `retained` have two places for each record r: at 2 * r the transactions that hold (or retain) its lock in any
 // mode, at 2 * r + 1 those that do so in write mode. `writers` has one place for each record: the transactions that have a version of it.
 // Functions that go over all places get their number; the others ask that the places of their record exist.
+#![tactic(auto)]
+
 ghost use Rattle.std.specs.Prelude.{◌≡◌, true, false, ◌+◌, ◌*◌, ◌<◌, ◌≤◌, length, replicate};
 ghost use Rattle.laws.specs.Tests.{same};
 ghost use Rattle.laws.specs.Bits.{bits};

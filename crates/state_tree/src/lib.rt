@@ -1,6 +1,8 @@
 // Transaction numbers: which are free, who stands under whom, and the arrays of parents, depths and lines at a begin and an end. Beside the arrays go
 // two things that follow from them, so that nothing is searched at an event: the set of the live transactions, and for each parent that of its live
 // children, 31 being the parent of those at the top.
+#![tactic(auto)]
+
 ghost use Rattle.std.specs.Prelude.{◌≡◌, not, cond, ◌&&◌, ◌||◌, ℕ, ◌<◌, ◌≤◌, length, get_or, set};
 ghost use Rattle.laws.specs.Tests.{same};
 ghost use Rattle.laws.specs.Counting.{any, lowest};

@@ -1,5 +1,7 @@
 // Versions of records in the working buffer: slot r * DEPTHS + d - 1 holds the version of record r of the writer at depth d. A record's home page is given
 // by `at`, the byte of the store where it begins.
+#![tactic(auto)]
+
 ghost use Rattle.std.specs.Prelude.{◌≡◌, cond, ◌+◌, ◌*◌, ◌-◌, ◌<◌, ◌≤◌, length, get_or, set, take, drop};
 ghost use Rattle.laws.specs.Functions.{updated};
 ghost use Rattle.rules.specs.Store.{pages_of};

@@ -7,3 +7,4 @@
 //   held, retained  of each record: at 2 * r the set of transactions that hold or retain its lock, at 2 * r + 1 of those that do so in write mode
 //   writers         of each record: the set of transactions that have a version of it
 //   work            slot r * DEPTHS + depth - 1 holds the version of record r of the writer at that depth
+#![tactic(auto)]

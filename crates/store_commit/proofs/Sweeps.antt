@@ -78,19 +78,19 @@ others true k n p s j h = paired_others k n p s j h
 -- The pages below page `first` are shown as they were, since no page write from there on changes them: the commit page and the intention pages, while home
 -- pages are written.
 pub record Kept (b : Bool) (first : ℕ) (s t : StoreOf b) : Type 0 where
-  pub same_page_lem : (j : ℕ) → j < first → shown_in b t j ≡ shown_in b s j
+  pub same_page : (j : ℕ) → j < first → shown_in b t j ≡ shown_in b s j
 
 pub kept-none : {b : Bool} {first : ℕ} {s : StoreOf b} → Kept b first s s
-kept-none = record { same_page_lem = λ j lt. refl }
+kept-none = record { same_page = λ j lt. refl }
 
 pub kept_then : {b : Bool} {first : ℕ} {s t u : StoreOf b} → Kept b first s t → Kept b first t u → Kept b first s u
-kept_then h g = record { same_page_lem = λ j lt. g.same_page_lem j lt ∙ h.same_page_lem j lt }
+kept_then h g = record { same_page = λ j lt. g.same_page j lt ∙ h.same_page j lt }
 
 module _ {b : Bool} (first : ℕ) (new : ℕ → Page) (r k : ℕ) {s t : StoreOf b} {a : ℕ} where
   kept_one : (x : Bool) → WritesPhase b k (cond x (sets (first + r) (new r) ∷ []) []) s t a → Kept b first s t
-  kept_one false h = record { same_page_lem = λ j lt. ap (λ (u : StoreOf b). shown_in b u j) (h.store ∙ sym (phase_none {b = b} {k = k} {s = s}).store) }
+  kept_one false h = record { same_page = λ j lt. ap (λ (u : StoreOf b). shown_in b u j) (h.store ∙ sym (phase_none {b = b} {k = k} {s = s}).store) }
   kept_one true h =
-      record { same_page_lem = λ j lt. ap (λ (u : StoreOf b). shown_in b u j) h.store ∙ others b k (first + r) (new r) s j (λ e. omega arith) }
+      record { same_page = λ j lt. ap (λ (u : StoreOf b). shown_in b u j) h.store ∙ others b k (first + r) (new r) s j (λ e. omega arith) }
 
   pub kept_row : (p : ℕ → Bool) → WritesPhase b k (write_if_picked p (copies first new) r) s t a → Kept b first s t
   unfolding write_if_picked copies
@@ -107,4 +107,4 @@ pub home_more : {b : Bool} (p : ℕ → Bool) (first r k : ℕ) {s s' s'' : Stor
 unfolding write_if_picked copies
 home_more {b} p first r k {s} {s'} {s''} {a} {c} lt h kept g =
     phase_more p (copies first (λ j. shown_in b s (1 + j))) r h
-    (subst (λ (q : Page). WritesPhase b a (cond (p r) (sets (first + r) q ∷ []) []) s' s'' c) (kept.same_page_lem (1 + r) lt) g)
+    (subst (λ (q : Page). WritesPhase b a (cond (p r) (sets (first + r) q ∷ []) []) s' s'' c) (kept.same_page (1 + r) lt) g)

@@ -4,6 +4,8 @@
 // There are n records. The store is 1 + 2 n pages: page 0 is the commit page, page 1 + r the intention page of record r, page 1 + n + r its home page.
 // `tears` tells whether pages can tear, and so whether the store has atomic pages or a pair of copies for each; the contracts speak of both.
 // The functions with a count `left` make page writes as far as what is left of the cut allows, and return what remains of it.
+#![tactic(auto)]
+
 ghost use Rattle.std.specs.Prelude.{◌≡◌, true, false, [], ◌∷◌, ◌+◌, ◌*◌, ◌^◌, ◌≤◌, ◌<◌, length};
 ghost use Rattle.std.proofs.Math.Option.{some};
 ghost use Rattle.rules.specs.Geometry.{Geometry, records};

@@ -1,5 +1,7 @@
 // The refusals by the lengths of the buffers: of a run or a portion before its first event, and of a question for a write. A form is told by whether its
 // pages tear, by its number of records and by the bytes of its event word.
+#![tactic(auto)]
+
 ghost use Rattle.std.specs.Prelude.{◌≡◌, ◌<◌, ◌≤◌};
 ghost use Rattle.store_length.specs.Lengths.{store_bytes, write_bytes, lengths_refused, question_refused, refusal_number};
 

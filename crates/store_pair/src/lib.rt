@@ -2,6 +2,8 @@
 // copy. A page write makes the first copy and then the second; a torn one stops on the way.
 //
 // This crate writes pairs, whole and torn, reads the page that a pair shows, and mends.
+#![tactic(auto)]
+
 ghost use Rattle.std.specs.Prelude.{◌≡◌, [], ◌∷◌, ◌+◌, ◌-◌, ◌*◌, ◌<◌, ◌≤◌, length, get_or, take, drop};
 ghost use Rattle.laws.specs.Tests.{same};
 ghost use Rattle.laws.specs.Counting.{any};

@@ -1,5 +1,7 @@
 // A fresh store, laid page by page; the age of a record, told from its settled page's stamp. Both over atomic pages and over pages that tear, which lie in the
 // store as pairs of copies: `tears` tells which.
+#![tactic(auto)]
+
 ghost use Rattle.std.specs.Prelude.{◌≡◌, true, cond, ◌+◌, ◌*◌, ◌<◌, ◌≤◌, length, take};
 ghost use Rattle.laws.specs.Bytes.{number as spelled};
 ghost use Rattle.rules.specs.Geometry.{Geometry, records};

@@ -2,6 +2,8 @@
 // and a recovery these functions alone know the two apart.
 //
 // A cut is one number: of atomic pages how many page writes are made, of pages that can tear four times that and the way in which the next is torn.
+#![tactic(auto)]
+
 ghost use Rattle.std.specs.Prelude.{◌≡◌, [], ◌∷◌, ◌+◌, ◌*◌, ◌<◌, ◌≤◌, length};
 ghost use Rattle.laws.specs.Tests.{under};
 ghost use Rattle.rules.specs.Commit.{sets};

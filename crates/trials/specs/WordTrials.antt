@@ -1,6 +1,6 @@
 -- Rows for the event word: every bit of every kind. While down a bad word is 1 and any other but a crash and a recover is 2, so each bit tells
 -- whether its field is used.
-use Rattle.std.specs.Prelude.{◌+◌, List, [], ◌∷◌, ◌++◌}
+use Rattle.std.specs.Prelude.{List, [], ◌∷◌, ◌++◌}
 use Rattle.rules.specs.Event.{write, read, commit}
 use Rattle.trials_rows.specs.Rows.{Line, word, Trial, plays, page, fresh_bytes, empty_page, on, top, locks, on_fresh, words_with_bit, tops}
 

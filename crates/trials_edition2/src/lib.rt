@@ -1,1 +1,2 @@
 // Rows of edition 2, decided by computing. No code.
+#![tactic(auto)]

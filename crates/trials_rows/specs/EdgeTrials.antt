@@ -1,5 +1,5 @@
 -- Rows at the edges of how transactions and locks behave: numbers and depths, the order of refusals, what a parent inherits, what ends.
-use Rattle.std.specs.Prelude.{ℕ, zero, suc, ◌+◌, List, [], ◌∷◌, ◌++◌, set}
+use Rattle.std.specs.Prelude.{ℕ, zero, suc, List, [], ◌∷◌, ◌++◌, set}
 use Rattle.rules.specs.Event.{begin, write, read, commit, crash, recover}
 use Rattle.trials_rows.specs.Rows.{Line, Trial, plays_fresh, home, emptied, value, zero_page, with_a5, on, top, locks, shares, aborts, reports, on_fresh, nested, writes_a5, child_writes11, tops}
 

@@ -1,5 +1,5 @@
 -- The search for a cycle, as its functions promise it.
-use Rattle.std.specs.Prelude.{◌≡◌, Bool, true, ◌&&◌, List, [], ◌∷◌, ℕ, ◌-◌, ◌<◌, ◌≤◌, length, take}
+use Rattle.std.specs.Prelude.{◌≡◌, Bool, true, ◌&&◌, List, [], ◌∷◌, ℕ, ◌<◌, ◌≤◌, length, take}
 use Rattle.laws.specs.Counting.{any}
 use Rattle.rules.specs.Geometry.{transactions}
 use Rattle.rules.specs.State.{mem}

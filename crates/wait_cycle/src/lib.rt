@@ -1,4 +1,6 @@
 // A cycle of pointings between transactions: whether there is one, and which. Who a transaction points to is a set.
+#![tactic(auto)]
+
 ghost use Rattle.std.specs.Prelude.{◌≡◌, true, cond, ℕ, ◌+◌, ◌-◌, ◌<◌, ◌≤◌, ◌++◌, length, get_or, take, drop, replicate};
 ghost use Rattle.laws.specs.Tests.{under};
 ghost use Rattle.laws.specs.Counting.{any};

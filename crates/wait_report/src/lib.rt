@@ -1,4 +1,6 @@
 // The report on transactions that wait for each other, of a sound state: the rows are refused, or a cycle is shown.
+#![tactic(auto)]
+
 ghost use Rattle.std.specs.Prelude.{◌≡◌, true, ℕ, ◌<◌, length};
 ghost use Rattle.rules.specs.Editions.{edition1};
 ghost use Rattle.rules.specs.Waiting.{Found};
@@ -11,7 +13,7 @@ use wait_row::Rows;
 
 // A cycle of transactions that point to each other: its length, 0 where there is none, and the transactions in order, with zeros after.
 #[repr(C)]
-#[derive(Drop)]
+#[derive(Clone, Copy)]
 pub struct Ring {
     pub length: u8,
     pub transactions: [u8; 24],

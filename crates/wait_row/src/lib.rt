@@ -1,10 +1,12 @@
 // Waiting rows: a lent slice of small structs, copied into a plain array.
+#![tactic(auto)]
+
 ghost use Rattle.std.specs.Prelude.{◌≡◌, ◌+◌, ◌<◌, length, replicate, set};
 ghost use Rattle.wait_row.specs.Copied.{word_of, least, copied_of, Small, Smalls};
 
 // A transaction that waits for the lock of a record, in a mode: 0 to write, 1 to read.
 #[repr(C)]
-#[derive(Drop)]
+#[derive(Clone, Copy)]
 pub struct Row {
     pub transaction: u8,
     pub record: u8,

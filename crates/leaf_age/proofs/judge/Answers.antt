@@ -1,0 +1,21 @@
+-- The two tests are those of the rules.
+use mir.Facts.{to_z-of_z}
+use Rattle.leaf_age.specs.Meaning.{judged_age}
+use Rattle.leaf_age.proofs.Laws.{is_ahead, is_live, is_stale, widened}
+use Rattle.leaf_age.proofs.judge.Goals as goal
+
+pub returns-then-age-lt0 : goal.returns-then-age-lt0
+unfolding judged_age
+returns-then-age-lt0 c = let back = to_z-of_z c.ranges.age in rw back (is_ahead _ _ (rw back at c.if-age-lt0.true))
+
+pub returns-then-age-limit : goal.returns-then-age-limit
+unfolding judged_age
+returns-then-age-limit c =
+    let back = to_z-of_z c.ranges.age in
+    rw back (is_live _ _ (rw back at c.if-age-lt0.false) (rw (back, widened c.ranges.limit) at c.if-age-limit.true))
+
+pub returns : goal.returns
+unfolding judged_age
+returns c =
+    let back = to_z-of_z c.ranges.age in
+    rw back (is_stale _ _ (rw back at c.if-age-lt0.false) (rw (back, widened c.ranges.limit) at c.if-age-limit.false))

@@ -1,0 +1,10 @@
+-- So far the two pages are the same at each place.
+use mathlib.Core.Path.{◌≡◌}
+use Prim.Native.Nat.{ℕ, ◌+◌, ◌*◌, ◌≤◌}
+use lib.ListN.{get_or}
+use Rattle.laws.specs.Tests.{same}
+use Rattle.laws.specs.Counting.{all}
+use Rattle.sound_store.proofs.is_alike.Given as goal
+
+abbrev pub invariant-loop-i : goal.invariant-loop-i
+invariant-loop-i l = (l.i ≤ 32) × (l.alike ≡ all l.i (λ (k : ℕ). same (get_or l.bytes (66 * l.n + 1 + k) 0) (get_or l.bytes (66 * l.n + 33 + 1 + k) 0)))

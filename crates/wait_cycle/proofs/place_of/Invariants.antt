@@ -1,0 +1,11 @@
+-- It stands somewhere, and not before.
+use mathlib.Core.Path.{◌≡◌}
+use Prim.Native.Nat.{ℕ, ◌-◌, ◌<◌, ◌≤◌}
+use lib.ListN.{get_or}
+use Rattle.wait_cycle.proofs.place_of.Given as goal
+
+abbrev pub invariant-loop-k : goal.invariant-loop-k
+invariant-loop-k l = (l.k ≤ l.n) × ((j : ℕ) → j < l.k → get_or l.path j 0 ≡ l.t → ⊥)
+
+abbrev pub decreases-loop-k : goal.decreases-loop-k
+decreases-loop-k l = l.n - l.k
