@@ -1,5 +1,7 @@
 // Edition 2's open operations (document 02, L7): a run, the page writes of an event after a list, a fresh store and the age of a record. Any bytes may come
 // in; each refuses or does what the rules say, with sixty-four records.
+#![tactic(auto)]
+
 ghost use Rattle.std.specs.Prelude.{◌≡◌};
 ghost use Rattle.rules.specs.Run.{lay_fresh};
 ghost use Rattle.rules.specs.Age.{age_of};
@@ -24,8 +26,7 @@ const JOINT: bool = false;
 const TEARS: bool = false;
 
 // Lays down a fresh store: 0, or 22 where it hasn't the size of a store, and then writes nothing.
-#[unsafe(no_mangle)]
-pub extern "C" fn nekahuiro_fresh_edition2(store: &mut [u8]) -> u8
+pub fn nekahuiro_fresh_edition2(store: &mut [u8]) -> u8
     ensures { let before = store.old in
         (result ≡ (lay_fresh edition2 before).answer) × (store.new ≡ (lay_fresh edition2 before).store) }
 {
@@ -33,14 +34,7 @@ pub extern "C" fn nekahuiro_fresh_edition2(store: &mut [u8]) -> u8
 }
 
 // Tells the age of a record: 0 live, 1 ahead, 2 stale, with the age in minutes left at `age`; or refused with 22, 23 or 4, and `age` stays.
-#[unsafe(no_mangle)]
-pub extern "C" fn nekahuiro_age_edition2(
-    store: &[u8],
-    number: u8,
-    clock: u32,
-    limit: u32,
-    age: &mut i64,
-) -> u8
+pub fn nekahuiro_age_edition2(store: &[u8], number: u8, clock: u32, limit: u32, age: &mut i64) -> u8
     ensures { let told = age_of edition2 store.now number clock limit in
         (result ≡ age_number told) × (age.new ≡ age_left told age.old) }
 {
@@ -50,8 +44,7 @@ pub extern "C" fn nekahuiro_age_edition2(
 // Runs a list of events on a store, with an answer of two bytes for each. 0, or a refusal's number: 22, 24, 20 or 21, in this order, and then
 // touches no buffer. Of a run that is played demand 3 holds, and that it can be played one transaction at a time: both speak of `run edition2`,
 // which is what this function leaves.
-#[unsafe(no_mangle)]
-pub extern "C" fn nekahuiro_run_edition2(
+pub fn nekahuiro_run_edition2(
     store: &mut [u8],
     events: &[u8],
     work: &mut [u8],
@@ -80,8 +73,7 @@ pub extern "C" fn nekahuiro_run_edition2(
 // Plays a list as a run does, and then says the page write number `index`, from 0, that an event makes on the state that the list leaves if nothing cuts
 // it: 0, with the page's number and the page in `write`; or 12, no such write; or refused with 22, 24, 20 or 21 as a run with the list is, and then with
 // 20 where the event isn't eight bytes or 21 where `write` isn't 33, and then touches no buffer. The event isn't played.
-#[unsafe(no_mangle)]
-pub extern "C" fn nekahuiro_page_write_edition2(
+pub fn nekahuiro_page_write_edition2(
     store: &mut [u8],
     events: &[u8],
     work: &mut [u8],

@@ -1,6 +1,8 @@
 // The open operations of the form whose pages can tear (document 02, L5): a run, a portion, the copy writes of an event, a fresh
 // store, and the age of a record. Any bytes may come in; each refuses or does what the rules say, with sixteen records, and every page kept
 // as a pair of copies.
+#![tactic(auto)]
+
 ghost use Rattle.std.specs.Prelude.{◌≡◌, true};
 ghost use Rattle.rules.specs.Run.{lay_fresh};
 ghost use Rattle.rules.specs.Age.{age_of};
@@ -24,8 +26,7 @@ const TEARS: bool = true;
 const JOINT: bool = false;
 
 // Lays down a fresh store, every pair good and alike: 0, or 22 where it hasn't the size of a store of pairs, and then writes nothing.
-#[unsafe(no_mangle)]
-pub extern "C" fn nekahuiro_fresh_pairs(store: &mut [u8]) -> u8
+pub fn nekahuiro_fresh_pairs(store: &mut [u8]) -> u8
     ensures { let before = store.old in
         (result ≡ (lay_fresh edition_pairs before).answer) × (store.new ≡ (lay_fresh edition_pairs before).store) }
 {
@@ -34,14 +35,7 @@ pub extern "C" fn nekahuiro_fresh_pairs(store: &mut [u8]) -> u8
 
 // Tells the age of a record, through the first good copy of each page: 0 live, 1 ahead, 2 stale, with the age in minutes left at `age`; or refused with 22, 23
 // or 4, and `age` stays. It is 4 where any page has no good copy, or the commit page is damaged. The store is only read: nothing is mended.
-#[unsafe(no_mangle)]
-pub extern "C" fn nekahuiro_age_pairs(
-    store: &[u8],
-    number: u8,
-    clock: u32,
-    limit: u32,
-    age: &mut i64,
-) -> u8
+pub fn nekahuiro_age_pairs(store: &[u8], number: u8, clock: u32, limit: u32, age: &mut i64) -> u8
     ensures { let told = age_of edition_pairs store.now number clock limit in
         (result ≡ age_number told) × (age.new ≡ age_left told age.old) }
 {
@@ -58,8 +52,7 @@ fn run_of(store: &mut [u8], events: &[u8], work: &mut [u8], answers: &mut [u8]) 
 // Runs a list of events on a store, with an answer of two bytes for each; the value of a commit or a recover says how the next page write is torn where it is
 // cut. 0, or a refusal's number: 22, 24, 20 or 21, in this order, and then touches no buffer. Of a run that is played demand 3 holds, and that it can be played
 // one transaction at a time: both speak of `run edition_pairs`, which is what this function leaves.
-#[unsafe(no_mangle)]
-pub extern "C" fn nekahuiro_run_pairs(
+pub fn nekahuiro_run_pairs(
     store: &mut [u8],
     events: &[u8],
     work: &mut [u8],
@@ -89,8 +82,7 @@ fn portion_of(
 
 // Plays a portion of events on a state that is lent and changed in place, with the store and the working buffer that the last portion left. 0, or a
 // refusal's number: 22, 24, 20, 21 or 25, in this order, and then touches nothing. While up, a state is sound only if every pair is good and alike.
-#[unsafe(no_mangle)]
-pub extern "C" fn nekahuiro_portion_pairs(
+pub fn nekahuiro_portion_pairs(
     state: &mut Engine,
     store: &mut [u8],
     events: &[u8],
@@ -126,8 +118,7 @@ fn page_write_of(
 // Says the copy write number `index`, from 0, that an event makes on this state, store and working buffer if nothing cuts it: 0, with the page's number, the
 // copy's (0 the first, 1 the second) and the page in `write`; or 12, no such write; or refused with 22, 24, 20, 21 or 25, in this order. Page write i is made by
 // copy writes 2 i and 2 i + 1. Nothing is played, and but for the copy write nothing is written.
-#[unsafe(no_mangle)]
-pub extern "C" fn nekahuiro_page_write_pairs(
+pub fn nekahuiro_page_write_pairs(
     state: &Engine,
     store: &[u8],
     event: &[u8],
