@@ -23,13 +23,13 @@ FNR == 1 { at = 0; depth = 99 }
 { match($0, /^ */); indent = RLENGTH }
 /^ *module / { at = 0; depth = 99 }
 /^ *((unfoldable|abbrev) +)*mutual/ { at = ++count; depth = indent; named[at] = "mutual " at }
-indent <= depth && (/^ *(pub +)?(record|data) / || /^ *((unfoldable|abbrev|pub) +)*[^ (){}-][^ (){}]*( \{[^}]*\})? :( |$)/) {
+indent <= depth && (/^ *(pub +)?(record|data) / || /^ *((unfoldable|abbrev|opaque|pub) +)*[^ (){}-][^ (){}]*( \{[^}]*\})? :( |$)/) {
     at = ++count
     depth = indent
     name = $0
     sub(/^ */, "", name)
-    abbreviates = name ~ /^((unfoldable|pub) +)*abbrev /
-    while (sub(/^(unfoldable|abbrev|pub|record|data) +/, "", name)) { }
+    abbreviates = name ~ /^((unfoldable|opaque|pub) +)*abbrev /
+    while (sub(/^(unfoldable|abbrev|opaque|pub|record|data) +/, "", name)) { }
     sub(/ .*/, "", name)
     named[at] = name
     if (name in is_wrong && !abbreviates) declared[name] = 1

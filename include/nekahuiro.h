@@ -1,6 +1,6 @@
 /* Nekahuiro: a record store with nested transactions and page-by-page commit, proved in Rattle.
  *
- * Link target/staticlib/libnekahuiro.a, which `rt staticlib nekahuiro` makes. The library is for
+ * Link target/staticlib/libnekahuiro.a, which `tools/archives nekahuiro` makes. The library is for
  * x86-64. It allocates nothing, keeps nothing between calls, and calls at most memcpy, memmove, memset
  * and memcmp of the C library. `nekahuiro_run` plays a whole list; `nekahuiro_portion` plays events as
  * they come, on a state that the caller keeps, and `nekahuiro_page_write` says before an event which pages

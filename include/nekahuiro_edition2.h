@@ -1,6 +1,6 @@
 /* Nekahuiro, edition 2: the same record store with sixty-four records.
  *
- * Link target/staticlib/libnekahuiro_edition2.a, which `rt staticlib nekahuiro_edition2` makes; beside it
+ * Link target/staticlib/libnekahuiro_edition2.a, which `tools/archives nekahuiro_edition2` makes; beside it
  * libnekahuiro.a, if functions of nekahuiro.h are called too: one program may have both. What a caller owes
  * to every function is said there, with NEKAHUIRO_EDITION2_STACK_BYTES of free stack here; so are the events,
  * the rules of locks, the answers and their numbers. Below stands only what differs.

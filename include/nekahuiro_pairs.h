@@ -1,6 +1,6 @@
 /* Nekahuiro on pages that can tear: edition 1's records, each page kept as two copies.
  *
- * Link target/staticlib/libnekahuiro_pairs.a, which `rt staticlib nekahuiro_pairs` makes; beside it
+ * Link target/staticlib/libnekahuiro_pairs.a, which `tools/archives nekahuiro_pairs` makes; beside it
  * libnekahuiro.a, if functions of nekahuiro.h are called too: one program may have both. What a caller owes
  * to every function is said there; so are the events, the rules of locks, the lent state, the working buffer,
  * the answers and their numbers. Below stands only what differs.

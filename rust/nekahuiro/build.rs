@@ -25,7 +25,7 @@ fn link(folder: &Path, name: &str) {
     println!("cargo::rerun-if-changed={}", archive.display());
     if !archive.is_file() {
         println!("cargo::error=the proved library {} is missing", archive.display());
-        println!("cargo::error=make it with `rt staticlib {name}` at the root of the repository,");
+        println!("cargo::error=make it with `tools/archives {name}` at the root of the repository,");
         println!("cargo::error=or set NEKAHUIRO_LIB_DIR to the folder that holds lib{name}.a");
         std::process::exit(1);
     }

@@ -56,7 +56,7 @@ fn run(words: &[String]) -> Outcome {
 }
 
 fn wrong(what: &str) -> Failure {
-    Failure::new(&format!("the worked list failed: {what}"), "make the library again with `rt staticlib nekahuiro`")
+    Failure::new(&format!("the worked list failed: {what}"), "make the library again with `tools/archives nekahuiro`")
 }
 
 fn text(words: &[u8], answers: &[Answer], history: &History, end: &Store) -> Outcome<String> {

@@ -88,7 +88,7 @@ fn wrong(edition: Edition, unlike: &Unlike) -> Failure {
         Unlike::Longer => "it has more events".to_string(),
     };
     let mend =
-        format!("the linked library isn't the proved one; make it again with `rt staticlib {}`", library(edition));
+        format!("the linked library isn't the proved one; make it again with `tools/archives {}`", library(edition));
     Failure::new(&format!("one transaction at a time it isn't the same: {reason}"), &mend)
 }
 

@@ -62,7 +62,7 @@ type TellWrite = fn(&State, &[u8], &[u8], &[u8], u8, &mut [u8]) -> u8;
 
 /// The operations of an edition's library.
 struct Library {
-    /// As `rt staticlib` knows it.
+    /// As `tools/archives` knows it.
     name: &'static str,
     fresh: fn(&mut [u8]) -> u8,
     run: Run,
@@ -109,7 +109,7 @@ fn library_of(edition: Edition) -> &'static Library {
     }
 }
 
-/// The library of an edition, as `rt staticlib` knows it.
+/// The library of an edition, as `tools/archives` knows it.
 pub fn library(edition: Edition) -> &'static str {
     library_of(edition).name
 }

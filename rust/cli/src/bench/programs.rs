@@ -164,7 +164,7 @@ impl Bench {
             0 => Ok(time),
             _ => Err(Failure::new(
                 &format!("a run was refused with {number}"),
-                &format!("make the library again with `rt staticlib {}`", library(self.edition)),
+                &format!("make the library again with `tools/archives {}`", library(self.edition)),
             )),
         }
     }

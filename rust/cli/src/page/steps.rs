@@ -144,6 +144,6 @@ pub fn of(
 
 fn wrong(edition: Edition, what: &str) -> Failure {
     let reason = format!("played one event at a time, the list comes out otherwise: {what}");
-    let again = format!("make it again with `rt staticlib {}`", library(edition));
+    let again = format!("make it again with `tools/archives {}`", library(edition));
     Failure::new(&reason, &format!("the linked library isn't the proved one; {again}"))
 }

@@ -204,7 +204,7 @@ pub fn history(edition: Edition, earlier: &[Earlier], words: &[u8], answers: &[A
     };
     form.tell_from(earlier, words, &bytes).map_err(|absurd| {
         let reason = format!("event {}: the engine's answer can't be: {}", absurd.at + 1, absurd.what);
-        let again = format!("make it again with `rt staticlib {}`", library(edition));
+        let again = format!("make it again with `tools/archives {}`", library(edition));
         Failure::new(&reason, &format!("the linked library isn't the proved one; {again}"))
     })
 }
