@@ -5,8 +5,10 @@ use Prim.Native.Nat.{ℕ, zero, suc, ◌+◌, ◌-◌, ◌*◌, ◌/◌, ◌%◌
 use native.Mathlib.Nat.{div-one, div-div-eq-div-mul, pow-suc, mul_comm, lt_of_lt_of_le, le_of_suc-le-suc}
 use native.Mathlib.Numerals.{add-one}
 use native.Mathlib.Omega.{arith}
-use lib.Count.{ones, ones_step}
+use lib.Count.{ones, ones_step, ones-le}
 use lib.Pow.{pow_mono}
+use mir.Syntax.{w8}
+use mir.Val.{Fits}
 use Rattle.laws.specs.Tests.{same}
 use Rattle.laws.specs.Counting.{count}
 use Rattle.laws.proofs.Tests.{Same, is, isnt, same_cases}
@@ -59,6 +61,9 @@ count_placed (suc n) m h =
 pub count_ones : (g : Geometry) (m : ℕ) → m < 2 ^ records g → ones m ≡ count (records g) (named g m)
 unfolding named
 count_ones g m h = sym (count_placed (records g) m h)
+
+pub ones_fit : (m : ℕ) → m < 2 ^ 64 → Fits w8 (ones m)
+ones_fit m h = omega (arith, ones-le 64 m h)
 
 pub names_bit : (g : Geometry) (n m r : ℕ) → r < n → records g ≡ n → same (m / 2 ^ (n - 1 - r) % 2) 1 ≡ named g m r
 unfolding named

@@ -88,6 +88,9 @@ pub record MendedTo (i : ℕ) (s t : Pairs) : Type 0 where
   pub below : (p : ℕ) → p < i → t p ≡ mend (s p)
   pub from_there : (p : ℕ) → i ≤ p → t p ≡ s p
 
+pub mended-none : {s : Pairs} → MendedTo 0 s s
+mended-none = record { below = λ p h. absurd (omega arith); from_there = λ p h. refl }
+
 pub mended_more : {i : ℕ} {s t u : Pairs} → MendedTo i s t → u ≡ updated i (mend (t i)) t → MendedTo (i + 1) s u
 mended_more {i} {s} {t} {u} M e = record { below = λ p h. ap (λ (f : Pairs). f p) e ∙ go p h (same_cases p i); from_there = λ p h. ap (λ (f : Pairs). f p) e ∙ updated_other i (mend (t i)) t p (λ q. omega arith) ∙ M.from_there p (omega arith) }
   where

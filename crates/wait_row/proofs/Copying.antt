@@ -7,7 +7,7 @@ use native.Mathlib.Omega.{arith}
 use lib.ListN.{length, take, replicate, set, get_or, length-map, get_or-map}
 use Rattle.wait_row.specs.declared.Row.{Row}
 use Rattle.wait_row.specs.declared.Rows.{Rows}
-use Rattle.wait_row.specs.Copied.{zero_row, word_of, copied_to, least, open_copied}
+use Rattle.wait_row.specs.Copied.{zero_row, word_of, copied_to, least, copied_of, open_copied}
 
 next : (ws : List ℕ) (i m : ℕ) → i < length ws → set (take i ws ++ replicate (suc m) 0) i (get_or ws i 0) ≡ take (suc i) ws ++ replicate m 0
 next [] i m l = absurd (not-suc-le-zero l)
@@ -31,6 +31,10 @@ module _ (ys : List Row) where
       alike r
       (p ∙ ap (λ (w : ℕ). set (take i (map word_of ys) ++ replicate (24 - i) 0) i w) (sym (get_or-map word_of ys i zero_row))
       ∙ ap (λ (m : ℕ). set (take i (map word_of ys) ++ replicate m 0) i (get_or (map word_of ys) i 0)) room ∙ next (map word_of ys) i (24 - suc i) long) q
+
+  pub in_all : copied_to (least (length ys)) ys ≡ copied_of ys
+  unfolding copied_of
+  in_all = refl
 
 pub least_small : (n : ℕ) → least n ≤ 24
 unfolding least

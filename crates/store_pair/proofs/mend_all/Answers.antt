@@ -1,8 +1,11 @@
 -- So far the pairs below p are mended.
 use borrow.Author.Rules.{rules}
 use native.Mathlib.Omega.{arith}
-use Rattle.store_pair.proofs.Shown.{mended_more, mended-all}
+use Rattle.store_pair.proofs.Shown.{mended-none, mended_more, mended-all}
 use Rattle.store_pair.proofs.mend_all.Goals as goal
+
+pub loop-p-init : goal.loop-p-init
+loop-p-init c = (search rules, search rules, mended-none)
 
 pub loop-p-preserved : goal.loop-p-preserved
 loop-p-preserved c =

@@ -1,8 +1,8 @@
 -- The rows below i are copied; there are at most 24 of them, and no more than there are rows.
 use Rattle.std.proofs.Common.{◌≡◌, ◌<◌, length, set, get_or, ap, ◌∙◌, add-one, arith, rules, below_more}
 use Rattle.wait_row.specs.declared.Rows.{Rows}
-use Rattle.wait_row.specs.Copied.{copied_of, word_of, zero_row}
-use Rattle.wait_row.proofs.Copying.{begun, one_more, least_small, least_within}
+use Rattle.wait_row.specs.Copied.{word_of, zero_row}
+use Rattle.wait_row.proofs.Copying.{begun, one_more, in_all, least_small, least_within}
 use Rattle.wait_row.proofs.copied.Goals as goal
 
 pub loop-i-init : goal.loop-i-init
@@ -36,8 +36,7 @@ loop-i-preserved c =
     )
 
 pub returns : goal.returns
-unfolding copied_of
 returns c =
     let l = c.loop-i in
     let done : l.i ≡ c.taken-n.result = omega arith in
-    rw (← l.invariant.1, ← done) (l.invariant.2, l.invariant.3)
+    rw (← in_all c.args.rows.now, ← l.invariant.1, ← done) (l.invariant.2, l.invariant.3)
