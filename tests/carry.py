@@ -1,5 +1,6 @@
 #!/usr/bin/env python3
-"""tools/carry on small proofs, text alone: a proof is kept with its places by name and written again, after the code changed too. Nothing is proved here."""
+"""tools/carry on small proofs in the form of an older Rattle, text alone: a proof is kept with its places by name and written again, after the code changed too. Nothing is
+proved here, and nothing needs a kit."""
 import contextlib
 import io
 import os
