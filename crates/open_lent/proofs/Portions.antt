@@ -22,13 +22,11 @@ use Rattle.state_whole.specs.Whole.{Intact}
 use Rattle.state_whole.specs.Portion as portions
 use Rattle.state_whole.specs.Portion.{played}
 use Rattle.engine_portion.specs.Portion.{arrays_of}
-use Rattle.engine_portion.specs.declared.Engine.{Engine}
 use Rattle.engine_list.proofs.Words.{four_of}
 use Rattle.sound_clause.specs.Decides.{Decides}
 use Rattle.sound_clause.proofs.Decides.{decides_as, decides_and, decides_same}
 use Rattle.store_length.specs.Lengths.{lengths_refused, refusal_number}
 use Rattle.open_lent.specs.Portions.{LentState, kept, state_in, Encoded, PortionedAs}
-use Rattle.open_lent.specs.declared.Portioned.{Portioned}
 use Rattle.store_length.proofs.Lengths.{by_lengths, lengths_of}
 
 -- three bytes are zeros
@@ -52,14 +50,6 @@ first_in = record { many = refl; two_phase = refl; torn = refl }
 pub paired_in : InNumbers paired 16 false true
 unfolding records
 paired_in = record { many = refl; two_phase = refl; torn = refl }
-
--- a refusal as it is returned
-pub refused_as : (f : Form) (e : Engine) (work store events answers : List ℕ) (r : Portioned) (n : ℕ) → (r.engine ≡ e) × (r.number ≡ n)
-    → PortionedAs f (kept e work store) events answers n (kept e work store) answers
-    → PortionedAs f (kept e work store) events answers r.number (kept r.engine work store) answers
-refused_as f e work store events answers r n q P =
-    subst⁻¹ (λ (m : ℕ). PortionedAs f (kept e work store) events answers m (kept r.engine work store) answers) q.1
-    (subst⁻¹ (λ (d : Engine). PortionedAs f (kept e work store) events answers n (kept d work store) answers) q.0 P)
 
 -- of an edition with sixteen records
 module _ (tears : Bool) (edition : Edition) (many : records (geometry_of edition) ≡ 16) (x : LentState) (events answers : List ℕ) where

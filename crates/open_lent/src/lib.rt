@@ -110,17 +110,7 @@ pub struct Portioned {
     pub number: u8,
 }
 
-// A refused portion: the state stays.
-fn refused(e: Engine, n: u8) -> Portioned
-    ensures { (result.engine ≡ e) × (result.number ≡ n) }
-{
-    Portioned {
-        engine: e,
-        number: n,
-    }
-}
-
-// A portion by value: edition 1's, and that of pages that can tear.
+// A portion by value: edition 1's, and that of pages that can tear. The state is changed where it lies and leaves at one place, so that it is copied less: docs/DECISIONS.md.
 pub fn portion_of(
     e: Engine,
     store: &mut [u8],
@@ -145,17 +135,20 @@ pub fn portion_of(
         work.len(),
         answers.len(),
     );
-    if m != 0 {
-        return refused(e, m);
+    let mut after = e;
+    let mut number = m;
+    if m == 0 {
+        if is_state(after, &store[..], joint, tears) {
+            after = engine_portion::portion(after, store, events, work, answers, joint, tears);
+            number = 0;
+        } else {
+            number = 25;
+        }
     }
-    if is_state(e, &store[..], joint, tears) {
-        let after = engine_portion::portion(e, store, events, work, answers, joint, tears);
-        return Portioned {
-            engine: after,
-            number: 0,
-        };
+    Portioned {
+        engine: after,
+        number,
     }
-    refused(e, 25)
 }
 
 // The event that a question is on.
