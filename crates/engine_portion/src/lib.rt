@@ -30,7 +30,7 @@ pub struct Engine {
     pub spare: [u8; 3],
 }
 
-// A portion of events: the engine comes in and goes out by value, and is changed in place between. Edition 1's, and that of pages that can tear.
+// A portion of events: the engine comes in and goes out by value, and its copy is changed in place. Edition 1's, and that of pages that can tear.
 pub fn portion(
     e: Engine,
     store: &mut [u8],
@@ -49,21 +49,15 @@ pub fn portion(
         PortionPlayed form before events.now answers.old after answers.new }
     ensures spare_value { result.spare ≡ e.spare }
 {
-    let mut up = e.up;
-    let mut parent = e.parent;
-    let mut depth = e.depth;
-    let mut line = e.line;
-    let mut held = e.held;
-    let mut retained = e.retained;
-    let mut writers = e.writers;
+    let mut after = e;
     engine_list::play(
-        &mut up,
-        &mut parent,
-        &mut depth,
-        &mut line,
-        &mut held[..],
-        &mut retained[..],
-        &mut writers[..],
+        &mut after.up,
+        &mut after.parent,
+        &mut after.depth,
+        &mut after.line,
+        &mut after.held[..],
+        &mut after.retained[..],
+        &mut after.writers[..],
         work,
         store,
         events,
@@ -73,17 +67,7 @@ pub fn portion(
         joint,
         tears,
     );
-    let spare = e.spare;
-    Engine {
-        line,
-        held,
-        retained,
-        writers,
-        parent,
-        depth,
-        up,
-        spare,
-    }
+    after
 }
 
 // The start: down, and nothing live, held, retained or written. All zeros.

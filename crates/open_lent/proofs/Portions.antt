@@ -26,7 +26,7 @@ use Rattle.engine_list.proofs.Words.{four_of}
 use Rattle.sound_clause.specs.Decides.{Decides}
 use Rattle.sound_clause.proofs.Decides.{decides_as, decides_and, decides_same}
 use Rattle.store_length.specs.Lengths.{lengths_refused, refusal_number}
-use Rattle.open_lent.specs.Portions.{LentState, kept, state_in, Encoded, PortionedAs}
+use Rattle.open_lent.specs.Portions.{LentState, state_in, Encoded, PortionedAs}
 use Rattle.store_length.proofs.Lengths.{by_lengths, lengths_of}
 
 -- three bytes are zeros
