@@ -11,7 +11,7 @@ holds "README: what put left" grep -qx "00000003$(printf '00%.0s' {1..28})" out
 ok "README: sixty-four records" "^live 2$" in_readme "$(block_with 'large.bin')"
 ok "README: pages that can tear" "^live 2$" in_readme "$(block_with 'pairs.bin')"
 ok "README: events one by one" "^state.bin: up, nothing is live$" in_readme "$(block_with 'state.bin')"
-for word in '63, more than are ever due' 'puts A5 at offset 2 of record 3' 'x86-64' 'Rust 1.89' 'fifteen minutes' 'fifty minutes'; do
+for word in '63, more than are ever due' 'puts A5 at offset 2 of record 3' 'x86-64' 'Rust 1.89' 'twenty minutes' 'fifty minutes'; do
     holds "README says: $word" grep -qF -- "$word" "$root/README.md"
 done
 ok "the help says what 63 is" "Left out it is 63, more than are ever due" "$run" help
