@@ -1,5 +1,5 @@
 -- The arguments that several functions share.
-pub mod Free
+pub mod Places
 pub mod Change
 pub mod Matching
 pub mod Endings

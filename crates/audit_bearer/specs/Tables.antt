@@ -1,10 +1,16 @@
 -- The auditor's tables: for each event the transaction that owns it, for each transaction its parent and its fate, for each number who bears it.
-use Rattle.std.specs.Prelude.{ℕ, ◌+◌, ◌<◌, ◌≤◌, ◌≡◌, Bool, not, cond, ◌&&◌, ◌||◌, List, ◌≢◌, length, get_or}
+use Rattle.std.specs.Prelude.{ℕ, ◌+◌, ◌<◌, ◌≤◌, ◌≡◌, Bool, not, cond, ◌&&◌, ◌||◌, List, ◌≢◌, length, get_or, Option, Some, None}
 use Rattle.laws.specs.Tests.{same, under}
 use Rattle.history.specs.History.{climbs}
 use Rattle.audit_rules.specs.Plain.{Ledger}
 use Rattle.audit_link.specs.Links.{entry_at, fate_in, passed_in}
 use Rattle.audit_scan.specs.Scans.{grants_to, writes_up_to}
+use Rattle.audit_bearer.specs.declared.Tables as held
+
+-- the place that was found among n, or n where there is none
+unfoldable pub place_among : ℕ → Option ℕ → ℕ
+place_among n None = n
+place_among n (Some t) = t
 
 pub record Tables : Type 0 where
   pub owner : List ℕ
@@ -16,6 +22,14 @@ pub record Tables : Type 0 where
 
 unfoldable pub tables : List ℕ → List ℕ → List ℕ → List ℕ → ℕ → Bool → Tables
 tables owner parent fate bearer begun up = record { owner = owner; parent = parent; fate = fate; bearer = bearer; begun = begun; up = up }
+
+-- as the auditor holds them
+abbrev pub tables_of : held.Tables → Tables
+tables_of s = tables s.owner s.links.parent s.links.fate s.bearer s.begun s.up
+
+-- fates and bearers may change, and all else stays
+abbrev pub OthersStay : held.Tables → held.Tables → Type 0
+OthersStay old new = (new.owner ≡ old.owner) × (new.links.parent ≡ old.links.parent) × (new.begun ≡ old.begun) × (new.up ≡ old.up)
 
 -- what they tell after the first n events
 unfoldable pub ledger_of : Tables → List ℕ → ℕ → Ledger

@@ -9,7 +9,8 @@ use lib.ListN.{length, get_or}
 use Rattle.rules.specs.Event.{Event}
 use Rattle.audit_link.specs.Links.{Earlier}
 use Rattle.audit_bearer.specs.Tables.{Matched, tables}
-use Rattle.audit_event.specs.Step.{Before}
+use Rattle.audit_bearer.specs.declared.Tables as held
+use Rattle.audit_event.specs.Step.{Before, InOrder}
 
 pub record Bounds (owner parent fate bearer : List ℕ) (begun n : ℕ) : Type 0 where
   pub matched : Matched fate bearer begun
@@ -33,3 +34,6 @@ bounds_of owner parent fate bearer events begun n e up h B = let T = B.consisten
   room = omega (arith, f, h);
   more = omega (arith, f, h);
 }
+
+pub in_order : (s : held.Tables) (n : ℕ) → Bounds s.owner s.links.parent s.links.fate s.bearer s.begun n → InOrder s
+in_order s n b = record { owners = b.owners; full = b.full; earlier = b.earlier; tall = b.tall; wide = b.matched.wide; bearers = b.bearers; long = b.matched.long }

@@ -8,3 +8,4 @@ pub mod Commits
 pub mod Recovers
 pub mod Refuses
 pub mod Bounds
+pub mod Dones

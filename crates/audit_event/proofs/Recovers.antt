@@ -3,11 +3,10 @@ use mathlib.Core.Path.{◌≡◌, refl, sym, ap, ◌∙◌}
 use mathlib.Core.Bool.{Bool, true, false, not, true≢false, false≢true}
 use mathlib.Core.List.{List}
 use mathlib.Core.Option.{some}
-use Prim.Native.Nat.{ℕ, zero, suc}
-use mathlib.Core.Logic.{◌≢◌}
+use Prim.Native.Nat.{ℕ, suc}
 use native.Mathlib.Omega.{arith}
 use Rattle.rules.specs.Store.{Page, Pages, pages_of, damaged}
-use Rattle.rules.specs.Event.{recover, report_of}
+use Rattle.rules.specs.Event.{recover}
 use Rattle.rules.specs.Commit.{recover_at}
 use Rattle.rules.specs.Step.{number_of, value_of, first_of}
 use Rattle.rules.specs.Editions.{geometry1, edition1}
@@ -81,9 +80,3 @@ module _ (start : ℕ → Page) (owner parent fate bearer events store : List �
             learns = rw w (all_ledger start owner parent fate bearer events store begun n false false (recover k) B E);
             consistent = after_consistent start owner parent fate bearer events store begun n false (recover k) B fate' bearer' false S;
           }
-
--- a value that isn't 0 reports
-pub report_some : (v : ℕ) → v ≢ 0 → report_of 1 ≡ report_of v
-unfolding report_of
-report_some zero n = absurd (n refl)
-report_some (suc v) n = refl

@@ -1,15 +1,45 @@
 -- One event of an audit: the answer that is due by the tables, and the tables after it.
-use Rattle.std.specs.Prelude.{ℕ, suc, ◌≤◌, ◌≡◌, true, false, List, ◌≢◌, length, get_or}
+use Rattle.std.specs.Prelude.{ℕ, suc, ◌≤◌, ◌≡◌, true, false, List, ◌≢◌, length, get_or, Result, Ok, Err}
 use Rattle.std.proofs.Math.Option.{Option}
 use Rattle.rules.specs.Geometry.{records}
 use Rattle.rules.specs.Store.{Page, pages_of}
 use Rattle.rules.specs.Event.{Event}
-use Rattle.rules.specs.Step.{number_of, value_of}
+use Rattle.rules.specs.Step.{Answer, done, refused, cut, number_of, value_of}
 use Rattle.rules.specs.Editions.{geometry1, edition1}
 use Rattle.audit_rules.specs.Plain.{is_parent, learned, due}
-use Rattle.audit_link.specs.Links.{Earlier}
+use Rattle.audit_link.specs.Links.{Earlier, Bounded}
 use Rattle.audit_scan.specs.Scans.{event_in_bytes}
+use Rattle.audit_bearer.specs.declared.Tables as held
 use Rattle.audit_bearer.specs.Tables.{Tables, Matched, ledger_of}
+use Rattle.audit_page.specs.declared.Done.{Done}
+use Rattle.audit_page.specs.declared.Done.TheVariants.{Whole, Cut}
+use Rattle.audit_event.specs.declared.Refusal.{Refusal}
+use Rattle.audit_event.specs.declared.Refusal.TheVariants.{BadEvent, Down, Up, Damaged, NotLive, TooDeep, NoneFree, Barred, NotHeld, CommitBesideChild, BesideChild}
+
+-- a refusal by its number
+abbrev pub event_refusal : Refusal → ℕ
+event_refusal BadEvent = 1
+event_refusal Down = 2
+event_refusal Up = 3
+event_refusal Damaged = 4
+event_refusal NotLive = 5
+event_refusal TooDeep = 6
+event_refusal NoneFree = 7
+event_refusal Barred = 8
+event_refusal NotHeld = 9
+event_refusal CommitBesideChild = 10
+event_refusal BesideChild = 14
+
+-- what is answered, as the rules say it
+unfoldable pub answered_as : Result Done Refusal → Answer
+answered_as (Ok (Whole v)) = done v
+answered_as (Ok (Cut v)) = cut v
+answered_as (Err r) = refused (event_refusal r)
+
+-- opens the answers: for what is proved by computing
+unfoldable pub open_answers : Unit {0}
+unfolding answered_as number_of value_of
+open_answers = tt
 
 -- the tables are in order before event n
 pub record Consistent (b : Tables) (n : ℕ) : Type 0 where
@@ -43,3 +73,17 @@ Childless b events n me = is_parent (ledger_of b events n).story me ≡ false
 pub record Before (events : List ℕ) (n : ℕ) (e : Option Event) (b : Tables) : Type 0 where
   pub comes : event_in_bytes events n ≡ e
   pub consistent : Consistent b n
+
+-- the same as `Audited`, of an answer
+abbrev pub AuditedAs : (ℕ → Page) → List ℕ → ℕ → Tables → List ℕ → Option Event → Result Done Refusal → Tables → List ℕ → Type 0
+AuditedAs start events n b store e answer b' store' = Audited start events n b store e (number_of (answered_as answer)) (value_of (answered_as answer)) b' store'
+
+-- the arrays of the tables are in order
+pub record InOrder (s : held.Tables) : Type 0 where
+  pub owners : Bounded s.owner
+  pub full : length s.owner ≡ 4096
+  pub earlier : Earlier s.links.parent
+  pub tall : length s.links.parent ≡ 4097
+  pub wide : length s.links.fate ≡ 4097
+  pub bearers : Bounded s.bearer
+  pub long : length s.bearer ≡ 24

@@ -1,8 +1,20 @@
 -- The parent and the fate of each transaction in two arrays, and what a ledger says that they tell.
-use Rattle.std.specs.Prelude.{ℕ, ◌-◌, ◌<◌, ◌≤◌, ◌≡◌, Bool, cond, ◌&&◌, ◌||◌, List, get_or}
+use Rattle.std.specs.Prelude.{ℕ, ◌-◌, ◌<◌, ◌≤◌, ◌≡◌, Bool, true, false, cond, ◌&&◌, ◌||◌, List, get_or, Option, Some, None}
 use Rattle.laws.specs.Tests.{same, under}
 use Rattle.history.specs.History.{Fate, bearing, committed, stored, ended, is_committed, is_within, stands_with, survives}
 use Rattle.audit_rules.specs.Plain.{Ledger}
+use Rattle.audit_link.specs.declared.Left.{Left}
+use Rattle.audit_link.specs.declared.Left.TheVariants.{Locks, Data}
+
+-- a transaction, or none, as it is counted: 0 is none
+unfoldable pub one_of : Option ℕ → ℕ
+one_of None = 0
+one_of (Some i) = i
+
+-- the locks, not the data
+unfoldable pub is_locks : Left → Bool
+is_locks Locks = true
+is_locks Data = false
 
 -- 32 + t bears the number t; 2 is a child that committed, 3 a top transaction that survives; 0 and 1 are any other end
 unfoldable pub fate_of : ℕ → Fate
@@ -46,5 +58,5 @@ shows_to l reader i = survives l.story i || is_within l.story (stands_with l.sto
 
 -- opens the definitions of this module: for what is proved by computing
 unfoldable pub open_links : Unit {0}
-unfolding fate_of passed_of entry_at fate_in passed_in up_in shows_to
+unfolding one_of is_locks fate_of passed_of entry_at fate_in passed_in up_in shows_to
 open_links = tt

@@ -1,119 +1,129 @@
 // What has become of the transactions of a history. Transactions are counted from 1 as they begin; 0 is none.
-//   parent[i]   its parent, begun before it; 0 for a top one
-//   fate[i]     0 ended; 1 ended, and its locks went up; 2 a child that committed; 3 a top one that survives; 32 + t: it bears the number t
 #![tactic(auto)]
 
-ghost use Rattle.std.specs.Prelude.{◌≡◌, cond, not, ◌&&◌, ◌+◌, ◌-◌, ◌<◌, ◌≤◌};
+ghost use Rattle.std.specs.Prelude.{◌≡◌, Option, IfSome, cond, not, ◌&&◌, ◌+◌, ◌-◌, ◌<◌, ◌≤◌};
 ghost use Rattle.laws.specs.Tests.{same};
 ghost use Rattle.history.specs.History.{climbs, is_committed};
 ghost use Rattle.audit_rules.specs.Plain.{Ledger, rises, height, grant_blocks};
-ghost use Rattle.audit_link.specs.Links.{fate_of, passed_of, entry_at, up_in, Earlier, Linked, shows_to};
+ghost use Rattle.audit_link.specs.Links.{is_locks, one_of, fate_of, passed_of, entry_at, up_in, Earlier, Linked, shows_to};
 
-// A way up from a transaction: where it stands, and how many steps it may still go.
+// What transactions leave to their parents, and what has become of them.
+//   parent[i]   the parent of i, begun before it; 0 for a top one
+//   fate[i]     0 ended; 1 ended, and its locks went up; 2 a child that committed; 3 a top one that survives; 32 + t: it bears the number t
 #[derive(Drop)]
-pub struct Rise {
-    pub at: usize,
-    pub left: usize,
+pub struct Links {
+    pub parent: [u16; 4097],
+    pub fate: [u8; 4097],
 }
 
-// What a transaction with this fate left went up to its parent: its locks, or its data.
-pub fn goes_up(f: u8, locks: bool) -> bool
-    ensures { result ≡ cond locks (passed_of f) (is_committed (fate_of f)) }
-{
-    if locks {
-        return (0 < f) & (f < 32);
-    }
-    f == 2
+// What a transaction can leave to its parent.
+#[derive(Clone, Copy, Debug, PartialEq, Eq)]
+pub enum Left {
+    Locks,
+    Data,
 }
 
-// The parent of i.
-pub fn above(parent: &[u16; 4097], i: usize) -> usize
-    requires { (i < 4097) × Earlier parent.now }
-    ensures { (result ≡ entry_at parent.now i) × (result ≤ i - 1) }
+// What a transaction with this fate left went up to its parent.
+pub fn goes_up(f: u8, left: Left) -> bool
+    ensures { result ≡ cond (is_locks left) (passed_of f) (is_committed (fate_of f)) }
 {
-    parent[i] as usize
+    match left {
+        Left::Locks => (0 < f) & (f < 32),
+        Left::Data => f == 2,
+    }
 }
 
-// One step up, or the end of the way.
-fn one_up(parent: &[u16; 4097], fate: &[u8; 4097], locks: bool, c: Rise) -> Rise
-    requires { (c.at < 4097) × (0 < c.left) × Earlier parent.now }
-    ensures { let reached = rises (entry_at parent.now) (up_in fate.now locks) in
-        (reached result.left result.at ≡ reached c.left c.at) × (result.at < 4097) × (result.left < c.left) × (result.at ≤ c.at) }
+// A transaction, or none, as it is counted.
+pub fn one(entry: u16) -> Option<usize>
+    ensures { (one_of result ≡ entry) × IfSome result (λ j. 0 < j) }
 {
-    let at = c.at;
-    let left = c.left;
-    if goes_up(fate[at], locks) {
-        return Rise {
-            at: above(parent, at),
-            left: left - 1,
-        };
+    if entry == 0 {
+        return None;
     }
-    Rise { at, left: 0 }
+    Some(entry as usize)
 }
 
-// The transaction with which the locks, or the writes, of i stand by now.
-pub fn stands(parent: &[u16; 4097], fate: &[u8; 4097], locks: bool, i: usize) -> usize
-    requires { (i < 4097) × Earlier parent.now }
-    ensures { (result ≡ rises (entry_at parent.now) (up_in fate.now locks) i i) × (result ≤ i) }
-{
-    let mut c = Rise { at: i, left: i };
-    while 0 < c.left {
-        c = one_up(parent, fate, locks, c);
+impl Links {
+    // The parent of i.
+    pub fn above(&self, i: usize) -> Option<usize>
+        requires { (i < 4097) × Earlier self.now.parent }
+        ensures { (one_of result ≡ entry_at self.now.parent i) × (one_of result ≤ i - 1) × IfSome result (λ j. 0 < j) }
+    {
+        one(self.parent[i])
     }
-    c.at
-}
 
-// i is a, or a is an ancestor of i.
-pub fn within(parent: &[u16; 4097], a: usize, i: usize) -> bool
-    requires { (i < 4097) × Earlier parent.now }
-    ensures { result ≡ (not (same a 0) && climbs (entry_at parent.now) i a i) }
-{
-    let mut at = i;
-    let mut met = false;
-    while 0 < at {
-        met = met | (at == a);
-        at = above(parent, at);
+    // The transaction with which the locks, or the writes, of i stand by now. (The walks of `stands`, `within` and `depth_of` differ in where they stop and
+    // in what they keep: one function for the three would take two closures, and be no plainer.)
+    pub fn stands(&self, left: Left, i: usize) -> usize
+        requires { (i < 4097) × Earlier self.now.parent }
+        ensures { (result ≡ rises (entry_at self.now.parent) (up_in self.now.fate (is_locks left)) i i) × (result ≤ i) }
+    {
+        let mut at = i;
+        while goes_up(self.fate[at], left) {
+            match self.above(at) {
+                Some(up) => at = up,
+                None => return 0,
+            }
+        }
+        at
     }
-    met
-}
 
-// i and the transactions above it.
-pub fn depth_of(parent: &[u16; 4097], i: usize) -> usize
-    requires { (i < 4097) × Earlier parent.now }
-    ensures { result ≡ height (entry_at parent.now) i i }
-{
-    let mut at = i;
-    let mut d = 0usize;
-    while 0 < at {
-        d += 1;
-        at = above(parent, at);
+    // i is a, or a is an ancestor of i.
+    pub fn within(&self, a: usize, i: usize) -> bool
+        requires { (i < 4097) × Earlier self.now.parent }
+        ensures { result ≡ (not (same a 0) && climbs (entry_at self.now.parent) i a i) }
+    {
+        let mut at = i;
+        while at != a {
+            match self.above(at) {
+                Some(j) => at = j,
+                None => return false,
+            }
+        }
+        a != 0
     }
-    d
-}
 
-// A lock that i was granted stands in the way of another transaction.
-pub fn blocks(parent: &[u16; 4097], fate: &[u8; 4097], asker: usize, i: usize) -> bool
-    requires { (i < 4097) × (asker < 4097) × Earlier parent.now }
-    ensures { (l : Ledger) → Linked l parent.now fate.now → result ≡ grant_blocks l asker i }
-{
-    let j = stands(parent, fate, true, i);
-    if fate[j] < 32 {
-        return false;
+    // i and the transactions above it.
+    pub fn depth_of(&self, i: usize) -> usize
+        requires { (i < 4097) × Earlier self.now.parent }
+        ensures { result ≡ height (entry_at self.now.parent) i i }
+    {
+        if i == 0 {
+            return 0;
+        }
+        let mut at = i;
+        let mut d = 1usize;
+        while let Some(j) = self.above(at) {
+            at = j;
+            d += 1;
+        }
+        d
     }
-    if j == i {
-        return i != asker;
-    }
-    !within(parent, j, asker)
-}
 
-// A write of i shows to a transaction: it survives, or it stands with that one or an ancestor.
-pub fn shows(parent: &[u16; 4097], fate: &[u8; 4097], reader: usize, i: usize) -> bool
-    requires { (i < 4097) × (reader < 4097) × Earlier parent.now }
-    ensures { (l : Ledger) → Linked l parent.now fate.now → result ≡ shows_to l reader i }
-{
-    let j = stands(parent, fate, false, i);
-    if fate[j] == 3 {
-        return true;
+    // A lock that i was granted stands in the way of another transaction.
+    pub fn blocks(&self, asker: usize, i: usize) -> bool
+        requires { (i < 4097) × (asker < 4097) × Earlier self.now.parent }
+        ensures { (l : Ledger) → Linked l self.now.parent self.now.fate → result ≡ grant_blocks l asker i }
+    {
+        let j = self.stands(Left::Locks, i);
+        if self.fate[j] < 32 {
+            return false;
+        }
+        if j == i {
+            return i != asker;
+        }
+        !self.within(j, asker)
     }
-    within(parent, j, reader)
+
+    // A write of i shows to a transaction: it survives, or it stands with that one or an ancestor.
+    pub fn shows(&self, reader: usize, i: usize) -> bool
+        requires { (i < 4097) × (reader < 4097) × Earlier self.now.parent }
+        ensures { (l : Ledger) → Linked l self.now.parent self.now.fate → result ≡ shows_to l reader i }
+    {
+        let j = self.stands(Left::Data, i);
+        if self.fate[j] == 3 {
+            return true;
+        }
+        self.within(j, reader)
+    }
 }

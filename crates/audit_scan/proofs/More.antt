@@ -10,6 +10,7 @@ use native.Mathlib.Numerals.{add-one}
 use lib.ListN.{get_or, set}
 use lib.Dec.{eqb-suc-zero}
 use Rattle.laws.specs.Tests.{same, open_tests}
+use Rattle.laws.specs.Counting.{any}
 use Rattle.laws.proofs.Tests.{same_cases, Same, is, isnt, same_refl, ne_false, Is, is_cases, yes', no'}
 use Rattle.rules.specs.Store.{Page}
 use Rattle.rules.specs.Event.{Event, begin, lock, write, read, commit, abort, crash, recover, prepare, decide, query, access_of}
@@ -175,6 +176,20 @@ own_some o me x h = go (same_cases o 0)
     go (is q s _) = rw (q, ne_false 0 me (λ z. omega (arith, z, h)), same_refl 0)
     go (isnt q s _) = rw s
 
+-- some event is a lock, a write
+module _ (owner events : List ℕ) where
+  pub locks_any : (test : Mode → Bool) (p : ℕ → Bool) (r n : ℕ)
+      → any n (λ k. not (same (get_or owner k 0) 0) && (p (get_or owner k 0) && locks_at (event_in_bytes events k) r test)) ≡ locks_of test p r (grants_to owner events n)
+  unfolding any grants_to locks_of
+  locks_any test p r zero = refl
+  locks_any test p r (suc n) = rw (locks_any test p r n) (grant_more test p r (get_or owner n 0) (event_in_bytes events n) (grants_to owner events n))
+
+  pub writes_any : (p : ℕ → Bool) (r n : ℕ)
+      → any n (λ k. not (same (get_or owner k 0) 0) && (p (get_or owner k 0) && writes_at (event_in_bytes events k) r)) ≡ writes_to p r (writes_up_to owner events n)
+  unfolding any writes_up_to writes_to
+  writes_any p r zero = refl
+  writes_any p r (suc n) = rw (writes_any p r n) (write_more p r (get_or owner n 0) (event_in_bytes events n) (writes_up_to owner events n))
+
 module _ (owner events : List ℕ) (k : ℕ) where
   abbrev o : ℕ
   o = get_or owner k 0
@@ -182,23 +197,11 @@ module _ (owner events : List ℕ) (k : ℕ) where
   abbrev e : Option Event
   e = event_in_bytes events k
 
-  grants_next : grants_to owner events (k + 1) ≡ with_grant o e (grants_to owner events k)
-  unfolding grants_to
-  grants_next = ap (grants_to owner events) (add-one k)
-
   writes_next : writes_up_to owner events (k + 1) ≡ with_write o e (writes_up_to owner events k)
   unfolding writes_up_to
   writes_next = ap (writes_up_to owner events) (add-one k)
 
-  -- a scan of locks, of writes, of the writes that are laid over: one event more
-  pub locks_scan : (test : Mode → Bool) (p : ℕ → Bool) (r : ℕ) (met hit : Bool) → met ≡ locks_of test p r (grants_to owner events k)
-      → hit ≡ (not (same o 0) && (p o && locks_at e r test)) → (met || hit) ≡ locks_of test p r (grants_to owner events (k + 1))
-  locks_scan test p r met hit m h = rw (grants_next, m, h) (grant_more test p r o e (grants_to owner events k))
-
-  pub writes_scan : (p : ℕ → Bool) (r : ℕ) (met hit : Bool) → met ≡ writes_to p r (writes_up_to owner events k)
-      → hit ≡ (not (same o 0) && (p o && writes_at e r)) → (met || hit) ≡ writes_to p r (writes_up_to owner events (k + 1))
-  writes_scan p r met hit m h = rw (writes_next, m, h) (write_more p r o e (writes_up_to owner events k))
-
+  -- the writes that are laid over: one event more
   pub lay_scan : (p : ℕ → Bool) (r : ℕ) (b page after : Page) → page ≡ overlaid p r (writes_up_to owner events k) b
       → after ≡ cond (not (same o 0) && (p o && writes_at e r)) (byte_at e page) page → after ≡ overlaid p r (writes_up_to owner events (k + 1)) b
   lay_scan p r b page after m h = rw (writes_next) (h ∙ rw m (lay_more p r o e (writes_up_to owner events k) b))

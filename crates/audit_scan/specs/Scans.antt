@@ -1,5 +1,5 @@
 -- The accepted locks and writes among the first events of a list, by the transactions that own them.
-use Rattle.std.specs.Prelude.{ℕ, zero, suc, ◌*◌, Bool, true, false, cond, ◌&&◌, List, [], ◌∷◌, get_or, set, take, drop}
+use Rattle.std.specs.Prelude.{ℕ, zero, suc, ◌+◌, ◌*◌, ◌<◌, ◌≤◌, ◌≡◌, Bool, true, false, cond, ◌&&◌, List, [], ◌∷◌, length, get_or, set, take, drop}
 use Rattle.std.proofs.Math.Option.{Option, none, some}
 use Rattle.laws.specs.Tests.{same}
 use Rattle.laws.specs.Bytes.{number}
@@ -10,6 +10,29 @@ use Rattle.rules.specs.Locks.{mode_for}
 use Rattle.rules.specs.Editions.{geometry1}
 use Rattle.history.specs.History.{Write}
 use Rattle.audit_rules.specs.Plain.{Grant}
+use Rattle.leaf_event.specs.Flags.{flags}
+use Rattle.audit_link.specs.Links.{Earlier, Bounded}
+use Rattle.audit_scan.specs.declared.Modes.{Modes}
+use Rattle.audit_scan.specs.declared.Modes.TheVariants.{Any, Writing}
+use Rattle.audit_scan.specs.declared.Listed.{Listed}
+use Rattle.audit_scan.specs.declared.View.{View}
+
+-- event k of a list can be read
+abbrev pub Readable : Listed → ℕ → Type 0
+Readable list k = (list.table.now ≡ flags) × (k < 4096) × (4 * k + 4 ≤ length list.events.now)
+
+-- all events before the one that comes can be read
+abbrev pub AllReadable : Listed → Type 0
+AllReadable list = (list.table.now ≡ flags) × (list.n ≤ 4096) × (4 * list.n ≤ length list.events.now)
+
+-- the tables that a transaction looks at are in order
+abbrev pub Ordered : View → Type 0
+Ordered v = Earlier v.links.now.parent × Bounded v.owner.now × (v.me < 4097)
+
+-- any mode, not write mode alone
+unfoldable pub is_any : Modes → Bool
+is_any Any = true
+is_any Writing = false
 
 -- event k of a list of bytes
 unfoldable pub event_in_bytes : List ℕ → ℕ → Option Event

@@ -1,131 +1,71 @@
 // The history's accepted locks and writes, looked up event by event.
-//   events     the event words
-//   owner[k]   the transaction that event k belongs to, where it is an accepted lock or write; else 0
 #![tactic(auto)]
 
-ghost use Rattle.std.specs.Prelude.{◌≡◌, true, cond, not, ◌&&◌, ◌+◌, ◌*◌, ◌<◌, ◌≤◌, length, get_or};
+ghost use Rattle.std.specs.Prelude.{◌≡◌, IfSome, true, cond, not, ◌&&◌, ◌||◌, ◌<◌, get_or};
 ghost use Rattle.laws.specs.Tests.{same};
-ghost use Rattle.leaf_event.specs.Flags.{flags};
 ghost use Rattle.leaf_event.specs.Meaning.{meaning, InRange};
 ghost use Rattle.history.specs.History.{stands_with, writes_to, overlaid};
 ghost use Rattle.audit_rules.specs.Plain.{Ledger, grant_blocks, locks_of};
-ghost use Rattle.audit_link.specs.Links.{Earlier, Bounded, Linked, shows_to};
-ghost use Rattle.audit_scan.specs.Scans.{event_in_bytes, mode_test, locks_at, writes_at, byte_at, grants_to, writes_up_to};
+ghost use Rattle.audit_link.specs.Links.{one_of, Bounded, Linked, shows_to};
+ghost use Rattle.audit_scan.specs.Scans.{Readable, AllReadable, Ordered, is_any, event_in_bytes, mode_test, locks_at, writes_at, byte_at, grants_to, writes_up_to};
 
+use audit_link::{Left, Links};
 use leaf_event::Event;
 
-// Event k.
-pub fn event_at(table: &[u32; 16], events: &[u8], k: usize) -> Event
-    requires { (table.now ≡ flags) × (k < 4096) × (4 * k + 4 ≤ length events.now) }
-    ensures { (event_in_bytes events.now k ≡ meaning result) × InRange result }
-{
-    Event::of_word(table, Event::word_at(events, k))
+// A list of events, and the place of the one that comes.
+#[derive(Clone, Copy)]
+pub struct Listed<'a> {
+    pub table: &'a [u32; 16],
+    pub events: &'a [u8],
+    pub n: usize,
 }
 
-// The transaction that event k belongs to, or 0.
-fn owner_of(owner: &[u16; 4096], k: usize) -> usize
-    requires { (k < 4096) × Bounded owner.now }
-    ensures { (result ≡ get_or owner.now k 0) × (result < 4097) }
-{
-    owner[k] as usize
+// What a transaction can look up in the history before the event that comes.
+//   owner[k]   the transaction that event k belongs to, where it is an accepted lock or write; else 0
+//   me         the transaction that looks
+#[derive(Clone, Copy)]
+pub struct View<'a> {
+    pub list: Listed<'a>,
+    pub owner: &'a [u16; 4096],
+    pub links: &'a Links,
+    pub me: usize,
 }
 
-// e is a lock of r, in a mode that bars an access: any, or write mode.
-fn locks(e: Event, r: u8, any: bool) -> bool
+// The modes of a lock that count.
+#[derive(Clone, Copy, Debug, PartialEq, Eq)]
+pub enum Modes {
+    Any,
+    Writing,
+}
+
+impl Listed<'_> {
+    // Event k.
+    pub fn event_at(self, k: usize) -> Event
+        requires { Readable self k }
+        ensures { (event_in_bytes self.entry.events.now k ≡ meaning result) × InRange result }
+    {
+        Event::of_word(self.table, Event::word_at(self.events, k))
+    }
+}
+
+impl Modes {
+    // A lock that is asked for with this value counts: 0 asks for write mode.
+    fn counts(self, value: u8) -> bool
+        ensures { result ≡ (is_any self || same value 0) }
+    {
+        match self {
+            Modes::Any => true,
+            Modes::Writing => value == 0,
+        }
+    }
+}
+
+// e is a lock of r in a mode that counts.
+fn locks(e: Event, r: u8, modes: Modes) -> bool
     requires { InRange e }
-    ensures { result ≡ locks_at (meaning e) r (mode_test any) }
+    ensures { result ≡ locks_at (meaning e) r (mode_test (is_any modes)) }
 {
-    (e.kind == 2) & (e.rec == r) & (any | (e.value == 0))
-}
-
-// Event k is a lock of r by transaction `me` itself, in any mode or in write mode.
-fn own_lock(
-    table: &[u32; 16],
-    events: &[u8],
-    owner: &[u16; 4096],
-    k: usize,
-    me: usize,
-    r: u8,
-    any: bool,
-) -> bool
-    requires { (table.now ≡ flags) × (k < 4096) × (4 * k + 4 ≤ length events.now) × Bounded owner.now }
-    ensures { result ≡ (same (get_or owner.now k 0) me && locks_at (event_in_bytes events.now k) r (mode_test any)) }
-{
-    if owner_of(owner, k) != me {
-        return false;
-    }
-    locks(event_at(table, events, k), r, any)
-}
-
-// Among the first n events is a lock of r by `me` itself: `me` holds it.
-pub fn holds(
-    table: &[u32; 16],
-    events: &[u8],
-    owner: &[u16; 4096],
-    n: usize,
-    me: usize,
-    r: u8,
-    any: bool,
-) -> bool
-    requires { (table.now ≡ flags) × (n ≤ 4096) × (4 * n ≤ length events.now) × (0 < me) × Bounded owner.now }
-    ensures { result ≡ locks_of (mode_test any) (λ i. same i me) r (grants_to owner.now events.now n) }
-{
-    let mut met = false;
-    for k in 0..n {
-        met = met | own_lock(table, events, owner, k, me, r, any);
-    }
-    met
-}
-
-// Event k is a lock of r that bars `me`.
-fn bars(
-    table: &[u32; 16],
-    events: &[u8],
-    owner: &[u16; 4096],
-    parent: &[u16; 4097],
-    fate: &[u8; 4097],
-    k: usize,
-    me: usize,
-    r: u8,
-    any: bool,
-) -> bool
-    requires { (table.now ≡ flags) × (k < 4096) × (4 * k + 4 ≤ length events.now) × Earlier parent.now × Bounded owner.now × (me < 4097) }
-    ensures { let i = get_or owner.now k 0 in
-        let e = event_in_bytes events.now k in
-        ((l : Ledger) → Linked l parent.now fate.now
-        → result ≡ (not (same i 0) && (grant_blocks l me i && locks_at e r (mode_test any)))) }
-{
-    let i = owner_of(owner, k);
-    if i == 0 {
-        return false;
-    }
-    if locks(event_at(table, events, k), r, any) {
-        return audit_link::blocks(parent, fate, me, i);
-    }
-    false
-}
-
-// Among the first n events is a lock of r that bars `me`.
-pub fn barred(
-    table: &[u32; 16],
-    events: &[u8],
-    owner: &[u16; 4096],
-    parent: &[u16; 4097],
-    fate: &[u8; 4097],
-    n: usize,
-    me: usize,
-    r: u8,
-    any: bool,
-) -> bool
-    requires { (table.now ≡ flags) × (n ≤ 4096) × (4 * n ≤ length events.now) × Earlier parent.now × Bounded owner.now × (me < 4097) }
-    ensures { (l : Ledger) → Linked l parent.now fate.now
-        → result ≡ locks_of (mode_test any) (grant_blocks l me) r (grants_to owner.now events.now n) }
-{
-    let mut met = false;
-    for k in 0..n {
-        met = met | bars(table, events, owner, parent, fate, k, me, r, any);
-    }
-    met
+    (e.kind == 2) & (e.rec == r) & modes.counts(e.value)
 }
 
 // e is a write of r.
@@ -136,106 +76,121 @@ fn writes(e: Event, r: u8) -> bool
     (e.kind == 3) & (e.rec == r)
 }
 
-// Event k is a write of r that stands with `me`.
-fn own_write(
-    table: &[u32; 16],
-    events: &[u8],
-    owner: &[u16; 4096],
-    parent: &[u16; 4097],
-    fate: &[u8; 4097],
-    k: usize,
-    me: usize,
-    r: u8,
-) -> bool
-    requires { (table.now ≡ flags) × (k < 4096) × (4 * k + 4 ≤ length events.now) × Earlier parent.now × Bounded owner.now × (me < 4097) }
-    ensures { let i = get_or owner.now k 0 in
-        let e = event_in_bytes events.now k in
-        ((l : Ledger) → Linked l parent.now fate.now
-        → result ≡ (not (same i 0) && (same (stands_with l.story i) me && writes_at e r))) }
-{
-    let i = owner_of(owner, k);
-    if i == 0 {
-        return false;
+impl View<'_> {
+    // The transaction that event k belongs to.
+    fn owner_of(self, k: usize) -> Option<usize>
+        requires { (k < 4096) × Bounded self.owner.now }
+        ensures { (one_of result ≡ get_or self.entry.owner.now k 0) × IfSome result (λ i. (0 < i) × (i < 4097)) }
+    {
+        audit_link::one(self.owner[k])
     }
-    let e = event_at(table, events, k);
-    if writes(e, r) {
-        return audit_link::stands(parent, fate, false, i) == me;
-    }
-    false
-}
 
-// Among the first n events is a write of r that stands with `me`: it has changed r.
-pub fn changes(
-    table: &[u32; 16],
-    events: &[u8],
-    owner: &[u16; 4096],
-    parent: &[u16; 4097],
-    fate: &[u8; 4097],
-    n: usize,
-    me: usize,
-    r: u8,
-) -> bool
-    requires { (table.now ≡ flags) × (n ≤ 4096) × (4 * n ≤ length events.now) × Earlier parent.now × Bounded owner.now × (me < 4097) }
-    ensures { (l : Ledger) → Linked l parent.now fate.now
-        → result ≡ writes_to (λ i. same (stands_with l.story i) me) r (writes_up_to owner.now events.now n) }
-{
-    let mut met = false;
-    for k in 0..n {
-        met = met | own_write(table, events, owner, parent, fate, k, me, r);
+    // Event k is a lock of r by `me` itself, in a mode that counts. (`own_lock`, `bars`, `own_write` and `lay` ask different things of an event and of who
+    // owns it: a closure for each would be no plainer.)
+    fn own_lock(self, k: usize, r: u8, modes: Modes) -> bool
+        requires { Readable self.list k × Bounded self.owner.now }
+        ensures { result ≡ (same (get_or self.entry.owner.now k 0) self.entry.me && locks_at (event_in_bytes self.entry.list.events.now k) r (mode_test (is_any modes))) }
+    {
+        if self.owner[k] as usize != self.me {
+            return false;
+        }
+        locks(self.list.event_at(k), r, modes)
     }
-    met
-}
 
-// Event k is laid over a page of r, if it is a write of r that shows to `me`.
-fn lay(
-    page: &mut [u8; 32],
-    table: &[u32; 16],
-    events: &[u8],
-    owner: &[u16; 4096],
-    parent: &[u16; 4097],
-    fate: &[u8; 4097],
-    k: usize,
-    me: usize,
-    r: u8,
-)
-    requires { (table.now ≡ flags) × (k < 4096) × (4 * k + 4 ≤ length events.now) × Earlier parent.now × Bounded owner.now × (me < 4097) }
-    ensures { let i = get_or owner.now k 0 in
-        let e = event_in_bytes events.now k in
-        let before = page.old in
-        ((l : Ledger) → Linked l parent.now fate.now
-        → page.new ≡ cond (not (same i 0) && (shows_to l me i && writes_at e r)) (byte_at e before) before) }
-{
-    let i = owner_of(owner, k);
-    if i == 0 {
-        return;
+    // A lock of r by `me` itself was accepted: `me` holds it.
+    pub fn holds(self, r: u8, modes: Modes) -> bool
+        requires { AllReadable self.list × (0 < self.me) × Bounded self.owner.now }
+        ensures { result ≡ locks_of (mode_test (is_any modes)) (λ i. same i self.entry.me) r (grants_to self.entry.owner.now self.entry.list.events.now self.entry.list.n) }
+    {
+        (0..self.list.n).any(|k| self.own_lock(k, r, modes))
     }
-    let e = event_at(table, events, k);
-    if writes(e, r) {
-        if audit_link::shows(parent, fate, me, i) {
-            page[e.offset as usize] = e.value;
+
+    // Event k is a lock of r that bars `me`.
+    fn bars(self, k: usize, r: u8, modes: Modes) -> bool
+        requires { Readable self.list k × Ordered self }
+        ensures { let i = get_or self.entry.owner.now k 0 in
+            let e = event_in_bytes self.entry.list.events.now k in
+            ((l : Ledger) → Linked l self.entry.links.now.parent self.entry.links.now.fate
+            → result ≡ (not (same i 0) && (grant_blocks l self.entry.me i && locks_at e r (mode_test (is_any modes))))) }
+    {
+        match self.owner_of(k) {
+            None => false,
+            Some(i) => {
+                if locks(self.list.event_at(k), r, modes) {
+                    return self.links.blocks(self.me, i);
+                }
+                false
+            }
         }
     }
-}
 
-// What `me` reads of r: the settled page at the start, with the writes among the first n events laid over it that show to `me`.
-pub fn page_of(
-    settled: [u8; 32],
-    table: &[u32; 16],
-    events: &[u8],
-    owner: &[u16; 4096],
-    parent: &[u16; 4097],
-    fate: &[u8; 4097],
-    n: usize,
-    me: usize,
-    r: u8,
-) -> [u8; 32]
-    requires { (table.now ≡ flags) × (n ≤ 4096) × (4 * n ≤ length events.now) × Earlier parent.now × Bounded owner.now × (me < 4097) }
-    ensures { (l : Ledger) → Linked l parent.now fate.now
-        → result ≡ overlaid (shows_to l me) r (writes_up_to owner.now events.now n) settled }
-{
-    let mut page = settled;
-    for k in 0..n {
-        lay(&mut page, table, events, owner, parent, fate, k, me, r);
+    // A lock of r that was accepted bars `me`.
+    pub fn barred(self, r: u8, modes: Modes) -> bool
+        requires { AllReadable self.list × Ordered self }
+        ensures { (l : Ledger) → Linked l self.entry.links.now.parent self.entry.links.now.fate
+            → result ≡ locks_of (mode_test (is_any modes)) (grant_blocks l self.entry.me) r (grants_to self.entry.owner.now self.entry.list.events.now self.entry.list.n) }
+    {
+        (0..self.list.n).any(|k| self.bars(k, r, modes))
     }
-    page
+
+    // Event k is a write of r that stands with `me`.
+    fn own_write(self, k: usize, r: u8) -> bool
+        requires { Readable self.list k × Ordered self }
+        ensures { let i = get_or self.entry.owner.now k 0 in
+            let e = event_in_bytes self.entry.list.events.now k in
+            ((l : Ledger) → Linked l self.entry.links.now.parent self.entry.links.now.fate
+            → result ≡ (not (same i 0) && (same (stands_with l.story i) self.entry.me && writes_at e r))) }
+    {
+        match self.owner_of(k) {
+            None => false,
+            Some(i) => {
+                if writes(self.list.event_at(k), r) {
+                    return self.links.stands(Left::Data, i) == self.me;
+                }
+                false
+            }
+        }
+    }
+
+    // A write of r stands with `me`: it has changed r.
+    pub fn changes(self, r: u8) -> bool
+        requires { AllReadable self.list × Ordered self }
+        ensures { (l : Ledger) → Linked l self.entry.links.now.parent self.entry.links.now.fate
+            → result ≡ writes_to (λ i. same (stands_with l.story i) self.entry.me) r (writes_up_to self.entry.owner.now self.entry.list.events.now self.entry.list.n) }
+    {
+        (0..self.list.n).any(|k| self.own_write(k, r))
+    }
+
+    // Event k is laid over a page of r, if it is a write of r that shows to `me`.
+    fn lay(self, page: &mut [u8; 32], k: usize, r: u8)
+        requires { Readable self.list k × Ordered self }
+        ensures { let i = get_or self.entry.owner.now k 0 in
+            let e = event_in_bytes self.entry.list.events.now k in
+            let before = page.old in
+            ((l : Ledger) → Linked l self.entry.links.now.parent self.entry.links.now.fate
+            → page.new ≡ cond (not (same i 0) && (shows_to l self.entry.me i && writes_at e r)) (byte_at e before) before) }
+    {
+        if let Some(i) = self.owner_of(k) {
+            let e = self.list.event_at(k);
+            if writes(e, r) {
+                if self.links.shows(self.me, i) {
+                    page[e.offset as usize] = e.value;
+                }
+            }
+        }
+    }
+
+    // What `me` reads of r: the settled page at the start, with the writes laid over it that show to `me`.
+    pub fn page_of(self, settled: [u8; 32], r: u8) -> [u8; 32]
+        requires { AllReadable self.list × Ordered self }
+        ensures { (l : Ledger) → Linked l self.entry.links.now.parent self.entry.links.now.fate
+            → result ≡ overlaid (shows_to l self.entry.me) r (writes_up_to self.entry.owner.now self.entry.list.events.now self.entry.list.n) settled }
+    {
+        // A loop: `lay` changes the page in place, so that a fold would only hand it on.
+        let mut page = settled;
+        for k in 0..self.list.n {
+            self.lay(&mut page, k, r);
+        }
+        page
+    }
 }

@@ -1,15 +1,19 @@
 -- The refusals by their numbers, and the verdict by where the walk ended.
 use mathlib.Core.Path.{◌≡◌, refl, sym, ap, ◌∙◌}
-use mathlib.Core.Bool.{Bool, true, false, not, cond, ◌||◌}
+use mathlib.Core.Bool.{Bool, true, false, not, cond, ◌&&◌, ◌||◌}
 use mathlib.Core.List.{List, [], ◌∷◌}
-use mathlib.Core.Logic.{◌≢◌}
 use mathlib.Core.Option.{Option, none, some}
 use Prim.Native.Nat.{ℕ, ◌*◌, ◌/◌, ◌%◌, ◌<◌, ◌≤◌}
 use native.Mathlib.Omega.{arith}
+use lib.Dec.{eqb}
+use lib.Pointwise.{pointwise}
 use lib.ListN.{length}
+use Rattle.std.specs.Prelude.{Result, Ok, Err}
+use Rattle.std.specs.Result.{IsErrAnd}
+use Rattle.laws.specs.Bytes.{same_list}
 use Rattle.laws.specs.Tests.{same, under}
 use Rattle.laws.specs.Counting.{lowest}
-use Rattle.laws.proofs.Tests.{ne_false, lt-under, under-lt, not-under, same-eq, or_false_left, or_false_right}
+use Rattle.laws.proofs.Tests.{lt-under, under-lt, not-under, same-eq, or_false_left, or_false_right}
 use Rattle.laws.proofs.Booleans.{refute, not-false}
 use Rattle.rules.specs.Geometry.{records, page_count, word_size}
 use Rattle.rules.specs.Store.{Pages, pages_of, flat}
@@ -77,9 +81,9 @@ module _ (start events answers end : List ℕ) where
   unfolding first_of refusal_of same
   first_0 a b c d = ap first_of refusals_are ∙ rw (a, b, c, d)
 
-  pub verdict_refused : (r : ℕ) → r ≢ 0 → first ≡ refusal_of r → audit1 start events answers end ≡ refuses r
-  unfolding audit1 audit audit_by refusal_of
-  verdict_refused r n e = ap (audit_by edition1 start events answers end) (e ∙ ap (λ (b : Bool). cond b none (some r)) (ne_false r 0 n))
+  pub verdict_refused : (m : ℕ) → first ≡ some m → audit1 start events answers end ≡ refuses m
+  unfolding audit1 audit audit_by
+  verdict_refused m e = ap (audit_by edition1 start events answers end) e
 
   abbrev n : ℕ
   n = length events / 4
@@ -122,3 +126,16 @@ module _ (start events answers end : List ℕ) where
 -- by number and place
 pub told : (v w : Verdict) (r p before : ℕ) → v ≡ w → r ≡ number_in w → p ≡ place_in w before → (r ≡ number_in v) × (p ≡ place_in v before)
 told v w r p before e a b = (a ∙ ap number_in (sym e), b ∙ ap (λ (x : Verdict). place_in x before) (sym e))
+
+-- equal bytes
+pub pointwise_is : (xs ys : List ℕ) → pointwise eqb xs ys ≡ same_list xs ys
+unfolding same_list same
+pointwise_is [] [] = refl
+pointwise_is [] (y ∷ ys) = refl
+pointwise_is (x ∷ xs) [] = refl
+pointwise_is (x ∷ xs) (y ∷ ys) = ap (λ (b : Bool). eqb x y && b) (pointwise_is xs ys)
+
+-- what an error is
+pub error_is : {V E : Type 0} (v : Result V E) (r : E) → IsErrAnd v (λ e. e ≡ r) → v ≡ Err r
+error_is (Err e) r h = ap Err h
+error_is (Ok w) r h = absurd h

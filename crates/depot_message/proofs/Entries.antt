@@ -10,7 +10,11 @@ use lib.ListN.{get_or}
 use Rattle.laws.specs.Tests.{same, open_tests}
 use Rattle.laws.proofs.Tests.{same_refl, ne_false}
 use Rattle.depot_agreement.specs.Depot.{Stage, idle, asked, committed, aborted, Input, start, yes, no, give_up, Order, to_prepare, to_commit, to_abort, open_depot}
-use Rattle.depot_message.specs.Codes.{Left, stage_of, stage_code, message_of, message_code, reply_of, reply_code, turn_of, depot_left, open_depot_codes}
+use denote.Enum.Declared.{tag_of}
+use Rattle.depot_message.specs.contracts.Refusal.{the_type}
+use Rattle.depot_message.specs.declared.Refusal.{Refusal}
+use Rattle.depot_message.specs.declared.Refusal.TheVariants.{NoTurn}
+use Rattle.depot_message.specs.Codes.{turn_refusal, Left, stage_of, stage_code, message_of, message_code, reply_of, reply_code, turn_of, depot_left, open_depot_codes}
 
 pub stage_code_lem : (s : Stage) → stage_of (stage_code s) ≡ some s
 unfolding open_depot_codes
@@ -35,6 +39,11 @@ reply_code_lem to_abort = refl
 -- what a call leaves, part by part
 pub leaves : {l : Left} {n s q : ℕ} → l ≡ record { answer = n; state = s; reply = q } → (n ≡ l.answer) × (s ≡ l.state) × (q ≡ l.reply)
 leaves e = (sym (ap (λ (l : Left). l.answer) e), sym (ap (λ (l : Left). l.state) e), sym (ap (λ (l : Left). l.reply) e))
+
+-- a refusal's number is that of its variant
+pub number_is : (r : Refusal) → tag_of the_type r + 27 ≡ turn_refusal r
+unfolding turn_refusal
+number_is NoTurn = refl
 
 -- nothing is written
 abbrev pub unwritten : ℕ → ℕ → Left

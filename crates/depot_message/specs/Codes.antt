@@ -1,7 +1,10 @@
 -- The depot's states, messages and replies as numbers, and what its turn leaves: by the table of document 02, L9.
 use Rattle.std.proofs.Math.Option.{Option, none, some}
-use Rattle.std.specs.Prelude.{ℕ, zero, suc}
+use Rattle.std.specs.Prelude.{ℕ, zero, suc, ◌/◌, ◌%◌, Ok, Err}
+use Rattle.std.specs.declared.result.Result.{Result}
 use Rattle.depot_agreement.specs.Depot.{Stage, idle, asked, committed, aborted, Input, start, yes, no, give_up, Order, to_prepare, to_commit, to_abort, Turn, goes, refused, table}
+use Rattle.depot_message.specs.declared.Refusal.{Refusal}
+use Rattle.depot_message.specs.declared.Refusal.TheVariants.{NoTurn}
 
 unfoldable pub stage_of : ℕ → Option Stage
 stage_of zero = some idle
@@ -60,7 +63,15 @@ depot_left_by state reply (refused n) = record { answer = n; state = state; repl
 unfoldable pub depot_left : ℕ → ℕ → ℕ → Left
 depot_left state message reply = depot_left_by state reply (turn_of (stage_of state) (message_of message))
 
+unfoldable pub turn_refusal : Refusal → ℕ
+turn_refusal NoTurn = 27
+
+-- what an entry of the code's table leaves: the next state times 4, and the reply
+unfoldable pub entry_left : ℕ → ℕ → Result ℕ Refusal → Left
+entry_left state reply (Ok e) = record { answer = 0; state = e / 4; reply = e % 4 }
+entry_left state reply (Err r) = record { answer = turn_refusal r; state = state; reply = reply }
+
 -- opens the definitions of this module: for what is proved by computing
 unfoldable pub open_depot_codes : Unit {0}
-unfolding stage_of stage_code message_of message_code reply_of reply_code turn_of depot_left_by depot_left
+unfolding stage_of stage_code message_of message_code reply_of reply_code turn_of depot_left_by depot_left turn_refusal entry_left
 open_depot_codes = tt

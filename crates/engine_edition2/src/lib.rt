@@ -5,6 +5,8 @@
 ghost use Rattle.std.specs.Prelude.{◌≡◌, ◌*◌, ◌/◌, ◌≤◌, length};
 ghost use Rattle.engine_edition2.specs.Lists.{EndedAs};
 
+use state_whole::State;
+
 // What is left of the state after a list: all that the page writes of the next event are told from, beside the working buffer and the store.
 #[derive(Drop)]
 pub struct Ended {
@@ -20,34 +22,23 @@ pub fn from_start(store: &mut [u8], events: &[u8], work: &mut [u8], answers: &mu
     requires { (length store.old ≡ 4128) × (length work.old ≡ 32768) × (length events.now ≤ 32768) × (2 * (length events.now / 8) ≤ length answers.old) }
     ensures { EndedAs store.old events.now answers.old result store.new work.new answers.new }
 {
-    let mut up = 0u8;
-    let mut parent = [0u8; 24];
-    let mut depth = [0u8; 24];
-    let mut line = [0u32; 24];
-    let mut held = [0u32; 128];
-    let mut retained = [0u32; 128];
-    let mut writers = [0u32; 64];
-    engine_list::play(
-        &mut up,
-        &mut parent,
-        &mut depth,
-        &mut line,
-        &mut held[..],
-        &mut retained[..],
-        &mut writers[..],
-        work,
-        store,
-        events,
-        answers,
-        64,
-        8,
-        false,
-        false,
-    );
+    let mut s = State {
+        line: [0; 24],
+        held: [0; 128],
+        retained: [0; 128],
+        writers: [0; 64],
+        parent: [0; 24],
+        depth: [0; 24],
+        up: 0,
+    };
+    engine_list::play::<64, 128, false, false>(&mut s, work, store, events, answers, 8);
+    let writers = s.writers;
+    let parent = s.parent;
+    let depth = s.depth;
     Ended {
         writers,
         parent,
         depth,
-        up,
+        up: s.up,
     }
 }

@@ -65,11 +65,6 @@ module _ (word k w : ℕ) (events : List ℕ) (r : Event) where
 pub room : {word : ℕ} (n k long : ℕ) → word ≡ n → word * k + word ≤ long → n * k + n ≤ long
 room n k long e h = subst (λ (m : ℕ). m * k + m ≤ long) e h
 
--- how many words a list has
-pub some_bytes : {word : ℕ} → WordBytes word → 1 ≤ word
-some_bytes (inl e) = omega arith
-some_bytes (inr e) = omega arith
-
 abbrev Counted : ℕ → ℕ → Type 0
 Counted long word = (long / word ≤ 4096) × (word * (long / word) ≤ long)
 

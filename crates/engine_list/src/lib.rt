@@ -1,4 +1,4 @@
-// A list of events over the engine, with an answer each: the one loop of every edition. Whoever calls it passes the edition's numbers as constants, and in
+// A list of events over the engine, with an answer each: the one loop of every edition. Whoever calls it passes the edition's numbers as const arguments, and in
 // one place of each archive, so that `step` has one call site there and the compiler makes the engine of that edition.
 #![tactic(auto)]
 
@@ -9,13 +9,15 @@ ghost use Rattle.rules.specs.Event.{decode};
 ghost use Rattle.rules.specs.Editions.{Edition, geometry_of, form_in, InNumbers, edition_of};
 ghost use Rattle.leaf_event.specs.Flags.{flags2};
 ghost use Rattle.leaf_event.specs.Meaning.{meaning, InWord};
-ghost use Rattle.state_whole.specs.Whole.{arrays, Intact};
+ghost use Rattle.state_whole.specs.Lain.{arrays_in};
+ghost use Rattle.state_whole.specs.Whole.{Intact};
 ghost use Rattle.state_whole.specs.Portion.{PortionPlayed};
 ghost use Rattle.engine_list.specs.Words.{WordBytes, flags_in};
 
 use leaf_event::edition2::Edition2;
 use leaf_event::pairs::Pairs;
 use leaf_event::{Answer, Event};
+use state_whole::{Derived, State};
 
 // The bytes of edition 2's words. Those of the others have four.
 const WIDE_WORD: usize = 8;
@@ -56,60 +58,36 @@ fn event_at(
 
 // Plays a list of events, in place. What follows from the parents and depths alone, and what the store says of a prepared transaction, is found at the
 // start and not kept.
-pub fn play(
-    up: &mut u8,
-    parent: &mut [u8; 24],
-    depth: &mut [u8; 24],
-    line: &mut [u32; 24],
-    held: &mut [u32],
-    retained: &mut [u32],
-    writers: &mut [u32],
+pub fn play<const RECORDS: usize, const PLACES: usize, const JOINT: bool, const TEARS: bool>(
+    s: &mut State<RECORDS, PLACES>,
     work: &mut [u8],
     store: &mut [u8],
     events: &[u8],
     answers: &mut [u8],
-    records: usize,
     word: usize,
-    joint: bool,
-    tears: bool,
 )
-    requires { let edition = edition_of records joint tears in
-        let here = arrays up.old parent.old depth.old line.old held.old retained.old writers.old work.old store.old in
-        Intact (form_in tears (geometry_of edition)) here × InNumbers edition records joint tears × (word_size (geometry_of edition) ≡ word) × WordBytes word
+    requires numbers { InNumbers (edition_of RECORDS JOINT TEARS) RECORDS JOINT TEARS × (PLACES ≡ 2 * RECORDS) }
+    requires intact { Intact (form_in TEARS (geometry_of (edition_of RECORDS JOINT TEARS))) (arrays_in s.old work.old store.old) }
+    requires words { (word_size (geometry_of (edition_of RECORDS JOINT TEARS)) ≡ word) × WordBytes word
         × (length events.now ≤ 4096 * word) × (2 * (length events.now / word) ≤ length answers.old) }
-    ensures { let before = arrays up.old parent.old depth.old line.old held.old retained.old writers.old work.old store.old in
-        let after = arrays up.new parent.new depth.new line.new held.new retained.new writers.new work.new store.new in
-        let form = form_in tears (geometry_of (edition_of records joint tears)) in
+    ensures { let before = arrays_in s.old work.old store.old in
+        let after = arrays_in s.new work.new store.new in
+        let form = form_in TEARS (geometry_of (edition_of RECORDS JOINT TEARS)) in
         PortionPlayed form before events.now answers.old after answers.new }
 {
-    let mut live = state_tree::live_set(depth);
-    let mut children = state_tree::children_of(parent, depth);
-    let p = store_commit::read_held(&store[..], records, joint, tears);
-    let mut reserved = p.map;
-    let mut identity = p.identity;
-    let narrow_table = table(tears);
+    let p = store_commit::read_held(&store[..], RECORDS, JOINT, TEARS);
+    let mut d = Derived {
+        children: state_tree::children_of(&s.parent, &s.depth),
+        live: state_tree::live_set(&s.depth),
+        reserved: p.map,
+        identity: p.identity,
+    };
+    let narrow_table = table(TEARS);
     let wide_table = Edition2::table();
     let n = events.len() / word;
     for k in 0..n {
-        let a = engine_step::step(
-            up,
-            parent,
-            depth,
-            line,
-            &mut live,
-            &mut children,
-            held,
-            retained,
-            writers,
-            work,
-            store,
-            &mut reserved,
-            &mut identity,
-            records,
-            joint,
-            tears,
-            event_at(&narrow_table, &wide_table, events, k, word, tears),
-        );
-        Answer::put(answers, k, a);
+        let e = event_at(&narrow_table, &wide_table, events, k, word, TEARS);
+        let a = engine_step::step::<_, _, JOINT, TEARS>(s, &mut d, work, store, e);
+        Answer::put(answers, k, Answer::of(a));
     }
 }

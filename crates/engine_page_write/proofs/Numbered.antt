@@ -1,5 +1,5 @@
 -- The write with a number, phase by phase: which phase it is in, and which record it is of.
-use mathlib.Core.Path.{◌≡◌, refl, sym, ap, subst⁻¹, ◌∙◌}
+use mathlib.Core.Path.{◌≡◌, refl, sym, ap, subst, subst⁻¹, ◌∙◌}
 use mathlib.Core.Bool.{Bool, true, false, cond, ◌&&◌, true≢false}
 use mathlib.Core.List.{List, [], ◌∷◌, ◌++◌, map, append-nil}
 use mathlib.Core.Option.{none, some}
@@ -15,7 +15,8 @@ use lib.Seq.{get_or-append_seam, drop-length, take_all}
 use Rattle.laws.specs.Tests.{same}
 use Rattle.laws.specs.Bytes.{number}
 use Rattle.laws.specs.Counting.{count, those}
-use Rattle.laws.proofs.Tests.{Same, same_cases, is, isnt}
+use Rattle.laws.proofs.Tests.{Same, same_cases, is, isnt, same_refl, ne_false}
+use Rattle.laws.proofs.All.{and-false}
 use Rattle.laws.proofs.Those.{those-length}
 use Rattle.rules.specs.Geometry.{Geometry, records}
 use Rattle.rules.specs.Store.{Page, pages_of, named, commit_page, prepared_page}
@@ -73,6 +74,29 @@ module _ (p : ℕ → Bool) (d : ℕ) where
       go : (b : Bool) → cond b (suc (count r p)) (count r p) ≡ cond b (count r p + 1) (count r p)
       go true = omega arith
       go false = refl
+
+  -- the record that a test picks as the one with a number stays that
+  more : (b : Bool) (x n : ℕ) → n < x → n < cond b (x + 1) x
+  more true x n h = omega arith
+  more false x n h = h
+
+  stays : (r n k : ℕ) → p r ≡ true → count r p ≡ n → r < k → (get_or (those k p) n d ≡ r) × (n < count k p)
+  stays r n zero b e h = absurd (omega arith)
+  stays r n (suc k) b e h =
+      dite (dec_lt r k)
+      (λ lt.
+      let s = stays r n k b e lt in
+      let other : count k p ≢ n = λ q. (let z = s.1 in omega (arith, q, z)) in
+      (next_record k n ∙ rw (ne_false (count k p) n other, and-false (p k)) s.0, rw (next_count k) (more (p k) (count k p) n s.1)))
+      (λ nlt.
+      let z : r ≡ k = omega arith in
+      subst (λ (k : ℕ). (get_or (those (suc k) p) n d ≡ r) × (n < count (suc k) p)) z (next_record r n ∙ rw (b, e, same_refl n) refl, rw (next_count r, b, e) (omega arith)))
+
+  pub picked_at : (r n k : ℕ) → p r ≡ true → count r p ≡ n → r < k → r ≡ get_or (those k p) n d
+  picked_at r n k b e h = sym (stays r n k b e h).0
+
+  pub past_last : (n k : ℕ) → count k p ≤ n → d ≡ get_or (those k p) n d
+  past_last n k h = sym (late (those k p) n (rw (those-length k p) h))
 
   -- the record with a number that there is
   among : (xs : List ℕ) (n : ℕ) → n < length xs → mem (get_or xs n d) xs ≡ true
@@ -288,20 +312,9 @@ pub there_is : (there : Bool) (k n : ℕ) → k ≡ cond there n 0 → 0 < k →
 there_is true k n e h = refl
 there_is false k n e h = absurd (omega arith)
 
--- one turn of the loop over the records
-module _ (g : Geometry) (d map n r at seen : ℕ) (b : Bool) (e₁ : b ≡ named g map r) (e₂ : at ≡ get_or (those r (named g map)) n d) (e₃ : seen ≡ count r (named g map)) where
-  pub turn_record : (at' : ℕ) → at' ≡ cond (b && same seen n) r at → at' ≡ get_or (those (r + 1) (named g map)) n d
-  turn_record at' q =
-      q ∙ (λ i. cond (e₁ i && same (e₃ i) n) r (e₂ i)) ∙ sym (next_record (named g map) d r n)
-      ∙ ap (λ (k : ℕ). get_or (those k (named g map)) n d) (sym (add-one r))
-
-  pub turn_count : (seen' : ℕ) → seen' ≡ cond b (seen + 1) seen → seen' ≡ count (r + 1) (named g map)
-  turn_count seen' q = q ∙ (λ i. cond (e₁ i) (e₃ i + 1) (e₃ i)) ∙ sym (next_count (named g map) d r) ∙ ap (λ (k : ℕ). count k (named g map)) (sym (add-one r))
-
--- no more are named than there are
-pub one_more_least : (b : Bool) (n r x : ℕ) → x ≡ cond b (n + 1) n → n ≤ r → x ≤ r + 1
-one_more_least true n r x e h = omega (arith, e, h)
-one_more_least false n r x e h = omega (arith, e, h)
+-- how many are named, after one more
+pub named_more : (g : Geometry) (map r seen : ℕ) (b : Bool) → b ≡ named g map r → seen ≡ count r (named g map) → cond b (seen + 1) seen ≡ count (r + 1) (named g map)
+named_more g map r seen b e q = (λ i. cond (e i) (q i + 1) (q i)) ∙ sym (next_count (named g map) 0 r) ∙ ap (λ (k : ℕ). count k (named g map)) (sym (add-one r))
 
 -- the page that is written
 pub source_stored : (tears : Bool) (p : Plan) (work store : List ℕ) (r : ℕ) (page : Page) → page ≡ shown_in tears (store_of tears store) (1 + r) → p.stored ≡ true → page ≡ source_of tears p work store r

@@ -372,6 +372,11 @@ module _ (tears : Bool) (g : Geometry) (N : ℕ) (many : records g ≡ N) where
   unnamed_plans x I e p q h t = plans_as x (some (settling (same e.kind 9) e.transaction e.count e.value)) (meaning e) p (settles e h)
       (plans_none x (some (settling (same e.kind 9) e.transaction e.count e.value)) p q (no_such x I (same e.kind 9) e.transaction e.count e.value t))
 
+-- where there is no plan no write has a number
+pub nothing_at : (tears : Bool) (g : Geometry) (N : ℕ) (work store : List ℕ) (i : ℕ) → write_at i (writes_of tears g N nothing work store) ≡ none
+unfolding writes_of when write_at
+nothing_at tears g N work store i = refl
+
 -- what is told of a plan's page writes is told of the rules' plan
 pub told_as : (tears : Bool) (index : ℕ) (before : List ℕ) {answer : ℕ} {after : List ℕ} {ws us : List PageWrite} → ws ≡ us
     → (let said = write_told (write_at index (spelled_in tears ws)) before in (answer ≡ said.answer) × (after ≡ said.write))

@@ -1,6 +1,7 @@
 -- The page writes that a plan of phases stands for, and the plans of each kind of event, on atomic pages and on pages that can tear.
-use Rattle.std.specs.Prelude.{◌≡◌, Bool, true, false, not, cond, List, [], ◌∷◌, ◌++◌, ℕ, ◌+◌, ◌/◌, ◌%◌}
-use Rattle.std.proofs.Math.Option.{Option}
+use Rattle.std.specs.Prelude.{◌≡◌, Bool, true, false, not, cond, List, [], ◌∷◌, ◌++◌, ℕ, ◌+◌, ◌/◌, ◌%◌, Some, None}
+use Rattle.std.specs.declared.option.Option.{Option as Answered}
+use Rattle.std.proofs.Math.Option.{Option, none, some}
 use Rattle.laws.specs.Tests.{same}
 use Rattle.rules.specs.Geometry.{Geometry}
 use Rattle.rules.specs.Store.{Page, named, commit_page, prepared_page}
@@ -21,6 +22,11 @@ plan map identity intentions committed prepared homes emptied stored =
 abbrev pub nothing : Plan
 nothing = plan 0 0 false false false false false false
 
+-- the code's plan, which there is none of where nothing is written
+abbrev pub plan_told : Answered Plan → Plan
+plan_told None = nothing
+plan_told (Some p) = p
+
 unfoldable pub of_top : ℕ → Bool → ℕ → Plan
 of_top map prepares identity = cond (same map 0) nothing (plan map identity true (not prepares) prepares (not prepares) (not prepares) false)
 
@@ -29,6 +35,15 @@ of_recovery map = cond (same map 0) nothing (plan map 0 false false false true t
 
 abbrev pub of_decision : ℕ → Bool → Plan
 of_decision map commits = plan map 0 false commits false commits true true
+
+-- the code's record, which there is none of past the last; and its page write, by the page's number and the page
+abbrev pub record_or : ℕ → Answered ℕ → ℕ
+record_or d None = d
+record_or d (Some r) = r
+
+abbrev pub page_write_told : Answered (ℕ × Page) → Option PageWrite
+page_write_told None = none
+page_write_told (Some w) = some (sets w.0 w.1)
 
 -- the page write that the write with a number is, or is a copy of, and the bytes of that write
 abbrev pub page_number : Bool → ℕ → ℕ

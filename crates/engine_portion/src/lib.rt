@@ -7,15 +7,20 @@ ghost use Rattle.rules.specs.State.{down};
 ghost use Rattle.rules.specs.Editions.{Edition, geometry_of, form_in, InNumbers, edition_of, work_bytes};
 ghost use Rattle.state_whole.specs.Whole.{view, Intact};
 ghost use Rattle.state_whole.specs.Portion.{PortionPlayed};
-ghost use Rattle.engine_portion.specs.Portion.{arrays_of};
+ghost use Rattle.state_whole.specs.Lain.{arrays_in};
+ghost use Rattle.engine_portion.specs.Portion.{arrays_of, state_lent, lent_as};
+
+use state_whole::State;
 
 const RECORDS: usize = 16;
+
+const PLACES: usize = 32;
 
 // The bytes of an event word.
 const WORD: usize = 4;
 
 // The engine's state between two portions, 468 bytes with no padding; all zeros is the start. A caller keeps it and lends it: the order of the fields
-// is final.
+// is final. It is no State<16, 32>: a struct that an exported function is lent has no const parameters.
 #[repr(C)]
 #[derive(Clone, Copy)]
 pub struct Engine {
@@ -30,44 +35,68 @@ pub struct Engine {
     pub spare: [u8; 3],
 }
 
-// A portion of events: the engine comes in and goes out by value, and its copy is changed in place. Edition 1's, and that of pages that can tear.
-pub fn portion(
-    e: Engine,
+impl Engine {
+    // The state that is lent, to play on.
+    pub fn state(&self) -> State<RECORDS, PLACES>
+        ensures { result ≡ state_lent self.now }
+    {
+        let line = self.line;
+        let held = self.held;
+        let retained = self.retained;
+        let writers = self.writers;
+        let parent = self.parent;
+        let depth = self.depth;
+        State {
+            line,
+            held,
+            retained,
+            writers,
+            parent,
+            depth,
+            up: self.up,
+        }
+    }
+
+    // A state as it is lent, with the spare bytes.
+    pub fn of(s: State<RECORDS, PLACES>, spare: [u8; 3]) -> Engine
+        ensures { result ≡ lent_as s spare }
+    {
+        let line = s.line;
+        let held = s.held;
+        let retained = s.retained;
+        let writers = s.writers;
+        let parent = s.parent;
+        let depth = s.depth;
+        Engine {
+            line,
+            held,
+            retained,
+            writers,
+            parent,
+            depth,
+            up: s.up,
+            spare,
+        }
+    }
+}
+
+// A portion of events, in place. Edition 1's, and that of pages that can tear.
+pub fn portion<const JOINT: bool, const TEARS: bool>(
+    s: &mut State<RECORDS, PLACES>,
     store: &mut [u8],
     events: &[u8],
     work: &mut [u8],
     answers: &mut [u8],
-    joint: bool,
-    tears: bool,
-) -> Engine
-    requires { let edition = edition_of 16 joint tears in
-        Intact (form_in tears (geometry_of edition)) (arrays_of e work.old store.old) × InNumbers edition 16 joint tears
+)
+    requires { let edition = edition_of 16 JOINT TEARS in
+        Intact (form_in TEARS (geometry_of edition)) (arrays_in s.old work.old store.old) × InNumbers edition 16 JOINT TEARS
         × (length events.now ≤ 16384) × (2 * (length events.now / 4) ≤ length answers.old) }
-    ensures fact { let before = arrays_of e work.old store.old in
-        let after = arrays_of result work.new store.new in
-        let form = form_in tears (geometry_of (edition_of 16 joint tears)) in
+    ensures { let before = arrays_in s.old work.old store.old in
+        let after = arrays_in s.new work.new store.new in
+        let form = form_in TEARS (geometry_of (edition_of 16 JOINT TEARS)) in
         PortionPlayed form before events.now answers.old after answers.new }
-    ensures spare_value { result.spare ≡ e.spare }
 {
-    let mut after = e;
-    engine_list::play(
-        &mut after.up,
-        &mut after.parent,
-        &mut after.depth,
-        &mut after.line,
-        &mut after.held[..],
-        &mut after.retained[..],
-        &mut after.writers[..],
-        work,
-        store,
-        events,
-        answers,
-        RECORDS,
-        WORD,
-        joint,
-        tears,
-    );
-    after
+    engine_list::play::<RECORDS, PLACES, JOINT, TEARS>(s, work, store, events, answers, WORD);
 }
 
 // The start: down, and nothing live, held, retained or written. All zeros.

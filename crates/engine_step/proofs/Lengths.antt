@@ -13,7 +13,9 @@ use Rattle.rules.specs.Pairs.{is_whole, shown, pairs_of}
 use Rattle.rules.proofs.PairedPages.{all_whole, calm_emptied}
 use Rattle.store_write.specs.Phase.{stride_of, place_of}
 use Rattle.store_pair.proofs.Shown.{place_shows}
-use Rattle.event_crash.proofs.Editions.{size_is}
+use Rattle.event_crash.proofs.Editions.{size_is, known_of, few}
+use Rattle.state_whole.specs.Lain.{arrays_in, WellSized}
+use Rattle.state_whole.specs.declared.State.{State}
 use Rattle.state_whole.specs.Whole.{Arrays, view, Formed, Intact, ReadyLeaf}
 use Rattle.state_whole.proofs.Steps.{up_is}
 
@@ -32,6 +34,11 @@ module _ (k : Edition) (n : ℕ) (joint tears : Bool) (N : InNumbers k n joint t
 
   pub store_length : length x.store ≡ stride_of tears * (1 + (n + n))
   store_length = F.stores ∙ size_is tears (geometry_of k) n N.many
+
+-- a state's arrays have their sizes
+pub well_sized : {n p : ℕ} (k : Edition) (joint tears : Bool) → InNumbers k n joint tears → (s : State n p) (work store : List ℕ) → Formed (form_in tears (geometry_of k)) (arrays_in s work store) → p ≡ 2 * n → WellSized s
+well_sized {n} k joint tears N s work store F e =
+    (few n (known_of k n joint tears N), e, held_length k n joint tears N _ F, retained_length k n joint tears N _ F, writers_length k n joint tears N _ F, F.parents, F.depths, F.long)
 
 -- a home page lies within the store
 pub place_within : (tears : Bool) (n r : ℕ) → r < n → place_of tears (1 + (n + r)) + 32 ≤ stride_of tears * (1 + (n + n))

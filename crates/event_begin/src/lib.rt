@@ -1,95 +1,92 @@
 // A begin: under nobody at the top, or under a live transaction.
 #![tactic(auto)]
 
-ghost use Rattle.std.specs.Prelude.{◌≡◌, Bool, List, ℕ, ◌<◌, ◌≤◌, length, get_or};
+ghost use Rattle.std.specs.Prelude.{◌≡◌, Bool, List, ℕ, ◌<◌, ◌≤◌, get_or};
 ghost use Rattle.std.proofs.Math.Option.{some};
 ghost use Rattle.laws.specs.Bits.{bits};
 ghost use Rattle.rules.specs.Event.{begin};
 ghost use Rattle.rules.specs.Editions.{depths, Edition, geometry_of, form_in};
+ghost use Rattle.leaf_event.specs.Answers.{told_answer};
 ghost use Rattle.leaf_set.specs.Sets.{sets};
 ghost use Rattle.state_array.specs.Kin.{DerivedSets};
-ghost use Rattle.state_whole.specs.Whole.{arrays, Intact, Stepped};
+ghost use Rattle.state_whole.specs.Lain.{arrays_in, WellSized};
+ghost use Rattle.state_whole.specs.Whole.{Intact, Stepped};
 
-use leaf_event::Answer;
+use leaf_event::outcome::{Done, Refusal};
+use state_whole::{Derived, State};
 
 const DEPTH_LIMIT: u8 = leaf_page::DEPTHS as u8;
 
-// A transaction begins under p, which is a live transaction at depth d, or 31 and d is 0 (then it is a top transaction). `above` is the line of p.
-fn begin_under(
-    parent: &mut [u8; 24],
-    depth: &mut [u8; 24],
-    line: &mut [u32; 24],
-    live: &mut u32,
-    children: &mut [u32; 32],
+// A transaction begins under p, which is a live transaction at depth `level`, or 31 and `level` is 0 (then it is a top transaction). `above` is the line of p.
+fn begin_under<const RECORDS: usize, const PLACES: usize>(
+    s: &mut State<RECORDS, PLACES>,
+    d: &mut Derived,
     p: u8,
-    d: u8,
+    level: u8,
     above: u32,
-) -> Answer
-    requires { (d < depths) × (d ≡ get_or depth.old p 0) × (bits above ≡ sets line.old p) × ((d ≡ 0) → p ≡ 31) × (p < 32)
-        × (length parent.old ≡ 24) × (length depth.old ≡ 24) × DerivedSets parent.old depth.old live.old children.old }
-    ensures stepped { (k : Edition) (tears : Bool) (up : ℕ) (held retained writers work store : List ℕ) →
-        let before = arrays up parent.old depth.old line.old held retained writers work store in
-        let after = arrays up parent.new depth.new line.new held retained writers work store in
+) -> Result<Done, Refusal>
+    requires sized { WellSized s.old }
+    requires parent { (level < depths) × (level ≡ get_or s.old.depth p 0) × (bits above ≡ sets s.old.line p) × ((level ≡ 0) → p ≡ 31) × (p < 32) }
+    requires derived_sets { DerivedSets s.old.parent s.old.depth d.old.live d.old.children }
+    ensures stepped { (k : Edition) (tears : Bool) (work store : List ℕ) →
+        let before = arrays_in s.old work store in
+        let after = arrays_in s.new work store in
         let form = form_in tears (geometry_of k) in
-        Intact form before → up ≡ 1 → Stepped form before (some (begin p)) result after }
-    ensures derived_sets { DerivedSets parent.new depth.new live.new children.new }
+        Intact form before → s.old.up ≡ 1 → Stepped form before (some (begin p)) (told_answer result) after }
+    ensures derived_sets { DerivedSets s.new.parent s.new.depth d.new.live d.new.children }
+    ensures rest { (s.new ≡ record s.old { parent = s.new.parent; depth = s.new.depth; line = s.new.line }) × (d.new ≡ record d.old { live = d.new.live; children = d.new.children }) }
+    ensures sized { WellSized s.new }
 {
-    let f = state_tree::first_free(*live);
+    let f = state_tree::first_free(d.live);
     if f == 24 {
-        return Answer {
-            number: 7,
-            value: 0,
-        };
+        return Err(Refusal::NoneFree);
     }
-    state_tree::give_number(parent, depth, line, f, p, d + 1, above);
-    state_tree::add_child(live, children, p, f);
-    Answer {
-        number: 0,
-        value: f,
-    }
+    state_tree::give_number(
+        &mut s.parent,
+        &mut s.depth,
+        &mut s.line,
+        f,
+        p,
+        level + 1,
+        above,
+    );
+    state_tree::add_child(&mut d.live, &mut d.children, p, f);
+    Ok(Done::Whole(f))
 }
 
 // A transaction begins: at the top where p is 31, else under the live transaction p, unless that is at the depth limit.
-pub fn begin_event(
-    parent: &mut [u8; 24],
-    depth: &mut [u8; 24],
-    line: &mut [u32; 24],
-    live: &mut u32,
-    children: &mut [u32; 32],
+pub fn begin_event<const RECORDS: usize, const PLACES: usize>(
+    s: &mut State<RECORDS, PLACES>,
+    d: &mut Derived,
     p: u8,
-) -> Answer
-    requires { (p < 32) × (length depth.old ≡ 24) × (length line.old ≡ 24) × ((k : ℕ) → get_or depth.old k 0 ≤ depths)
-        × (length parent.old ≡ 24) × DerivedSets parent.old depth.old live.old children.old }
-    ensures stepped { (k : Edition) (tears : Bool) (up : ℕ) (held retained writers work store : List ℕ) →
-        let before = arrays up parent.old depth.old line.old held retained writers work store in
-        let after = arrays up parent.new depth.new line.new held retained writers work store in
+) -> Result<Done, Refusal>
+    requires sized { WellSized s.old }
+    requires named { p < 32 }
+    requires shallow { (k : ℕ) → get_or s.old.depth k 0 ≤ depths }
+    requires derived_sets { DerivedSets s.old.parent s.old.depth d.old.live d.old.children }
+    ensures stepped { (k : Edition) (tears : Bool) (work store : List ℕ) →
+        let before = arrays_in s.old work store in
+        let after = arrays_in s.new work store in
         let form = form_in tears (geometry_of k) in
-        Intact form before → up ≡ 1 → Stepped form before (some (begin p)) result after }
-    ensures derived_sets { DerivedSets parent.new depth.new live.new children.new }
+        Intact form before → s.old.up ≡ 1 → Stepped form before (some (begin p)) (told_answer result) after }
+    ensures derived_sets { DerivedSets s.new.parent s.new.depth d.new.live d.new.children }
+    ensures rest { (s.new ≡ record s.old { parent = s.new.parent; depth = s.new.depth; line = s.new.line }) × (d.new ≡ record d.old { live = d.new.live; children = d.new.children }) }
+    ensures sized { WellSized s.new }
 {
     if p == 31 {
-        return begin_under(parent, depth, line, live, children, 31, 0, 0);
+        return begin_under(s, d, 31, 0, 0);
     }
     if 24 <= p {
-        return Answer {
-            number: 5,
-            value: 0,
-        };
+        return Err(Refusal::NotLive);
     }
     let i = p as usize;
-    let d = depth[i];
-    if d == 0 {
-        return Answer {
-            number: 5,
-            value: 0,
-        };
+    let level = s.depth[i];
+    if level == 0 {
+        return Err(Refusal::NotLive);
     }
-    if d == DEPTH_LIMIT {
-        return Answer {
-            number: 6,
-            value: 0,
-        };
+    if level == DEPTH_LIMIT {
+        return Err(Refusal::TooDeep);
     }
-    let above = line[i];
-    begin_under(parent, depth, line, live, children, p, d, above)
+    let above = s.line[i];
+    begin_under(s, d, p, level, above)
 }

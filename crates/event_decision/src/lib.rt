@@ -9,13 +9,16 @@ ghost use Rattle.rules.specs.Event.{decide, query};
 ghost use Rattle.rules.specs.Commit.{decide_at};
 ghost use Rattle.rules.specs.Geometry.{Geometry};
 ghost use Rattle.rules.specs.Editions.{Edition, geometry_of, form_in, InNumbers};
+ghost use Rattle.leaf_event.specs.Answers.{told_answer};
 ghost use Rattle.state_array.specs.Kin.{DerivedSets};
 ghost use Rattle.leaf_commit_page.specs.Heard.{prepared};
 ghost use Rattle.leaf_commit_page.specs.Layout.{Known, Layout};
 ghost use Rattle.store_write.specs.Phase.{PageWritesDone};
-ghost use Rattle.state_whole.specs.Whole.{Arrays, arrays, Intact, Stepped, Reserves};
+ghost use Rattle.state_whole.specs.Lain.{arrays_in, WellSized};
+ghost use Rattle.state_whole.specs.Whole.{Arrays, Intact, Stepped, Reserves};
 
-use leaf_event::Answer;
+use leaf_event::outcome::{Done, Refusal};
+use state_whole::{Derived, State};
 
 // A transaction is prepared with identity i, where `reserved` is the map of what is prepared.
 pub fn is_for(reserved: u64, identity: u8, i: u8) -> bool
@@ -45,80 +48,56 @@ fn decide_pages(
     store_commit::abort_decided(store, records, k)
 }
 
-// The decision on identity i, cut at k: for another than the prepared one it does nothing. What is prepared is read again.
-pub fn decide_event(
-    up: &mut u8,
-    parent: &mut [u8; 24],
-    depth: &mut [u8; 24],
-    line: &mut [u32; 24],
-    live: &mut u32,
-    children: &mut [u32; 32],
-    held: &mut [u32],
-    retained: &mut [u32],
-    writers: &mut [u32],
+// The decision on identity i, cut at k: for another than the prepared one it does nothing. What is prepared is read again. Only atomic pages hold what is
+// prepared.
+pub fn decide_event<const RECORDS: usize, const PLACES: usize, const JOINT: bool>(
+    s: &mut State<RECORDS, PLACES>,
+    d: &mut Derived,
     store: &mut [u8],
-    reserved: &mut u64,
-    identity: &mut u8,
-    records: usize,
-    joint: bool,
     commits: bool,
     k: u8,
     i: u8,
-) -> Answer
-    requires { Known records × (joint ≡ true → records ≡ 16) × (reserved.old < 2 ^ records) × (length held.old ≡ 2 * records) × (length retained.old ≡ 2 * records)
-        × (length writers.old ≡ records) × (length store.old ≡ 32 * (1 + (records + records))) × DerivedSets parent.old depth.old live.old children.old }
+) -> Result<Done, Refusal>
+    requires sized { WellSized s.old }
+    requires known { Known RECORDS × (JOINT ≡ true → RECORDS ≡ 16) × (d.old.reserved < 2 ^ RECORDS) }
+    requires pages { length store.old ≡ 32 * (1 + (RECORDS + RECORDS)) }
+    requires derived_sets { DerivedSets s.old.parent s.old.depth d.old.live d.old.children }
     ensures stepped { (edition : Edition) (work : List ℕ) →
-        let before = arrays up.old parent.old depth.old line.old held.old retained.old writers.old work store.old in
-        let after = arrays up.new parent.new depth.new line.new held.new retained.new writers.new work store.new in
+        let before = arrays_in s.old work store.old in
+        let after = arrays_in s.new work store.new in
         let form = form_in false (geometry_of edition) in
-        InNumbers edition records joint false → Intact form before → up.old ≡ 1
-        → Reserves false (geometry_of edition) store.old reserved.old identity.old
-        → Stepped form before (some (decide commits k i)) result after
-        × Reserves false (geometry_of edition) store.new reserved.new identity.new }
-    ensures derived_sets { DerivedSets parent.new depth.new live.new children.new }
+        InNumbers edition RECORDS JOINT false → Intact form before → s.old.up ≡ 1
+        → Reserves false (geometry_of edition) store.old d.old.reserved d.old.identity
+        → Stepped form before (some (decide commits k i)) (told_answer result) after
+        × Reserves false (geometry_of edition) store.new d.new.reserved d.new.identity }
+    ensures derived_sets { DerivedSets s.new.parent s.new.depth d.new.live d.new.children }
+    ensures sized { WellSized s.new }
 {
-    let map = *reserved;
-    let whose = *identity;
+    let map = d.reserved;
+    let whose = d.identity;
     if !is_for(map, whose, i) {
-        return Answer {
-            number: 0,
-            value: 0,
-        };
+        return Ok(Done::Whole(0));
     }
-    let m = decide_pages(store, map, whose, records, commits, k);
+    let m = decide_pages(store, map, whose, RECORDS, commits, k);
     let made = m.made;
-    let p = store_commit::read_held(&store[..], records, joint, false);
-    *reserved = p.map;
-    *identity = p.identity;
+    let p = store_commit::read_held(&store[..], RECORDS, JOINT, false);
+    d.reserved = p.map;
+    d.identity = p.identity;
     if m.crashed {
-        event_crash::clear_state(
-            up, parent, depth, line, live, children, held, retained, writers, records,
-        );
-        return Answer {
-            number: 11,
-            value: made,
-        };
+        event_crash::clear_state(s, d);
+        return Ok(Done::Cut(made));
     }
-    Answer {
-        number: 0,
-        value: made,
-    }
+    Ok(Done::Whole(made))
 }
 
 // Whether a transaction is prepared with identity i: 1, else 0.
-pub fn query_event(reserved: u64, identity: u8, i: u8) -> Answer
+pub fn query_event(reserved: u64, identity: u8, i: u8) -> Result<Done, Refusal>
     ensures { (edition : Edition) (tears : Bool) (x : Arrays) →
         let form = form_in tears (geometry_of edition) in
-        Intact form x → x.up ≡ 1 → Reserves tears (geometry_of edition) x.store reserved identity → Stepped form x (some (query i)) result x }
+        Intact form x → x.up ≡ 1 → Reserves tears (geometry_of edition) x.store reserved identity → Stepped form x (some (query i)) (told_answer result) x }
 {
     if is_for(reserved, identity, i) {
-        return Answer {
-            number: 0,
-            value: 1,
-        };
+        return Ok(Done::Whole(1));
     }
-    Answer {
-        number: 0,
-        value: 0,
-    }
+    Ok(Done::Whole(0))
 }

@@ -1,7 +1,7 @@
 // Document 01's list in full, played on a fresh store: each event with its answer, then how the commit page begins and the records, in hex.
 #![tactic(auto)]
 
-use std::io;
+use std::{fmt, io};
 
 // The sixteen event words.
 const EVENTS: [u8; 64] = [
@@ -11,40 +11,34 @@ const EVENTS: [u8; 64] = [
     0x80, 0x00, 0x3F, 0x00, 0x1F, 0x80, 0x00, 0x00, 0x20, 0x18, 0x00, 0x00, 0x40, 0x18, 0x80, 0x00,
 ];
 
-// The bytes in hex.
-fn print_bytes(rt: &impl Print, bytes: &[u8]) -> io::Result<()> {
-    for byte in bytes {
-        print!(rt; "{byte:02x}")?;
-    }
-    Ok(())
-}
+// Bytes that are shown in hex.
+#[derive(Drop)]
+struct Hex<'a>(&'a [u8]);
 
-// The bytes from `at` to `end`, if there are so many.
-fn print_part(rt: &impl Print, bytes: &[u8], at: usize, end: usize) -> io::Result<()> {
-    if end <= bytes.len() {
-        if at <= end {
-            print_bytes(rt, &bytes[at..end])?;
+impl fmt::Display for Hex<'_> {
+    fn fmt<W: fmt::Write>(&self, f: &mut fmt::Formatter<W>) -> fmt::Result {
+        for byte in self.0 {
+            write!(f, "{byte:02x}")?;
         }
+        Ok(())
     }
-    Ok(())
 }
 
 fn print_events(rt: &impl Print, events: &[u8], answers: &[u8]) -> io::Result<()> {
-    for k in 0..16usize {
-        print_part(rt, events, 4 * k, 4 * k + 4)?;
-        print!(rt; " ")?;
-        print_part(rt, answers, 2 * k, 2 * k + 2)?;
-        println!(rt)?;
+    for (event, answer) in events.chunks(4).zip(answers.chunks(2)) {
+        println!(rt; "{} {}", Hex(event), Hex(answer))?;
     }
     Ok(())
 }
 
-fn print_records(rt: &impl Print, store: &[u8]) -> io::Result<()> {
-    for r in 0..16usize {
-        print!(rt; "record {r} ")?;
-        let at = 32 * (17 + r);
-        print_part(rt, store, at, at + 32)?;
-        println!(rt)?;
+// The commit page, and behind the intentions the home pages of the records.
+fn print_store(rt: &impl Print, store: &[u8]) -> io::Result<()> {
+    let mut pages = store.chunks(32);
+    if let Some(commit_page) = pages.next() {
+        println!(rt; "page 0 {}", Hex(commit_page))?;
+    }
+    for (r, page) in pages.skip(16).enumerate() {
+        println!(rt; "record {r} {}", Hex(page))?;
     }
     Ok(())
 }
@@ -57,8 +51,5 @@ fn main(rt: HostRuntime) -> io::Result<()> {
     nekahuiro::nekahuiro_fresh(&mut store);
     nekahuiro::nekahuiro_run(&mut store, &events, &mut work, &mut answers);
     print_events(&rt, &events, &answers)?;
-    print!(rt; "page 0 ")?;
-    print_part(&rt, &store, 0, 32)?;
-    println!(rt)?;
-    print_records(&rt, &store)
+    print_store(&rt, &store)
 }

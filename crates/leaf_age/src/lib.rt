@@ -1,4 +1,5 @@
 // How old a stamp is at a clock reading. A clock reading, a limit and an age are types of their own: none can be handed in for another.
+// `new` and `value`, not From: they are public, with edits of their own, and the name says at the call what a number becomes.
 #![tactic(auto)]
 
 ghost use Rattle.std.specs.Prelude.{◌≡◌};
@@ -7,18 +8,19 @@ ghost use Rattle.rules.specs.Age.{judged};
 ghost use Rattle.leaf_age.specs.Meaning.{judged_age};
 
 // A clock reading in minutes: the board's, or the stamp of a record.
-#[derive(Drop)]
+#[derive(Clone, Copy, Debug, PartialEq, Eq)]
 pub struct Reading(u32);
 
 // The oldest age, in minutes, that still counts as live.
-#[derive(Drop)]
+#[derive(Clone, Copy, Debug, PartialEq, Eq)]
 pub struct Limit(u32);
 
 // An age in minutes, below zero where the stamp is ahead of the clock.
-#[derive(Drop)]
+#[derive(Clone, Copy, Debug, PartialEq, Eq)]
 pub struct Minutes(i64);
 
-#[derive(Drop)]
+// How an age stands to the limit, one of three.
+#[derive(Clone, Copy, Debug, PartialEq, Eq)]
 pub enum Judged {
     Ahead(Minutes),
     Live(Minutes),
@@ -29,7 +31,7 @@ pub enum Judged {
 fn difference(clock: u32, stamp: u32) -> i64
     ensures { result ≡ sub_ℕ clock stamp }
 {
-    (clock as i64) - (stamp as i64)
+    i64::from(clock) - i64::from(stamp)
 }
 
 // The sign decides between ahead and the rest, the limit between live and stale.
@@ -39,7 +41,7 @@ fn judge(age: i64, limit: u32) -> Judged
     if age < 0 {
         return Judged::Ahead(Minutes(age));
     }
-    if age <= (limit as i64) {
+    if age <= i64::from(limit) {
         return Judged::Live(Minutes(age));
     }
     Judged::Stale(Minutes(age))

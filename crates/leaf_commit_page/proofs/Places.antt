@@ -1,8 +1,8 @@
 -- The bytes of a commit page, for every layout, and of a prepared transaction's; a page is read by comparing it with the commit page of what stands in
 -- it.
-use mathlib.Core.Path.{◌≡◌, refl, sym, ap, ap₂, subst, ◌∙◌}
-use mathlib.Core.Bool.{Bool, true, false, not, cond, ◌&&◌, ◌||◌, true≢false}
-use mathlib.Core.Logic.{inl, inr}
+use mathlib.Core.Path.{◌≡◌, refl, sym, ap, ap₂, subst, subst⁻¹, ◌∙◌}
+use mathlib.Core.Bool.{Bool, true, false, not, cond, ◌&&◌, true≢false}
+use mathlib.Core.Logic.{inl, inr, ◌≢◌}
 use mathlib.Core.Option.{Option, none, some}
 use mathlib.Core.List.{List, [], ◌∷◌, ◌++◌}
 use Prim.Native.Nat.{ℕ, zero, suc, ◌+◌, ◌-◌, ◌*◌, ◌/◌, ◌%◌, ◌^◌, ◌≤◌, ◌<◌}
@@ -10,9 +10,16 @@ use native.Mathlib.Nat.{div-div-eq-div-mul, pow-suc, mul_comm, mul_assoc, mul-ad
 use native.Mathlib.Omega.{arith}
 use lib.Arith.{digits_div, digits_lt}
 use lib.Pow.{pow-add}
+use lib.Pointwise.{pointwise}
+use lib.Dec.{eqb}
 use native.Mathlib.Numerals.{add-one}
-use lib.ListN.{length, take, drop, set, get_or, replicate, replicate-append-replicate}
+use lib.ListN.{length, take, drop, set, get_or, replicate}
 use lib.Seq.{take_at, set_at}
+use Rattle.std.specs.Prelude.{Some, None, IfSome, is_some}
+use Rattle.std.specs.Option.{option_or, unwrap_or}
+use Rattle.std.specs.Bool.{then_some}
+use Rattle.std.specs.declared.option.Option.{Option as Answered}
+use Rattle.std.specs.Int.{w64, to_be_bytes, bytes_high_first, byte_at}
 use Rattle.laws.specs.Tests.{same}
 use Rattle.laws.specs.Counting.{count}
 use Rattle.laws.specs.Bytes.{bytes, number, number_from, same_list}
@@ -25,9 +32,10 @@ use Rattle.rules.specs.Editions.{geometry1, geometry2, geometry_pairs, Edition, 
 use Rattle.rules.proofs.Editions.{proper1, proper2, proper_pairs}
 use Rattle.rules.proofs.CommitPage.{read_commit_page, damaged_if}
 use Rattle.rules.proofs.PreparedPage.{read_prepared_page, prepared_is, unprepared_if}
-use Rattle.leaf_commit_page.specs.Heard.{commit_map, overheard, prepared, understood}
+use Rattle.leaf_commit_page.specs.Heard.{commit_map, map_told, overheard, prepared_told, prepared, understood}
 use Rattle.leaf_commit_page.specs.Layout.{Layout, Known, head_of, count_factor, behind_first}
 use Rattle.leaf_commit_page.specs.declared.CommitMap.{CommitMap}
+use Rattle.leaf_commit_page.specs.declared.PreparedMap.{PreparedMap}
 
 pos_256 : (n : ℕ) → 0 < 256 ^ n
 pos_256 zero = omega arith
@@ -153,50 +161,25 @@ page_bytes g n map L K h =
         ap₂ (λ (x y : ℕ). ((g.edition * 16 + cond (same map 0) 0 5) * x + map) * y + on * 2 ^ (behind_map g - g.ones_bits)) L.map_bytes (L.behind_bytes ∙ ap (λ (j : ℕ). 256 ^ j) up)
         ∙ ap₂ (λ (x y : ℕ). ((x + cond (same map 0) 0 5) * 256 ^ m + map) * 256 ^ suc k + y) L.edition (ap (λ (x : ℕ). on * x) L.count_place ∙ sym (mul_assoc on (count_factor n) (256 ^ k)))
 
--- One more byte of the map, from its end: the zero before the bytes that are laid already.
-fill : (j v : ℕ) (t : List ℕ) → set (replicate (suc j) 0 ++ t) j v ≡ replicate j 0 ++ (v ∷ t)
-fill zero v t = refl
-fill (suc j) v t = ap (λ (l : List ℕ). 0 ∷ l) (fill j v t)
-
-pub Laying : ℕ → ℕ → ℕ → List ℕ → Type 0
-Laying m map i page = page ≡ 0 ∷ (replicate (m - i) 0 ++ (bytes i map ++ replicate (31 - m) 0))
-
-pub laying_none : (m map : ℕ) → m ≤ 8 → Laying m map 0 (replicate 32 0)
-unfolding Laying bytes
-laying_none m map h = ap (λ (l : List ℕ). 0 ∷ l) (sym (ap (λ (k : ℕ). replicate k 0 ++ replicate (31 - m) 0) all_left ∙ replicate-append-replicate m (31 - m) 0 ∙ ap (λ (k : ℕ). replicate k 0) sum))
+-- the last m of a number's eight bytes
+be_bytes : (k x : ℕ) → bytes_high_first k x ≡ bytes k x
+unfolding bytes
+be_bytes zero x = refl
+be_bytes (suc k) x = ap₂ ◌∷◌ (byte_is k) (be_bytes k x)
   where
-    all_left : m - 0 ≡ m
-    all_left = omega arith
+    byte_is : (k : ℕ) → byte_at k x ≡ x / 256 ^ k % 256
+    byte_is zero = ap (λ (y : ℕ). y % 256) (sym (div-one x))
+    byte_is (suc k) = refl
 
-    sum : m + (31 - m) ≡ 31
-    sum = omega arith
+drop_bytes : (j m x : ℕ) → drop j (bytes (j + m) x) ≡ bytes m x
+unfolding bytes
+drop_bytes zero m x = ap (λ (k : ℕ). bytes k x) (zero-add m)
+drop_bytes (suc j) m x = ap (λ (k : ℕ). drop (suc j) (bytes k x)) (suc-add j m) ∙ drop_bytes j m x
 
-pub laying_more : (m map i rest : ℕ) (page : List ℕ) → i < m → rest ≡ map / 256 ^ i → Laying m map i page → Laying m map (i + 1) (set page (m - i) (rest % 256))
-unfolding Laying bytes
-laying_more m map i rest page h r e =
-    ap₂ (λ (l : List ℕ) (k : ℕ). set l (m - i) (k % 256)) e r
-    ∙ ap (λ (k : ℕ). set (0 ∷ (replicate k 0 ++ t)) k v) before
-    ∙ ap (λ (l : List ℕ). 0 ∷ l) (fill (m - (i + 1)) v t)
-    ∙ ap (λ (k : ℕ). 0 ∷ (replicate (m - (i + 1)) 0 ++ (bytes k map ++ replicate (31 - m) 0))) (sym (add-one i))
-  where
-    t : List ℕ
-    t = bytes i map ++ replicate (31 - m) 0
-
-    v : ℕ
-    v = map / 256 ^ i % 256
-
-    before : m - i ≡ suc (m - (i + 1))
-    before = omega arith
-
-pub laying_all : (m map i : ℕ) (page : List ℕ) → i ≡ m → Laying m map i page → page ≡ behind_first m (bytes m map)
-unfolding Laying
-laying_all m map i page q e = e ∙ ap₂ (λ (j k : ℕ). 0 ∷ (replicate j 0 ++ (bytes k map ++ replicate (31 - m) 0))) none_left q
-  where
-    none_left : m - i ≡ 0
-    none_left = omega arith
-
-pub rest_next : (map i rest : ℕ) → rest ≡ map / 256 ^ i → rest / 256 ≡ map / 256 ^ (i + 1)
-rest_next map i rest e = ap (λ (k : ℕ). k / 256) e ∙ div-div-eq-div-mul map (256 ^ i) 256 ∙ ap (λ (k : ℕ). map / k) (sym (pow-suc 256 i) ∙ ap (λ (k : ℕ). 256 ^ k) (sym (add-one i)))
+pub last_bytes : (m x : ℕ) → m ≤ 8 → drop (8 - m) (to_be_bytes w64 x) ≡ bytes m x
+last_bytes m x h =
+    let e : 8 ≡ (8 - m) + m = omega arith in
+    ap (drop (8 - m)) (be_bytes 8 x ∙ ap (λ (k : ℕ). bytes k x) e) ∙ drop_bytes (8 - m) m x
 
 -- One more byte of a number, at its end.
 number-take : (a i : ℕ) (l : List ℕ) → i < length l → number_from a (take (suc i) l) ≡ number_from a (take i l) * 256 + get_or l i 0
@@ -237,6 +220,14 @@ pub known_power : (n : ℕ) → Known n → 256 ^ (n / 8) ≡ 2 ^ n
 known_power n (inl e) = rw e refl
 known_power n (inr e) = rw e refl
 
+-- what `==` tells of two pages
+pub same_pages : (xs ys : List ℕ) → pointwise eqb xs ys ≡ same_list xs ys
+unfolding same_list same
+same_pages [] [] = refl
+same_pages [] (y ∷ ys) = refl
+same_pages (x ∷ xs) [] = refl
+same_pages (x ∷ xs) (y ∷ ys) = ap (λ (b : Bool). eqb x y && b) (same_pages xs ys)
+
 module _ (g : Geometry) (n : ℕ) (L : Layout g n) (K : Known n) where
   in_records : (m : ℕ) → m < 2 ^ n → m < 2 ^ records g
   in_records m h = subst (λ (k : ℕ). m < 2 ^ k) (sym L.many) h
@@ -260,6 +251,15 @@ module _ (g : Geometry) (n : ℕ) (L : Layout g n) (K : Known n) where
   read_bad page m at e = damaged_if g page (λ k h q.
       let mk : k ≡ m = sym (map_there k (in_bits k h)) ∙ ap (λ (l : List ℕ). number (take (n / 8) (drop 1 l))) (sym q) ∙ sym at in
       true≢false (sym (same_list_refl page) ∙ ap (same_list page) (q ∙ ap (commit_page g) mk) ∙ e))
+
+  -- what is read of it, by whether it is
+  pub read_said : (page : List ℕ) (m : ℕ) → m ≡ number (take (n / 8) (drop 1 page)) → m < 2 ^ n → map_told (then_some (same_list page (commit_page g m)) m) ≡ commit_map (read_commit g page)
+  unfolding map_told commit_map
+  read_said page m at h = go (same_list page (commit_page g m)) refl
+    where
+      go : (b : Bool) → same_list page (commit_page g m) ≡ b → map_told (then_some b m) ≡ commit_map (read_commit g page)
+      go true e = sym (ap commit_map (read_good page m h e))
+      go false e = sym (ap commit_map (read_bad page m at e))
 
 -- the count fits its byte
 pub count_fits : (n o x : ℕ) → Known n → o ≤ n → x ≡ count_factor n → o * x < 256
@@ -291,6 +291,14 @@ pub prepared-set : (map hd x i : ℕ) → set (set (set (behind_first 2 (bytes 2
 unfolding bytes
 prepared-set map hd x i = refl
 
+-- the identity is a byte
+identity_small : (g : Geometry) (p : Prepared) → get_or (prepared_page g p) 4 0 < 256
+unfolding prepared_page bytes
+identity_small g p = small _
+  where
+    small : (x : ℕ) → x % 256 < 256
+    small x = omega arith
+
 module _ (g : Geometry) (L : Layout g 16) (page : List ℕ) (m i : ℕ) where
   prepared_good : g.joint ≡ true → m < 2 ^ 16 → i < 256 → same m 0 ≡ false → same_list page (prepared_page g (prepared m i)) ≡ true
       → read_prepared g page ≡ some (prepared m i)
@@ -315,10 +323,13 @@ module _ (g : Geometry) (L : Layout g 16) (page : List ℕ) (m i : ℕ) where
       S.some_record (mn ∙ e (ap (same_list page) (ap₂ (λ (x y : ℕ). prepared_page g (prepared x y)) (sym mn) (there ∙ last) ∙ sym q) ∙ same_list_refl page)))
 
   -- a page that is laid out so is a prepared transaction's exactly if the map isn't 0
-  pub prepared_read : g.joint ≡ true → m ≡ number (take 2 (drop 1 page)) → i ≡ get_or page 4 0 → m < 2 ^ 16 → i < 256
+  pub prepared_read : g.joint ≡ true → m ≡ number (take 2 (drop 1 page)) → i ≡ get_or page 4 0 → m < 2 ^ 16
       → same_list page (prepared_page g (prepared m i)) ≡ true → read_prepared g page ≡ cond (same m 0) none (some (prepared m i))
-  prepared_read on at there hm hi e = go (same_cases m 0)
+  prepared_read on at there hm e = go (same_cases m 0)
     where
+      hi : i < 256
+      hi = subst⁻¹ (λ (k : ℕ). k < 256) (there ∙ ap (λ (l : List ℕ). get_or l 4 0) (same_list_eq page (prepared_page g (prepared m i)) e)) (identity_small g (prepared m i))
+
       go : Same m 0 → read_prepared g page ≡ cond (same m 0) none (some (prepared m i))
       go (is z s _) = prepared_bad at there (λ q. z) ∙ sym (ap (λ (b : Bool). cond b none (some (prepared m i))) s)
       go (isnt z s _) = prepared_good on hm hi s e ∙ sym (ap (λ (b : Bool). cond b none (some (prepared m i))) s)
@@ -328,16 +339,46 @@ pub unprepared : (g : Geometry) (page : List ℕ) → g.joint ≡ false → read
 unprepared g page off = unprepared_if g page (λ p S q. true≢false (sym S.on ∙ off))
 
 -- a page of any kind, from what is read of it in both ways
-pub understood_is : (g : Geometry) (page : List ℕ)
-    → ◌≡◌ {A = CommitMap} (record { good = (commit_map (read_commit g page)).good || not (same (overheard (read_prepared g page)).map 0); map = (commit_map (read_commit g page)).map }) (understood g page)
-unfolding understood commit_map overheard map_in is_damaged is_prepared
-understood_is g page = go (read_commit g page) (read_prepared g page) refl
+pub understood_is : (g : Geometry) (page : List ℕ) (o : Answered ℕ) (p : Answered PreparedMap) (q : Answered ℕ)
+    → map_told o ≡ commit_map (read_commit g page) → prepared_told p ≡ overheard (read_prepared g page) → IfSome p (λ (x : PreparedMap). x.map ≢ 0)
+    → is_some q ≡ is_some p → IfSome q (λ (x : ℕ). x ≡ 0) → map_told (option_or o q) ≡ understood g page
+unfolding understood map_told commit_map prepared_told overheard map_in is_damaged is_prepared
+understood_is g page o p q c h n s z = go o p q (read_commit g page) (read_prepared g page) refl c h n s z
   where
-    go : (o : Option ℕ) (q : Option Prepared) → read_prepared g page ≡ q
-        → ◌≡◌ {A = CommitMap} (record { good = (commit_map o).good || not (same (overheard q).map 0); map = (commit_map o).map }) (record { good = not (is_damaged o && not (is_prepared q)); map = map_in o })
-    go (some m) q e = refl
-    go none none e = λ i. record { good = ap not (same_refl 0) i; map = 0 }
-    go none (some p) e = λ i. record { good = ap not (ne_false p.map 0 (prepared_is g page p e).1.some_record) i; map = 0 }
+    go : (o : Answered ℕ) (p : Answered PreparedMap) (q : Answered ℕ) (x : Option ℕ) (y : Option Prepared) → read_prepared g page ≡ y
+        → map_told o ≡ commit_map x → prepared_told p ≡ overheard y → IfSome p (λ (x : PreparedMap). x.map ≢ 0) → is_some q ≡ is_some p → IfSome q (λ (x : ℕ). x ≡ 0)
+        → ◌≡◌ {A = CommitMap} (map_told (option_or o q)) (record { good = not (is_damaged x && not (is_prepared y)); map = map_in x })
+    go (Some m) p q (some k) y e c h n s z = c
+    go (Some m) p q none y e c h n s z = absurd (true≢false (ap (λ (r : CommitMap). r.good) c))
+    go None p q (some k) y e c h n s z = absurd (true≢false (sym (ap (λ (r : CommitMap). r.good) c)))
+    go None None None none none e c h n s z = refl
+    go None None None none (some k) e c h n s z = absurd ((prepared_is g page k e).1.some_record (sym (ap (λ (r : PreparedMap). r.map) h)))
+    go None None (Some x) none y e c h n s z = absurd (true≢false s)
+    go None (Some k) (Some x) none none e c h n s z = absurd (n (ap (λ (r : PreparedMap). r.map) h))
+    go None (Some k) (Some x) none (some j) e c h n s z = λ i. record { good = true; map = z i }
+    go None (Some k) None none y e c h n s z = absurd (true≢false (sym s))
+
+-- what is read of a page, by whether there is a map and by the map
+pub told_good : (r : Answered ℕ) → is_some r ≡ (map_told r).good
+unfolding map_told
+told_good None = refl
+told_good (Some m) = refl
+
+pub told_map : (r : Answered ℕ) → unwrap_or r 0 ≡ (map_told r).map
+unfolding map_told
+told_map None = refl
+told_map (Some m) = refl
+
+-- and of a prepared transaction
+pub told_held : (r : Answered PreparedMap) → unwrap_or r (record { map = 0; identity = 0 }) ≡ prepared_told r
+unfolding prepared_told
+told_held None = refl
+told_held (Some p) = refl
+
+pub told_some : (r : Answered PreparedMap) → IfSome r (λ (p : PreparedMap). p.map ≢ 0) → is_some r ≡ not (same (prepared_told r).map 0)
+unfolding prepared_told
+told_some None h = ap not (sym (same_refl 0))
+told_some (Some p) h = ap not (sym (ne_false p.map 0 h))
 
 -- THE LAYOUTS of the editions that there are.
 pub layout1 : Layout geometry1 16

@@ -5,25 +5,26 @@
 // number of its ones begins in the byte behind them.
 #![tactic(auto)]
 
-ghost use Rattle.std.specs.Prelude.{◌≡◌, true, cond, ℕ, ◌+◌, ◌*◌, ◌/◌, ◌%◌, ◌^◌, ◌<◌, ◌≤◌, length, take, drop};
+ghost use Rattle.std.specs.Prelude.{◌≡◌, ◌≢◌, true, cond, ℕ, ◌+◌, ◌*◌, ◌/◌, ◌%◌, ◌^◌, ◌<◌, ◌≤◌, length, take, drop, None, Some, IfSome};
 ghost use Rattle.laws.specs.Tests.{same};
 ghost use Rattle.laws.specs.Counting.{count};
-ghost use Rattle.laws.specs.Bytes.{same_list, number, bytes};
+ghost use Rattle.laws.specs.Bytes.{number, bytes};
 ghost use Rattle.rules.specs.Geometry.{Geometry, records};
 ghost use Rattle.rules.specs.Store.{commit_page, read_commit, prepared_page, read_prepared, named, map_of};
 ghost use Rattle.leaf_set.specs.Sets.{sets};
-ghost use Rattle.leaf_commit_page.specs.Heard.{commit_map, overheard, prepared, understood};
+ghost use Rattle.leaf_commit_page.specs.Heard.{commit_map, map_told, overheard, prepared_told, prepared, understood};
 ghost use Rattle.leaf_commit_page.specs.Layout.{Layout, head_of, count_factor, behind_first, Known};
 
-// What a page says as a commit page. A damaged page has map 0.
-#[derive(Drop)]
+// What a store says of its commit page: whether it can be recovered, and the map in force. It is no Option, since `store_commit::read_map` promises the map
+// also of a store that can't be recovered (`understood_in`).
+#[derive(Clone, Copy, Debug, PartialEq, Eq)]
 pub struct CommitMap {
     pub good: bool,
     pub map: u64,
 }
 
-// What a page says of a prepared transaction: its map, which is 0 where there is none, and its identity.
-#[derive(Drop)]
+// A prepared transaction: its map and its identity. Where the engine keeps the two, map 0 says that none is prepared.
+#[derive(Clone, Copy, Debug, PartialEq, Eq)]
 pub struct PreparedMap {
     pub map: u64,
     pub identity: u8,
@@ -42,7 +43,7 @@ const PREPARED: u8 = 3;
 pub fn ones(map: u64) -> u8
     ensures { ((g : Geometry) → map < 2 ^ records g → result ≡ count (records g) (named g map)) × ((n : ℕ) → map < 2 ^ n → result ≤ n) }
 {
-    u64::count_ones(map) as u8
+    map.count_ones() as u8
 }
 
 // Whether a map of n records names record r.
@@ -53,14 +54,14 @@ pub fn names(map: u64, n: u8, r: u8) -> bool
     (map >> (n - 1 - r)) % 2 == 1
 }
 
-// The map of the records whose set has the member t, where words holds a set for each of the n records.
-pub fn map_of(words: &[u32], n: usize, t: u8) -> u64
-    requires { (t < 32) × (n ≤ 64) × (length words.now ≡ n) }
-    ensures { ((g : Geometry) → records g ≡ n → result ≡ map_of g (λ k. sets words.now k t)) × (result < 2 ^ n) }
+// The map of the records whose set has the member t, where words holds a set for each record.
+pub fn map_of(words: &[u32], t: u8) -> u64
+    requires { (t < 32) × (length words.now ≤ 64) }
+    ensures { ((g : Geometry) → records g ≡ length words.now → result ≡ map_of g (λ k. sets words.now k t)) × (result < 2 ^ length words.now) }
 {
     let mut map: u64 = 0;
-    for k in 0..n {
-        map = appended(map, leaf_set::contains(words[k], t));
+    for &word in words {
+        map = appended(map, leaf_set::contains(word, t));
     }
     map
 }
@@ -76,20 +77,14 @@ pub fn commit_page(map: u64, n: usize) -> [u8; 32]
     page
 }
 
-// What a page says as a commit page of n records: its map, or that it is damaged.
-pub fn read_commit(page: [u8; 32], n: usize) -> CommitMap
+// What a page says as a commit page of n records: its map; none where it is damaged.
+pub fn read_commit(page: [u8; 32], n: usize) -> Option<u64>
     requires { Known n }
-    ensures { ((g : Geometry) → Layout g n → result ≡ commit_map (read_commit g page)) × (result.map < 2 ^ n) }
+    ensures { ((g : Geometry) → Layout g n → map_told result ≡ commit_map (read_commit g page)) × ((map_told result).map < 2 ^ n) }
 {
     let map = map_in(page, n / 8);
-    if same_page(page, commit_page(map, n)) {
-        CommitMap { good: true, map }
-    } else {
-        CommitMap {
-            good: false,
-            map: 0,
-        }
-    }
+    let good = page == commit_page(map, n);
+    good.then_some(map)
 }
 
 // The commit page of a prepared transaction. Only sixteen records leave the fifth byte to its identity.
@@ -105,56 +100,41 @@ pub fn prepared_page(map: u64, identity: u8) -> [u8; 32]
 }
 
 // What a page says of a prepared transaction. Where transactions can't be prepared (`joint` is false) there is none.
-pub fn read_prepared(page: [u8; 32], n: usize, joint: bool) -> PreparedMap
+pub fn read_prepared(page: [u8; 32], n: usize, joint: bool) -> Option<PreparedMap>
     requires { Known n × (joint ≡ true → n ≡ 16) }
-    ensures { ((g : Geometry) → Layout g n → g.joint ≡ joint → result ≡ overheard (read_prepared g page)) × (result.map < 2 ^ n) }
+    ensures { ((g : Geometry) → Layout g n → g.joint ≡ joint → prepared_told result ≡ overheard (read_prepared g page)) × ((prepared_told result).map < 2 ^ n) × IfSome result (λ p. p.map ≢ 0) }
 {
     if !joint {
-        return PreparedMap {
-            map: 0, // nothing can be prepared
-            identity: 0,
-        };
+        return None; // nothing can be prepared
     }
     let map = map_in(page, n / 8);
-    let identity = byte(page[4]);
-    if same_page(page, prepared_page(map, identity)) {
+    let identity = page[4];
+    if page == prepared_page(map, identity) {
         kept(map, identity)
     } else {
-        PreparedMap {
-            map: 0,
-            identity: 0,
-        }
+        None
     }
 }
 
 // A prepared transaction of this map and identity; none where the map is 0.
-fn kept(map: u64, identity: u8) -> PreparedMap
-    ensures { (result ≡ cond (same map 0) (record { map = 0; identity = 0 }) (record { map = map; identity = identity })) × (result.map ≤ map) }
+fn kept(map: u64, identity: u8) -> Option<PreparedMap>
+    ensures { result ≡ cond (same map 0) None (Some (record { map = map; identity = identity })) }
 {
     if map == 0 {
-        PreparedMap {
-            map: 0,
-            identity: 0,
-        }
+        None
     } else {
-        PreparedMap { map, identity }
+        Some(PreparedMap { map, identity })
     }
 }
 
-// What a page says as a commit page of any kind: whether it is damaged, and the map in force, which is 0 for a prepared page.
-pub fn read_page(page: [u8; 32], n: usize, joint: bool) -> CommitMap
+// What a page says as a commit page of any kind: the map in force, which is 0 for a prepared page; none where it is damaged.
+pub fn read_page(page: [u8; 32], n: usize, joint: bool) -> Option<u64>
     requires { Known n × (joint ≡ true → n ≡ 16) }
-    ensures { ((g : Geometry) → Layout g n → g.joint ≡ joint → result ≡ understood g page) × (result.map < 2 ^ n) }
+    ensures { ((g : Geometry) → Layout g n → g.joint ≡ joint → map_told result ≡ understood g page) × ((map_told result).map < 2 ^ n) }
 {
     let c = read_commit(page, n);
     let p = read_prepared(page, n, joint);
-    let good = c.good;
-    let map = c.map;
-    let some = p.map != 0;
-    CommitMap {
-        good: good | some,
-        map,
-    }
+    c.or(p.map(|_| 0))
 }
 
 // A page of zeros, but for the m bytes behind the first: they are the map's, the most significant first.
@@ -163,11 +143,8 @@ fn lay_map(map: u64, m: usize) -> [u8; 32]
     ensures { result ≡ behind_first m (bytes m map) }
 {
     let mut page = [0u8; 32];
-    let mut rest = map;
-    for i in 0..m {
-        page[m - i] = (rest % 256) as u8;
-        rest = rest / 256;
-    }
+    let spelled = map.to_be_bytes();
+    page[1..1 + m].copy_from_slice(&spelled[8 - m..]);
     page
 }
 
@@ -177,8 +154,8 @@ fn map_in(page: [u8; 32], m: usize) -> u64
     ensures { (result ≡ number (take m (drop 1 page))) × (result < 256 ^ m) }
 {
     let mut map: u64 = 0;
-    for i in 0..m {
-        map = map * 256 + wide(page[1 + i]);
+    for &byte in &page[1..1 + m] {
+        map = map * 256 + u64::from(byte);
     }
     map
 }
@@ -188,7 +165,7 @@ fn appended(map: u64, yes: bool) -> u64
     requires { map < 9223372036854775808 }
     ensures { result ≡ map * 2 + cond yes 1 0 }
 {
-    if yes { map * 2 + 1 } else { map * 2 }
+    map * 2 + u64::from(yes)
 }
 
 // The first byte of a map's commit page: edition and state.
@@ -215,29 +192,4 @@ fn place(n: usize) -> u8
     ensures { (result ≡ count_factor n) × (result ≤ 8) }
 {
     if n == 64 { 2 } else { 8 }
-}
-
-// Whether two pages are the same. All bytes are compared, without a way out before the last.
-fn same_page(a: [u8; 32], b: [u8; 32]) -> bool
-    ensures { result ≡ same_list a b }
-{
-    let mut equal = true;
-    for i in 0..32 {
-        equal = equal & (a[i] == b[i]);
-    }
-    equal
-}
-
-// The same byte: for what is known of a byte.
-fn byte(x: u8) -> u8
-    ensures { (result ≡ x) × (result < 256) }
-{
-    x
-}
-
-// A byte as a wider number.
-fn wide(x: u8) -> u64
-    ensures { (result ≡ x) × (result < 256) }
-{
-    x as u64
 }

@@ -109,7 +109,7 @@ impl Edition2 {
         let offset = (w / Self::OFFSET_PLACE % Self::OFFSET_SPAN) as u8;
         let count = (w / Self::COUNT_PLACE % Self::COUNT_SPAN) as u8;
         let value = (w / Self::VALUE_PLACE % Self::VALUE_SPAN) as u8;
-        let uses = table[crate::narrow(kind)];
+        let uses = table[usize::from(kind)];
         if w & (w ^ uses) == 0 {
             Event {
                 kind,
@@ -131,13 +131,13 @@ impl Edition2 {
         }
     }
 
-    // Word k of a list of events: eight bytes, most significant first.
+    // Word k of a list of events: eight bytes, most significant first. By its halves, since edits speak of them (bad_word_is_a_crash, read_uses_value).
     pub fn word_at(events: &[u8], k: usize) -> u64
         requires { (k < 4096) × (8 * k + 8 ≤ length events.now) }
         ensures { result ≡ number (take 8 (drop (8 * k) events.now)) }
     {
-        let high = Event::word_at(events, 2 * k) as u64;
-        let low = Event::word_at(events, 2 * k + 1) as u64;
+        let high = u64::from(Event::word_at(events, 2 * k));
+        let low = u64::from(Event::word_at(events, 2 * k + 1));
         high * 4294967296 + low
     }
 }

@@ -9,6 +9,7 @@ ghost use Rattle.leaf_event.specs.Flags.{flags};
 ghost use Rattle.leaf_event.specs.Meaning.{meaning, apart, InRange, FieldsFit};
 
 pub mod edition2;
+pub mod outcome;
 pub mod pairs;
 
 // An answer's two bytes.
@@ -31,7 +32,7 @@ impl Answer {
 }
 
 // An event by its fields. Kind 0 is a bad event.
-#[derive(Clone, Copy)]
+#[derive(Clone, Copy, Debug, PartialEq, Eq)]
 pub struct Event {
     pub kind: u8,
     pub transaction: u8,
@@ -139,7 +140,7 @@ impl Event {
         let offset = (w / Self::OFFSET_PLACE % Self::OFFSET_SPAN) as u8;
         let count = (w / Self::COUNT_PLACE % Self::COUNT_SPAN) as u8;
         let value = (w / Self::VALUE_PLACE % Self::VALUE_SPAN) as u8;
-        let uses = table[narrow(kind)];
+        let uses = table[usize::from(kind)];
         if w & (w ^ uses) == 0 {
             Event {
                 kind,
@@ -174,12 +175,12 @@ impl Event {
         requires { FieldsFit e }
         ensures { result ≡ word geometry1 e.kind e.transaction e.rec e.offset e.count e.value }
     {
-        let kind = e.kind as u32;
-        let transaction = e.transaction as u32;
-        let rec = e.rec as u32;
-        let offset = e.offset as u32;
-        let count = e.count as u32;
-        let value = e.value as u32;
+        let kind = u32::from(e.kind);
+        let transaction = u32::from(e.transaction);
+        let rec = u32::from(e.rec);
+        let offset = u32::from(e.offset);
+        let count = u32::from(e.count);
+        let value = u32::from(e.value);
         ((((kind * Self::TRANSACTION_SPAN + transaction) * Self::RECORD_SPAN + rec)
             * Self::OFFSET_SPAN
             + offset)
@@ -195,21 +196,6 @@ impl Event {
         ensures { result ≡ number (take 4 (drop (4 * k) events.now)) }
     {
         let at = 4 * k;
-        wide(events[at]) * 16777216
-            + wide(events[at + 1]) * 65536
-            + wide(events[at + 2]) * 256
-            + wide(events[at + 3])
+        u32::from_be_bytes([events[at], events[at + 1], events[at + 2], events[at + 3]])
     }
-}
-
-fn wide(x: u8) -> u32
-    ensures { (result ≡ x) × (result < 256) }
-{
-    x as u32
-}
-
-fn narrow(kind: u8) -> usize
-    ensures { result ≡ kind }
-{
-    kind as usize
 }

@@ -5,22 +5,21 @@ use Prim.Native.Nat.{ℕ, ◌<◌, ◌≤◌}
 use borrow.Author.Tests.{lt-ltb, le-ltb}
 use Rattle.laws.specs.Tests.{under}
 use Rattle.leaf_number.specs.Named.{transaction_named, record_named}
-use Rattle.leaf_number.specs.declared.TransactionNamed.TheVariants as T
-use Rattle.leaf_number.specs.declared.RecordNamed.TheVariants as R
+use Rattle.std.specs.Prelude.{Some, None}
 
 -- below 24 a number is a transaction's, from 24 on it is none's
-pub transaction_below : (n : ℕ) → n < 24 → T.Number (record { 0 = n }) ≡ transaction_named n
+pub transaction_below : (n : ℕ) → n < 24 → Some (record { 0 = n }) ≡ transaction_named n
 unfolding transaction_named under
-transaction_below n h = sym (ap (λ (b : Bool). cond b (T.Number (record { 0 = n })) T.NoSuchTransaction) (lt-ltb n 24 h))
+transaction_below n h = sym (ap (λ (b : Bool). cond b (Some (record { 0 = n })) None) (lt-ltb n 24 h))
 
-pub transaction_past : (n : ℕ) → 24 ≤ n → T.NoSuchTransaction ≡ transaction_named n
+pub transaction_past : (n : ℕ) → 24 ≤ n → None ≡ transaction_named n
 unfolding transaction_named under
-transaction_past n h = sym (ap (λ (b : Bool). cond b (T.Number (record { 0 = n })) T.NoSuchTransaction) (le-ltb n 24 h))
+transaction_past n h = sym (ap (λ (b : Bool). cond b (Some (record { 0 = n })) None) (le-ltb n 24 h))
 
-pub record_below : (count n : ℕ) → n < count → R.Number (record { 0 = n }) ≡ record_named count n
+pub record_below : (count n : ℕ) → n < count → Some (record { 0 = n }) ≡ record_named count n
 unfolding record_named under
-record_below count n h = sym (ap (λ (b : Bool). cond b (R.Number (record { 0 = n })) R.NoSuchRecord) (lt-ltb n count h))
+record_below count n h = sym (ap (λ (b : Bool). cond b (Some (record { 0 = n })) None) (lt-ltb n count h))
 
-pub record_past : (count n : ℕ) → count ≤ n → R.NoSuchRecord ≡ record_named count n
+pub record_past : (count n : ℕ) → count ≤ n → None ≡ record_named count n
 unfolding record_named under
-record_past count n h = sym (ap (λ (b : Bool). cond b (R.Number (record { 0 = n })) R.NoSuchRecord) (le-ltb n count h))
+record_past count n h = sym (ap (λ (b : Bool). cond b (Some (record { 0 = n })) None) (le-ltb n count h))

@@ -1,31 +1,26 @@
 // Numbers of transactions and of records, as types of their own: neither can be taken for the other.
+// They stay two types, each made by its own checked constructor alone.
+// `index` and `number`, not From: at a call they say which of the two a number is wanted for, and the edits that clamp too low break each by name.
 #![tactic(auto)]
 
 ghost use Rattle.std.specs.Prelude.{◌≡◌, ◌<◌};
 ghost use Rattle.leaf_number.specs.Named.{transaction_named, record_named, transaction_of, record_of};
 
 // The number of a transaction, 0 to 23.
-#[derive(Clone, Copy)]
+#[derive(Clone, Copy, Debug, PartialEq, Eq)]
 pub struct TransactionNumber(u8);
-
-// What a name of five bits names. 24 to 31 are no bad event: there is no such transaction.
-#[derive(Clone, Copy)]
-pub enum TransactionNamed {
-    Number(TransactionNumber),
-    NoSuchTransaction,
-}
 
 impl TransactionNumber {
     pub const COUNT: u8 = 24;
 
-    // The one way to a transaction number.
-    pub fn checked(n: u8) -> TransactionNamed
+    // The one way to a transaction number: what a name of five bits names. 24 to 31 are no bad event: there is no such transaction.
+    pub fn checked(n: u8) -> Option<TransactionNumber>
         ensures { result ≡ transaction_named n }
     {
         if n < Self::COUNT {
-            TransactionNamed::Number(TransactionNumber(n))
+            Some(TransactionNumber(n))
         } else {
-            TransactionNamed::NoSuchTransaction
+            None
         }
     }
 
@@ -33,44 +28,33 @@ impl TransactionNumber {
     pub fn index(self) -> usize
         ensures { (result ≡ transaction_of self) × (result < 24) }
     {
-        if self.0 < Self::COUNT {
-            self.0 as usize
-        } else {
-            23
-        }
+        usize::from(self.0.min(Self::COUNT - 1))
     }
 
     // The number as a byte.
     pub fn number(self) -> u8
         ensures { (result ≡ transaction_of self) × (result < 24) }
     {
-        if self.0 < Self::COUNT { self.0 } else { 23 }
+        self.0.min(Self::COUNT - 1)
     }
 }
 
 // The number of a record: below 64, the most records that an edition has.
-#[derive(Clone, Copy)]
+#[derive(Clone, Copy, Debug, PartialEq, Eq)]
 pub struct RecordNumber(u8);
-
-// What a byte names among some number of records.
-#[derive(Clone, Copy)]
-pub enum RecordNamed {
-    Number(RecordNumber),
-    NoSuchRecord,
-}
 
 impl RecordNumber {
     // The most records that an edition has.
     pub const MOST: u8 = 64;
 
-    // The one way to a record number, where there are `count` records.
-    pub fn checked(n: u8, count: u8) -> RecordNamed
+    // The one way to a record number, where there are `count` records: what a byte names among them.
+    pub fn checked(n: u8, count: u8) -> Option<RecordNumber>
         ensures { result ≡ record_named count n }
     {
         if n < count {
-            RecordNamed::Number(RecordNumber(n))
+            Some(RecordNumber(n))
         } else {
-            RecordNamed::NoSuchRecord
+            None
         }
     }
 
@@ -78,17 +62,13 @@ impl RecordNumber {
     pub fn index(self) -> usize
         ensures { (result ≡ record_of self) × (result < 64) }
     {
-        if self.0 < Self::MOST {
-            self.0 as usize
-        } else {
-            63
-        }
+        usize::from(self.0.min(Self::MOST - 1))
     }
 
     // The number as a byte.
     pub fn number(self) -> u8
         ensures { (result ≡ record_of self) × (result < 64) }
     {
-        if self.0 < Self::MOST { self.0 } else { 63 }
+        self.0.min(Self::MOST - 1)
     }
 }

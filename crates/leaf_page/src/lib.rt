@@ -12,6 +12,7 @@ pub const DEPTHS: usize = 16;
 pub const WORK: usize = 16 * DEPTHS * 32;
 
 // The one page-writing leaf: a page that is lent from the middle of a store takes these bytes. Every page write goes through it.
+// A loop: `copy_from_slice` was tried, and stays a call, with the page put on the stack, where the loop compiles to two moves.
 pub fn write_page(part: &mut [u8], page: [u8; 32])
     requires { length part.old ≡ 32 }
     ensures { part.new ≡ page }
@@ -21,7 +22,7 @@ pub fn write_page(part: &mut [u8], page: [u8; 32])
     }
 }
 
-// The 32 bytes that start at `at`.
+// The 32 bytes that start at `at`. A loop, as in `write_page`: by `copy_from_slice` it is slower.
 fn read_page(bytes: &[u8], at: usize) -> [u8; 32]
     requires { at + 32 ≤ length bytes.now }
     ensures { result ≡ take 32 (drop at bytes.now) }
@@ -51,7 +52,7 @@ pub fn get_page(bytes: &[u8], n: usize) -> [u8; 32]
     read_page(bytes, 32 * n)
 }
 
-// Page `from` is copied to page `to` of the same bytes.
+// Page `from` is copied to page `to` of the same bytes. It isn't `bring`: that one is lent the bytes it reads beside the bytes it writes.
 pub fn copy_page(bytes: &mut [u8], from: usize, to: usize)
     requires { (from < 4096) × (to < 4096) × (32 * from + 32 ≤ length bytes.old) × (32 * to + 32 ≤ length bytes.old) }
     ensures { pages_of bytes.new ≡ updated to (pages_of bytes.old from) (pages_of bytes.old) }
@@ -65,8 +66,7 @@ pub fn copy_across(bytes: &mut [u8], to: usize, source: &[u8], from: usize)
     requires { (to < 4096) × (from < 4096) × (32 * to + 32 ≤ length bytes.old) × (32 * from + 32 ≤ length source.now) }
     ensures { pages_of bytes.new ≡ updated to (pages_of source.now from) (pages_of bytes.old) }
 {
-    let copied = get_page(source, from);
-    put_page(bytes, to, copied);
+    bring(bytes, to, source, 32 * from);
 }
 
 // The page that begins at byte `at` of the store is copied to page `to` of the working buffer.
@@ -91,8 +91,7 @@ pub fn get_byte(bytes: &[u8], n: usize, offset: usize) -> u8
     requires { (n < 4096) × (offset < 32) × (32 * n + 32 ≤ length bytes.now) }
     ensures { result ≡ get_or (pages_of bytes.now n) offset 0 }
 {
-    let at = 32 * n + offset;
-    bytes[at]
+    byte_at(bytes, 32 * n, offset)
 }
 
 // The byte of page n at an offset becomes `value`. For versions in the working buffer: the store is written by whole pages.

@@ -52,7 +52,7 @@ pub fn nekahuiro_age(store: &[u8], number: u8, clock: u32, limit: u32, age: &mut
 fn run_of(store: &mut [u8], events: &[u8], work: &mut [u8], answers: &mut [u8]) -> u8
     ensures { Ran edition1 store.old events.now work.old answers.old result store.new work.new answers.new }
 {
-    open_lent::run_of(store, events, work, answers, JOINT, TEARS)
+    open_lent::run_of::<JOINT, TEARS>(store, events, work, answers)
 }
 
 // Runs a list of events on a store, with an answer of two bytes for each. 0, or a refusal's number: 22, 24, 20 or 21, in this order, and then
@@ -78,7 +78,7 @@ fn portion_of(
         let after = kept result.engine work.new store.new in
         PortionedAs edition1 before events.now answers.old result.number after answers.new }
 {
-    open_lent::portion_of(e, store, events, work, answers, JOINT, TEARS)
+    open_lent::portion_of::<JOINT, TEARS>(e, store, events, work, answers)
 }
 
 // Plays a portion of events on a state that is lent and changed in place, with the store and the working buffer that the last portion left. 0, or a
@@ -113,7 +113,7 @@ fn page_write_of(
     ensures { let held = kept e work.now store.now in
         ToldAs false geometry1 held event.now write.old index result write.new }
 {
-    open_lent::page_write_of(e, store, event, work, index, write, JOINT, TEARS)
+    open_lent::page_write_of::<JOINT, TEARS>(e, store, event, work, index, write)
 }
 
 // Says the page write number `index`, from 0, that an event makes on this state, store and working buffer if nothing cuts it: 0, with the page's number

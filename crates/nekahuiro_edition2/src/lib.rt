@@ -63,8 +63,8 @@ pub fn nekahuiro_run_edition2(
         work.len(),
         answers.len(),
     );
-    if n != 0 {
-        return n;
+    if let Err(wrong) = n {
+        return u8::from(wrong);
     }
     engine_edition2::from_start(store, events, work, answers);
     0
@@ -94,10 +94,10 @@ pub fn nekahuiro_page_write_edition2(
         work.len(),
         answers.len(),
     );
-    if unplayed != 0 {
-        return unplayed;
+    if let Err(wrong) = unplayed {
+        return u8::from(wrong);
     }
-    let wrong = store_length::question(
+    let asks = store_length::question(
         TEARS,
         RECORDS,
         WORD,
@@ -106,8 +106,8 @@ pub fn nekahuiro_page_write_edition2(
         work.len(),
         write.len(),
     );
-    if wrong != 0 {
-        return wrong;
+    if let Err(wrong) = asks {
+        return u8::from(wrong);
     }
     let ended = engine_edition2::from_start(store, events, work, answers);
     let parent = ended.parent;

@@ -1,5 +1,5 @@
 -- A portion that is refused leaves all as it was; one that is played leaves what the rules say. What is lent is a state exactly if the gate finds so.
-use mathlib.Core.Path.{◌≡◌, refl, sym, ap, subst⁻¹, ◌∙◌}
+use mathlib.Core.Path.{◌≡◌, refl, sym, ap, subst, subst⁻¹, ◌∙◌}
 use mathlib.Core.Bool.{Bool, true, false, ◌&&◌, true≢false}
 use mathlib.Core.List.{List}
 use mathlib.Core.Logic.{◌≢◌}
@@ -21,7 +21,10 @@ use Rattle.event_crash.proofs.Editions.{served_of}
 use Rattle.state_whole.specs.Whole.{Intact}
 use Rattle.state_whole.specs.Portion as portions
 use Rattle.state_whole.specs.Portion.{played}
-use Rattle.engine_portion.specs.Portion.{arrays_of}
+use Rattle.state_whole.specs.declared.State.{State}
+use Rattle.state_whole.specs.Lain.{arrays_in}
+use Rattle.engine_portion.specs.declared.Engine.{Engine}
+use Rattle.engine_portion.specs.Portion.{arrays_of, state_lent}
 use Rattle.engine_list.proofs.Words.{four_of}
 use Rattle.sound_clause.specs.Decides.{Decides}
 use Rattle.sound_clause.proofs.Decides.{decides_as, decides_and, decides_same}
@@ -41,6 +44,12 @@ bare_decided l long = decides_as
     each z (suc zero) h = z.0.1
     each z (suc (suc zero)) h = z.1
     each z (suc (suc (suc i))) h = absurd (omega arith)
+
+-- the state that is taken out of what is lent stands for the same arrays
+pub taken : (tears : Bool) (edition : Edition) (e : Engine) (s : State 16 32) (work store : List ℕ) (b : Bool) → s ≡ state_lent e
+    → Decides b (Intact (form_in tears (geometry_of edition)) (arrays_in s work store) × (e.spare ≡ replicate 3 0))
+    → Decides b (Intact (form_in tears (geometry_of edition)) (arrays_of e work store) × (e.spare ≡ replicate 3 0))
+taken tears edition e s work store b q D = subst (λ (z : State 16 32). Decides b (Intact (form_in tears (geometry_of edition)) (arrays_in z work store) × (e.spare ≡ replicate 3 0))) q D
 
 -- edition 1, and the form whose pages can tear, in the numbers that the code gets
 pub first_in : InNumbers first 16 true false

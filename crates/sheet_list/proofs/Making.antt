@@ -1,34 +1,42 @@
 -- What is made of a text, from what the check says and what is filled.
 use mathlib.Core.Path.{◌≡◌, refl, sym, ◌∙◌, ap, subst}
-use mathlib.Core.List.{List, ◌++◌, append_assoc}
+use mathlib.Core.List.{List, [], ◌∷◌, ◌++◌, append_assoc}
 use mathlib.Core.Logic.{dite}
-use Prim.Native.Nat.{ℕ, suc, ◌*◌, ◌≤◌}
+use Prim.Native.Nat.{ℕ, suc, ◌+◌, ◌-◌, ◌*◌, ◌/◌, ◌%◌, ◌≤◌}
 use native.Mathlib.Decide.{dec_lt}
 use native.Mathlib.Omega.{arith}
 use lib.ListN.{length, take, drop, take-append-drop}
-use lib.Seq.{take-take}
+use lib.Seq.{take-take, drop-drop}
+use borrow.Rule.Slice.PartMut.{put_mid}
+use Rattle.std.proofs.lemmas.List.Edits.{sets, sets-eq}
+use mir.Syntax.{w32}
+use Rattle.std.specs.Int.{to_be_bytes}
+use Rattle.laws.specs.Bytes.{bytes}
 use Rattle.rules.specs.Event.{Event}
 use Rattle.sheet_text.specs.Sheet.{Sheet, events, event_bytes, sheet_list, Taken, Follows, Fault}
 use Rattle.sheet_text.specs.Emit.{emits}
-use Rattle.sheet_reader.specs.Reads.{Whole, Checks}
+use Rattle.sheet_reader.specs.Reads.{Whole}
 use Rattle.sheet_text.specs.Made.{over, Made, listed}
 use Rattle.sheet_text.specs.Places.{Ends}
-use Rattle.sheet_reader.specs.declared.Checked.{Checked}
-use Rattle.sheet_reader.specs.declared.Checked.TheVariants.{Good, Fails}
 use Rattle.sheet_text.proofs.Emitting.{one_list}
 use Rattle.sheet_text.proofs.Turning.{words-length, taken_ends, taken_events}
 
-pub checked_good : (s : List ℕ) (k : Checked) (n : ℕ) → k ≡ Good n → Checks s k → Whole s n
-checked_good s k n e c = subst (λ (x : Checked). Checks s x) e c
+-- four bytes that are written over a part of a list
+pub four_over : (at : ℕ) (xs p : List ℕ) → length p ≡ 4 → at + 4 ≤ length xs → put_mid at (at + 4 - at) xs p ≡ sets xs at p
+four_over at xs p long room =
+    let e : at + (at + 4 - at) ≡ at + length p = omega arith in
+    ap (λ (l : List ℕ). take at xs ++ (p ++ l)) (drop-drop (at + 4 - at) at xs ∙ ap (λ (m : ℕ). drop m xs) e)
+    ∙ sym (append_assoc (take at xs) p (drop (at + length p) xs)) ∙ sym (sets-eq p xs at (omega arith))
 
-pub checked_fails : (s : List ℕ) (k : Checked) (p : ℕ) → k ≡ Fails p → Checks s k → Fault s p
-checked_fails s k p e c = subst (λ (x : Checked). Checks s x) e c
+-- the bytes of a word are those of the rules
+pub word_bytes : (w : ℕ) → to_be_bytes w32 w ≡ bytes 4 w
+unfolding bytes
+word_bytes w =
+    let e : w % 256 ≡ w / 1 % 256 = omega arith in
+    ap (λ (b : ℕ). w / 16777216 % 256 ∷ w / 65536 % 256 ∷ w / 256 % 256 ∷ b ∷ []) e
 
 pub whole_ends : (s : List ℕ) (n : ℕ) → Whole s n → Ends s
 whole_ends s n w = taken_ends s w.sheet w.taken
-
-pub whole_most : (s : List ℕ) (n : ℕ) → Whole s n → n ≤ 4096
-whole_most s n w = omega (arith, w.long, w.taken.good.short)
 
 list_filled : (s l l' : List ℕ) (k : Sheet) → l' ≡ over (event_bytes (emits s (length s)).events) l → Taken s k → l' ≡ over (sheet_list k) l
 unfolding sheet_list

@@ -2,7 +2,7 @@
 // of its steps gives one event.
 #![tactic(auto)]
 
-ghost use Rattle.std.specs.Prelude.{◌≡◌, ◌+◌, ◌*◌, ◌<◌, ◌≤◌, length, get_or};
+ghost use Rattle.std.specs.Prelude.{◌≡◌, ◌+◌, ◌*◌, ◌<◌, ◌≤◌, ℕ, length, get_or};
 ghost use Rattle.std.proofs.lemmas.List.Edits.{sets};
 ghost use Rattle.laws.specs.Bytes.{bytes};
 ghost use Rattle.rules.specs.Event.{word};
@@ -11,6 +11,10 @@ ghost use Rattle.sheet_text.specs.Sheet.{event_bytes};
 ghost use Rattle.sheet_text.specs.Made.{over, Made};
 ghost use Rattle.sheet_text.specs.Emit.{value, pair_of, offset_of, emits};
 ghost use Rattle.sheet_text.specs.Places.{Ends, Place, Turns};
+ghost use Rattle.sheet_list.specs.Told.{told_number, told_of};
+ghost use Rattle.sheet_list.specs.Kinds.{kind_number};
+
+use sheet_reader::BadByte;
 
 const BELOW_A: u8 = b'A' - 10;
 
@@ -43,13 +47,24 @@ fn offset_at(s: &[u8], at: usize) -> u8
     two_digits(s, at) % 32
 }
 
+// The kinds of event that a sheet asks for, by their numbers in a word.
+#[derive(Clone, Copy, Debug, PartialEq, Eq)]
+enum Kind {
+    Begin = 1,
+    Lock = 2,
+    Write = 3,
+    Read = 4,
+    Commit = 5,
+    Abort = 6,
+}
+
 // The word of an event by its fields.
-fn event_word(kind: u8, t: u8, r: u8, o: u8, c: u8, v: u8) -> u32
-    requires { (kind < 16) × (t < 32) × (r < 16) × (o < 32) × (c < 64) }
-    ensures { result ≡ word geometry1 kind t r o c v }
+fn event_word(kind: Kind, t: u8, r: u8, o: u8, c: u8, v: u8) -> u32
+    requires { (t < 32) × (r < 16) × (o < 32) × (c < 64) }
+    ensures { result ≡ word geometry1 (kind_number kind) t r o c v }
 {
     leaf_event::Event::to_word(leaf_event::Event {
-        kind,
+        kind: kind as u8,
         transaction: t,
         rec: r,
         offset: o,
@@ -64,14 +79,11 @@ fn put_word(list: &mut [u8], k: usize, w: u32)
     ensures { list.new ≡ sets list.old (4 * k) (bytes 4 w) }
 {
     let at = 4 * k;
-    list[at] = (w / 16777216 % 256) as u8;
-    list[at + 1] = (w / 65536 % 256) as u8;
-    list[at + 2] = (w / 256 % 256) as u8;
-    list[at + 3] = (w % 256) as u8;
+    list[at..at + 4].copy_from_slice(&w.to_be_bytes());
 }
 
 // The event of a step: its word, and the place and level behind it. Behind the end stands level 16.
-#[derive(Drop)]
+#[derive(Clone, Copy, Debug, PartialEq, Eq)]
 pub struct Turn {
     pub word: u32,
     pub at: usize,
@@ -87,21 +99,28 @@ fn plain_turn(s: &[u8], at: usize, levels: u8) -> Turn
     let t = 15 - levels;
     if b == b'L' {
         return Turn {
-            word: event_word(2, t, digit_value(s[at + 1]), 0, 0, 0),
+            word: event_word(Kind::Lock, t, digit_value(s[at + 1]), 0, 0, 0),
             at: at + 2,
             levels,
         };
     }
     if b == b'R' {
         return Turn {
-            word: event_word(4, t, digit_value(s[at + 1]), offset_at(s, at + 2), 0, 0),
+            word: event_word(
+                Kind::Read,
+                t,
+                digit_value(s[at + 1]),
+                offset_at(s, at + 2),
+                0,
+                0,
+            ),
             at: at + 4,
             levels,
         };
     }
     Turn {
         word: event_word(
-            3,
+            Kind::Write,
             t,
             digit_value(s[at + 1]),
             offset_at(s, at + 2),
@@ -122,21 +141,21 @@ fn next_turn(s: &[u8], at: usize, levels: u8) -> Turn
     let t = 15 - levels;
     if b == b'{' {
         return Turn {
-            word: event_word(1, t, 0, 0, 0, 0),
+            word: event_word(Kind::Begin, t, 0, 0, 0, 0),
             at: at + 1,
             levels: levels - 1,
         };
     }
     if b == b'}' {
         return Turn {
-            word: event_word(5, t, 0, 0, 63, 0),
+            word: event_word(Kind::Commit, t, 0, 0, 63, 0),
             at: at + 1,
             levels: levels + 1,
         };
     }
     if b == b'!' {
         return Turn {
-            word: event_word(6, t, 0, 0, 0, 0),
+            word: event_word(Kind::Abort, t, 0, 0, 0, 0),
             at: at + 1,
             levels: levels + 1,
         };
@@ -149,10 +168,11 @@ fn fill(s: &[u8], list: &mut [u8])
     requires { Ends s.now × (16384 ≤ length list.old) }
     ensures { list.new ≡ over (event_bytes (emits s.now (length s.now)).events) list.old }
 {
-    put_word(list, 0, event_word(1, 31, 0, 0, 0, 0));
+    put_word(list, 0, event_word(Kind::Begin, 31, 0, 0, 0, 0));
     let mut i = 1;
     let mut levels = 15u8;
     let mut k = 1;
+    // No `for`: a step ends at a place that its text tells.
     while i < s.len() {
         let t = next_turn(s, i, levels);
         put_word(list, k, t.word);
@@ -162,22 +182,51 @@ fn fill(s: &[u8], list: &mut [u8])
     }
 }
 
+// Why a text becomes no list.
+#[derive(Clone, Copy, Debug, PartialEq, Eq)]
+enum Refusal {
+    // The output is too small.
+    Small,
+    // The text is no taken sheet.
+    NoSheet(BadByte),
+}
+
+impl From<BadByte> for Refusal {
+    ghost use Rattle.std.specs.Prelude.{◌≡◌};
+    ghost use Rattle.sheet_list.specs.declared.Refusal.TheVariants.{NoSheet};
+
+    ghost from_gives = { λ b r. r ≡ NoSheet b };
+
+    fn from(b: BadByte) -> Refusal {
+        Refusal::NoSheet(b)
+    }
+}
+
+// A text becomes a list, whose length in bytes is told; or a refusal, and nothing is touched.
+fn made(sheet: &[u8], list: &mut [u8]) -> Result<usize, Refusal>
+    ensures { (told : ℕ) → Made sheet.now list.old told (told_number result) list.new (told_of told result) }
+{
+    if list.len() < 16384 {
+        return Err(Refusal::Small);
+    }
+    let n = sheet_reader::check(sheet)?;
+    fill(sheet, list);
+    Ok(4 * n)
+}
+
 // A text becomes a list: 0, and its length in bytes is told; 28, the output is too small, tried first, and nothing is touched; 29, no taken sheet, and
-// the place of the first byte after which none could follow is told.
+// the place of the first byte after which none could follow is told. The answer is a byte, and the place is lent, as C has them (nekahuiro_sheet).
 pub fn list_of(sheet: &[u8], list: &mut [u8], told: &mut usize) -> u8
     ensures { Made sheet.now list.old told.old result list.new told.new }
 {
-    if list.len() < 16384 {
-        return 28;
-    }
-    match sheet_reader::check(sheet) {
-        sheet_reader::Checked::Good(n) => {
-            fill(sheet, list);
-            *told = 4 * n;
+    match made(sheet, list) {
+        Ok(n) => {
+            *told = n;
             0
         }
-        sheet_reader::Checked::Fails(p) => {
-            *told = p;
+        Err(Refusal::Small) => 28,
+        Err(Refusal::NoSheet(b)) => {
+            *told = b.at;
             29
         }
     }

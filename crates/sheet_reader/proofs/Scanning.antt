@@ -1,5 +1,5 @@
 -- The reading, one byte further.
-use mathlib.Core.Path.{◌≡◌, refl, sym, ◌∙◌, ap, subst}
+use mathlib.Core.Path.{◌≡◌, refl, sym, ◌∙◌, ap}
 use mathlib.Core.Bool.{Bool, true, false, cond}
 use mathlib.Core.List.{List}
 use mathlib.Core.Logic.{◌≢◌}
@@ -11,10 +11,11 @@ use Rattle.laws.specs.Tests.{same, open_tests}
 use Rattle.laws.proofs.Tests.{Same, is, isnt, same_cases}
 use Rattle.sheet_text.specs.Scan.{Scan, between, within, ended, dead, Letter, closing, plain, letter_of, is_digit, to_come, opened, level_closed, stepped, scan_opened, scan_next, scan_after, Stands, Stuck, is_dead, is_ended, open_scan}
 use Rattle.sheet_text.proofs.Letters.{is_opening, is_lock_lem, is_write, is_read, is_unknown, opening_is, begun-not, no_letter, no_room, no_level, too_few, has_both, level_up}
-use Rattle.sheet_reader.specs.Reads.{Read, Reads}
+use Rattle.sheet_reader.specs.Reads.{Reads}
 use Rattle.sheet_reader.specs.declared.Cursor.{Cursor}
-use Rattle.sheet_reader.specs.declared.Found.{Found}
-use Rattle.sheet_reader.specs.declared.Found.TheVariants.{Next, Bad}
+use Rattle.sheet_reader.specs.declared.BadByte.{BadByte}
+use Rattle.std.specs.Prelude.{Ok, Err}
+use Rattle.std.specs.declared.result.Result.{Result}
 
 -- one byte further
 on : (s : List ℕ) (i : ℕ) (q : Scan) → scan_after s i ≡ q → scan_after s (i + 1) ≡ scan_next q (get_or s i 0)
@@ -56,13 +57,12 @@ unfolding open_scan
 between_short {s} {i} w e = stuck (omega arith) e refl refl (λ l. absurd (omega arith))
 
 -- where k digits are to come
-first_to_come : (k low l r : ℕ) → 0 < k → to_come k low l r ≡ within (k - 1) low l r
+pub to_come_lem : {s : List ℕ} {i k low l r : ℕ} (j : ℕ) → k ≡ suc j → Stands s i (to_come k low l r) → Stands s i (within j low l r)
 unfolding open_scan
-first_to_come zero low l r p = absurd (omega arith)
-first_to_come (suc k) low l r p = let q : k ≡ suc k - 1 = omega arith in ap (λ (j : ℕ). within j low l r) q
+to_come_lem {s} {i} {k} {low} {l} {r} j e h = record { is = h.is ∙ ap (λ (m : ℕ). to_come m low l r) e }
 
-pub to_come_lem : (s : List ℕ) (i k low l r : ℕ) → 0 < k → Stands s i (to_come k low l r) → Stands s i (within (k - 1) low l r)
-to_come_lem s i k low l r p e = record { is = e.is ∙ first_to_come k low l r p }
+pub come_as : {s : List ℕ} {i k : ℕ} (low l r j : ℕ) → k ≡ j → Stands s i (to_come k low l r) → Stands s i (to_come j low l r)
+come_as low l r j e h = record { is = h.is ∙ ap (λ (m : ℕ). to_come m low l r) e }
 
 pub none_to_come : (s : List ℕ) (i k low l r : ℕ) → k ≡ 0 → Stands s i (to_come k low l r) → Stands s i (between l r)
 unfolding open_scan
@@ -73,9 +73,9 @@ unfolding open_scan
 all_to_come {s} {i} {n} {low} {l} {r} e = record { is = e.is ∙ ap (λ (j : ℕ). to_come j low l r) (sym (add-one n)) }
 
 -- what was read from further on
-pub from_before : (s : List ℕ) (at at' : ℕ) (q : ℕ → Scan) (f : Found) → at ≤ at' → Reads s at' q f → Reads s at q f
-from_before s at at' q (Next c) w h = record { further = omega (arith, h.further); within = h.within; stands = h.stands }
-from_before s at at' q (Bad p) w h = h
+pub from_before : (s : List ℕ) (at at' : ℕ) (q : ℕ → Scan) (f : Result Cursor BadByte) → at ≤ at' → Reads s at' q f → Reads s at q f
+from_before s at at' q (Ok c) w h = record { further = omega (arith, h.further); within = h.within; stands = h.stands }
+from_before s at at' q (Err p) w h = h
 
 pub has_room : (n low l r : ℕ) → 0 < r → stepped (plain n low) l r ≡ within n low l (r - 1)
 unfolding open_scan
@@ -113,16 +113,9 @@ pub too_few_on : {s : List ℕ} {i l r : ℕ} → i < length s → Stands s i (b
 unfolding stepped
 too_few_on {s} {i} {l} {r} w e x z = letter_bad w e (is_opening x) (too_few l r z)
 
-pub inner_left : (s : List ℕ) (at l : ℕ) (f : Found) → 0 < l → l < 16 → Reads s at (level_closed (l - 1)) f → Reads s at (between l) f
-inner_left s at l (Next c) p q h = record { further = h.further; within = h.within; stands = record { is = h.stands.is ∙ level_up l c.room p q } }
-inner_left s at l (Bad x) p q h = h
-
--- what was found
-pub found_next : (s : List ℕ) (at : ℕ) (q : ℕ → Scan) (f : Found) (c : Cursor) → f ≡ Next c → Reads s at q f → Read s at q c
-found_next s at q f c e h = subst (Reads s at q) e h
-
-pub found_bad : (s : List ℕ) (at : ℕ) (q : ℕ → Scan) (f : Found) (p : ℕ) → f ≡ Bad p → Reads s at q f → Stuck s p
-found_bad s at q f p e h = subst (Reads s at q) e h
+pub inner_left : (s : List ℕ) (at l : ℕ) (f : Result Cursor BadByte) → 0 < l → l < 16 → Reads s at (level_closed (l - 1)) f → Reads s at (between l) f
+inner_left s at l (Ok c) p q h = record { further = h.further; within = h.within; stands = record { is = h.stands.is ∙ level_up l c.room p q } }
+inner_left s at l (Err x) p q h = h
 
 -- the beginning of a text
 pub opened_text : {s : List ℕ} → get_or s 0 0 ≡ 123 → Stands s 1 (between 15 4094)

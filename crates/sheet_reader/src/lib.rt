@@ -7,21 +7,20 @@ ghost use Rattle.std.specs.Prelude.{◌≡◌, ◌<◌, ◌≤◌, length, get_o
 ghost use Rattle.sheet_text.specs.Scan.{Stands, between, within, level_closed, is_digit};
 ghost use Rattle.sheet_reader.specs.Reads.{Reads, Checks};
 
-// A place in the text, and how many events are free there.
-#[derive(Drop)]
+// Where a reader stands behind what it read: a place in the text, and how many events are free there.
+#[derive(Clone, Copy, Debug, PartialEq, Eq)]
 pub struct Cursor {
     pub at: usize,
     pub room: usize,
 }
 
-// What a reader finds: where it stands behind what it read, or the place of the first bad byte.
-#[derive(Drop)]
-pub enum Found {
-    Next(Cursor),
-    Bad(usize),
+// The place of the first bad byte: the first after which no taken sheet could follow.
+#[derive(Clone, Copy, Debug, PartialEq, Eq)]
+pub struct BadByte {
+    pub at: usize,
 }
 
-// b is a hexadecimal digit; with `low`, 0 or 1.
+// b is a hexadecimal digit; with `low`, 0 or 1. A Bool as in the rules' `is_digit`: its one call hands in what a test says.
 fn is_digit(b: u8, low: bool) -> bool
     ensures { result ≡ is_digit low b }
 {
@@ -32,32 +31,36 @@ fn is_digit(b: u8, low: bool) -> bool
 }
 
 // n + 1 digits, of which that with `low` more to come is an offset's first: 0 or 1.
-fn read_digits(s: &[u8], at: usize, levels: usize, room: usize, n: usize, low: usize) -> Found
+fn read_digits(
+    s: &[u8],
+    at: usize,
+    levels: usize,
+    room: usize,
+    n: usize,
+    low: usize,
+) -> Result<Cursor, BadByte>
     requires { (at ≤ length s.now) × (n < 8) × Stands s.now at (within n low levels room) }
     ensures { Reads s.now at (between levels) result }
 {
-    let mut i = at;
-    let mut k = n + 1;
-    while 0 < k {
+    let last = at + n;
+    for i in at..last + 1 {
         if s.len() <= i {
-            return Found::Bad(i);
+            return Err(BadByte { at: i });
         }
-        k = k - 1;
-        if !is_digit(s[i], k == low) {
-            return Found::Bad(i);
+        if !is_digit(s[i], last - i == low) {
+            return Err(BadByte { at: i });
         }
-        i = i + 1;
     }
-    Found::Next(Cursor { at: i, room })
+    Ok(Cursor { at: last + 1, room })
 }
 
 // A lock, a write or a read.
-fn read_plain(s: &[u8], at: usize, levels: usize, room: usize) -> Found
+fn read_plain(s: &[u8], at: usize, levels: usize, room: usize) -> Result<Cursor, BadByte>
     requires { (at < length s.now) × Stands s.now at (between levels room) × (get_or s.now at 0 ≡ 123 → ⊥) × (get_or s.now at 0 ≡ 125 → ⊥) × (get_or s.now at 0 ≡ 33 → ⊥) }
     ensures { Reads s.now at (between levels) result }
 {
     if room == 0 {
-        return Found::Bad(at);
+        return Err(BadByte { at });
     }
     let b = s[at];
     if b == b'L' {
@@ -69,21 +72,21 @@ fn read_plain(s: &[u8], at: usize, levels: usize, room: usize) -> Found
     if b == b'R' {
         return read_digits(s, at + 1, levels, room - 1, 2, 1);
     }
-    Found::Bad(at)
+    Err(BadByte { at })
 }
 
 // A step: a lock, write or read, or at an opening brace a whole transaction, which needs a level and two events.
 #[cycle(read_step_read_transaction)]
-fn read_step(s: &[u8], at: usize, levels: usize, room: usize) -> Found
+fn read_step(s: &[u8], at: usize, levels: usize, room: usize) -> Result<Cursor, BadByte>
     requires { (at < length s.now) × Stands s.now at (between levels room) × (levels < 16) × (get_or s.now at 0 ≡ 125 → ⊥) × (get_or s.now at 0 ≡ 33 → ⊥) }
     ensures { Reads s.now at (between levels) result }
 {
     if s[at] == b'{' {
         if levels == 0 {
-            return Found::Bad(at);
+            return Err(BadByte { at });
         }
         if room < 2 {
-            return Found::Bad(at);
+            return Err(BadByte { at });
         }
         return read_transaction(s, at + 1, levels - 1, room - 2);
     }
@@ -92,65 +95,38 @@ fn read_step(s: &[u8], at: usize, levels: usize, room: usize) -> Found
 
 // A transaction whose opening brace is read: its steps, up to its end.
 #[cycle(read_step_read_transaction)]
-fn read_transaction(s: &[u8], at: usize, levels: usize, room: usize) -> Found
+fn read_transaction(s: &[u8], at: usize, levels: usize, room: usize) -> Result<Cursor, BadByte>
     requires { (at ≤ length s.now) × Stands s.now at (between levels room) × (levels < 16) }
     ensures { Reads s.now at (level_closed levels) result }
 {
-    let mut i = at;
-    let mut free = room;
-    while i < s.len() {
-        let b = s[i];
-        if b == b'}' {
-            return Found::Next(Cursor {
-                at: i + 1,
-                room: free,
+    let mut c = Cursor { at, room };
+    // No `for`: a step ends at a place that its text tells.
+    while c.at < s.len() {
+        let b = s[c.at];
+        if b == b'}' || b == b'!' {
+            return Ok(Cursor {
+                at: c.at + 1,
+                room: c.room,
             });
         }
-        if b == b'!' {
-            return Found::Next(Cursor {
-                at: i + 1,
-                room: free,
-            });
-        }
-        match read_step(s, i, levels, free) {
-            Found::Next(c) => {
-                i = c.at;
-                free = c.room;
-            }
-            Found::Bad(p) => {
-                return Found::Bad(p);
-            }
-        }
+        c = read_step(s, c.at, levels, c.room)?;
     }
-    Found::Bad(i)
+    Err(BadByte { at: c.at })
 }
 
-// What is said of a text: it is a taken sheet with so many events, or the place of its first bad byte.
-#[derive(Drop)]
-pub enum Checked {
-    Good(usize),
-    Fails(usize),
-}
-
-// Whether a text is a taken sheet: one top transaction, to its last byte.
-pub fn check(s: &[u8]) -> Checked
+// How many events a text has, if it is a taken sheet: one top transaction, to its last byte.
+pub fn check(s: &[u8]) -> Result<usize, BadByte>
     ensures { Checks s.now result }
 {
     if s.len() == 0 {
-        return Checked::Fails(0);
+        return Err(BadByte { at: 0 });
     }
     if s[0] != b'{' {
-        return Checked::Fails(0);
+        return Err(BadByte { at: 0 });
     }
-    match read_transaction(s, 1, 15, 4094) {
-        Found::Next(c) => {
-            let at = c.at;
-            let room = c.room;
-            if at < s.len() {
-                return Checked::Fails(at);
-            }
-            Checked::Good(4096 - room)
-        }
-        Found::Bad(p) => Checked::Fails(p),
+    let c = read_transaction(s, 1, 15, 4094)?;
+    if c.at < s.len() {
+        return Err(BadByte { at: c.at });
     }
+    Ok(4096 - c.room)
 }

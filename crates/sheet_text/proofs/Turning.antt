@@ -3,14 +3,14 @@ use mathlib.Core.Path.{◌≡◌, refl, sym, ◌∙◌, ap, ap₂, subst}
 use mathlib.Core.Bool.{Bool, true, false, cond}
 use mathlib.Core.List.{List, [], ◌∷◌, ◌++◌, append_assoc, append-nil}
 use mathlib.Core.Logic.{dite}
-use Prim.Native.Nat.{ℕ, zero, suc, ◌+◌, ◌*◌, ◌-◌, ◌/◌, ◌%◌, ◌≤◌, ◌<◌}
+use Prim.Native.Nat.{ℕ, zero, suc, ◌+◌, ◌*◌, ◌-◌, ◌%◌, ◌≤◌, ◌<◌}
 use native.Mathlib.Decide.{dec_lt, ℕ_discrete}
 use native.Mathlib.Omega.{arith}
 use native.Mathlib.Nat.{add-suc, add-zero}
-use lib.ListN.{length, length-append, length-drop, drop, get_or, set}
+use lib.ListN.{length, length-append, length-drop, drop, get_or}
 use lib.Seq.{take-length, sets, sets-eq, take-append_seam, drop-append-add, drop-drop}
 use Rattle.laws.specs.Tests.{same, under, open_tests}
-use Rattle.laws.specs.Bytes.{bytes, open_bytes}
+use Rattle.laws.specs.Bytes.{bytes}
 use Rattle.laws.proofs.Tests.{Is, is_cases, yes', no', ne_false, lt-under, under-lt}
 use Rattle.laws.proofs.Bytes.{bytes-length}
 use Rattle.rules.specs.Geometry.{nobody}
@@ -41,16 +41,6 @@ value_high b h = go (is_cases (under b 58))
     go : Is (under b 58) → (b - 55) % 16 ≡ cond (under b 58) (b % 16) ((b - 55) % 16)
     go (yes' e) = absurd (h (under-lt b 58 e))
     go (no' e) = simp e refl
-
--- four bytes, one after another
-pub four_bytes : (l : List ℕ) (a w : ℕ) → set (set (set (set l a (w / 16777216 % 256)) (a + 1) (w / 65536 % 256)) (a + 2) (w / 256 % 256)) (a + 3) (w % 256) ≡ sets l a (bytes 4 w)
-unfolding open_bytes
-four_bytes l a w =
-    let e₁ : a + 1 ≡ suc a = omega arith in
-    let e₂ : a + 2 ≡ suc (suc a) = omega arith in
-    let e₃ : a + 3 ≡ suc (suc (suc a)) = omega arith in
-    let e₄ : w % 256 ≡ w / 1 % 256 = omega arith in
-    λ i. set (set (set (set l a (w / 16777216 % 256)) (e₁ i) (w / 65536 % 256)) (e₂ i) (w / 256 % 256)) (e₃ i) (e₄ i)
 
 length_over : (a l : List ℕ) → length a ≤ length l → length (over a l) ≡ length l
 unfolding over

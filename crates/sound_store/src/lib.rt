@@ -89,7 +89,7 @@ pub fn is_emptied(store: &[u8], tears: bool, n: usize) -> bool
 {
     let whole = pages_whole(store, tears, 1 + (n + n));
     let c = leaf_commit_page::read_commit(store_write::get_page(store, tears, 0), n);
-    let good = c.good;
-    let empty = c.map == 0;
+    let good = c.is_some();
+    let empty = c.unwrap_or(0) == 0;
     whole & (good & empty)
 }

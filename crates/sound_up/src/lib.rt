@@ -39,7 +39,10 @@ fn prepared_map(page: [u8; 32], empty: bool, joint: bool) -> u64
         return 0;
     }
     let p = leaf_commit_page::read_prepared(page, 16, joint);
-    p.map
+    match p {
+        Some(held) => held.map,
+        None => 0,
+    }
 }
 
 // The flag is 0 or 1, nothing is live while down, while up the commit page is empty or prepared and every page whole, and nobody has a lock of a record that

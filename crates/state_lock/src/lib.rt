@@ -15,6 +15,7 @@ ghost use Rattle.state_lock.specs.Granting.{Granting};
 use leaf_number::{RecordNumber, TransactionNumber};
 
 // The place of the transactions that bar an access to record r: to write, all that have its lock; to read, those that have it in write mode.
+// Here and below `reading` is a bool, as `access_when` and a waiting row's mode have it: an enum would be made from it by each caller, to be looked at once.
 pub fn barring_place(r: usize, reading: bool) -> usize
     requires { r < 64 }
     ensures { (result ≡ barring (access_when reading) r) × (result < 2 * r + 2) }
@@ -25,13 +26,21 @@ pub fn barring_place(r: usize, reading: bool) -> usize
     2 * r
 }
 
+// t is at place k of s.
+fn is_at(s: &[u32], k: usize, t: TransactionNumber) -> bool
+    requires { k < length s.now }
+    ensures { result ≡ sets s.now k (transaction_of t) }
+{
+    leaf_set::contains(s[k], t.number())
+}
+
 // t holds the lock of record r, in any mode.
 pub fn holds(held: &[u32], t: TransactionNumber, r: RecordNumber) -> bool
     requires { 2 * record_of r + 2 ≤ length held.now }
     ensures { result ≡ any_mode (sets held.now) (record_of r) (transaction_of t) }
 {
     let any = 2 * r.index();
-    leaf_set::contains(held[any], t.number())
+    is_at(held, any, t)
 }
 
 // t holds the lock of record r in write mode.
@@ -40,7 +49,7 @@ pub fn holds_writing(held: &[u32], t: TransactionNumber, r: RecordNumber) -> boo
     ensures { result ≡ write_mode (sets held.now) (record_of r) (transaction_of t) }
 {
     let writing = 2 * r.index() + 1;
-    leaf_set::contains(held[writing], t.number())
+    is_at(held, writing, t)
 }
 
 // Adds t to the holders of record r's lock, in write mode unless it asked to read.
@@ -87,12 +96,13 @@ pub fn lock(
 }
 
 // Takes the transactions in gone out of each of the n places of s: of locks, of versions, or of the children of each parent.
+// (Only the contract needs n.)
 pub fn leave(s: &mut [u32], n: usize, gone: u32)
     requires { length s.old ≡ n }
     ensures { Rows n (leaving (bits gone) (sets s.old)) s.new }
 {
-    for k in 0..n {
-        s[k] = leaf_set::minus(s[k], gone);
+    for place in s.iter_mut() {
+        *place = leaf_set::minus(*place, gone);
     }
 }
 
@@ -101,9 +111,7 @@ pub fn clear(s: &mut [u32], n: usize)
     requires { length s.old ≡ n }
     ensures { s.new ≡ replicate n 0 }
 {
-    for i in 0..n {
-        s[i] = 0;
-    }
+    s[..n].fill(0);
 }
 
 // Discards the locks and the versions of the transactions in gone.
@@ -137,21 +145,21 @@ fn replace(had: bool, s: u32, t: u8, p: u8) -> u32
     rest
 }
 
-// In each of the n places, p takes over what t held or retained there, as a retainer, and t retains nothing.
-fn inherit(held: &[u32], retained: &mut [u32], n: usize, t: u8, p: u8)
-    requires { (t < 24) × (p < 24) × (length held.now ≡ n) × (length retained.old ≡ n) }
+// In each place p takes over what t held or retained there, as a retainer, and t retains nothing.
+fn inherit(held: &[u32], retained: &mut [u32], t: u8, p: u8)
+    requires { (t < 24) × (p < 24) × (length held.now ≡ length retained.old) }
     ensures { let holders = sets held.now in
         let retainers = sets retained.old in
-        Rows n (inheriting t p holders retainers) retained.new }
+        Rows (length retained.old) (inheriting t p holders retainers) retained.new }
 {
-    for k in 0..n {
-        let m = retained[k];
-        let had = leaf_set::contains(held[k], t) | leaf_set::contains(m, t);
-        retained[k] = replace(had, m, t, p);
+    for (k, m) in retained.iter_mut().enumerate() {
+        let had = leaf_set::contains(held[k], t) | leaf_set::contains(*m, t);
+        *m = replace(had, *m, t, p);
     }
 }
 
-// t aborts. If its parent p is told (the abort comes with a report), p retains what t held or retained.
+// t aborts. If its parent p is told (the abort comes with a report), p retains what t held or retained. (`told` stands beside p: the caller has a test and a
+// number, and an Option made of them would only be taken apart here.)
 pub fn inherit_on_abort(held: &[u32], retained: &mut [u32], n: usize, t: u8, p: u8, told: bool)
     requires { (t < 24) × (told ≡ true → p < 24) × (length held.now ≡ n) × (length retained.old ≡ n) }
     ensures { let holders = sets held.now in
@@ -159,7 +167,7 @@ pub fn inherit_on_abort(held: &[u32], retained: &mut [u32], n: usize, t: u8, p: 
         Rows n (reporting told t p holders retainers) retained.new }
 {
     if told {
-        inherit(held, retained, n, t, p);
+        inherit(held, retained, t, p);
     }
 }
 
@@ -170,6 +178,6 @@ pub fn inherit_on_commit(held: &mut [u32], retained: &mut [u32], n: usize, t: u8
         let retainers = sets retained.old in
         Rows n (leaving (λ j. same j t) holders) held.new × Rows n (inheriting t p holders retainers) retained.new }
 {
-    inherit(&held[..], retained, n, t, p);
+    inherit(&held[..], retained, t, p);
     leave(held, n, leaf_set::single(t));
 }

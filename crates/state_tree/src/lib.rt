@@ -13,7 +13,8 @@ ghost use Rattle.leaf_set.specs.Sets.{sets};
 ghost use Rattle.state_array.specs.Changes.{SetChanged, Rows, Cleared};
 ghost use Rattle.state_array.specs.Kin.{lives_in, child_in};
 
-// The lowest free number, or 24: that bit is set in any case, so the bits above it don't matter.
+// The lowest free number, or 24: that bit is set in any case, so the bits above it don't matter. (24 for none is what `lowest` says; an Option would add a
+// test to an instruction that answers both.)
 pub fn first_free(live: u32) -> u8
     ensures { result ≡ lowest transactions (λ u. not (bits live u)) }
 {
@@ -68,9 +69,9 @@ pub fn live_set(depth: &[u8; 24]) -> u32
     ensures { bits result ≡ lives_in depth.now }
 {
     let mut m = 0u32;
-    for j in 0..24 {
-        let live = depth[j] != 0;
-        m = with_if(m, live, (j % 256) as u8);
+    for (j, &d) in depth.iter().enumerate() {
+        let live = d != 0;
+        m = with_if(m, live, j as u8);
     }
     m
 }
@@ -92,9 +93,9 @@ pub fn children_of(parent: &[u8; 24], depth: &[u8; 24]) -> [u32; 32]
     ensures { (length result ≡ 32) × ((p : ℕ) → p < 32 → sets result p ≡ child_in parent.now depth.now p) }
 {
     let mut children = [0u32; 32];
-    for j in 0..24 {
+    for (j, &p) in parent.iter().enumerate() {
         let alive = depth[j] != 0;
-        add_child_if(&mut children, parent[j], alive, (j % 256) as u8);
+        add_child_if(&mut children, p, alive, j as u8);
     }
     children
 }
@@ -105,8 +106,8 @@ pub fn descendants(line: &[u32; 24], t: u8) -> u32
     ensures { bits result ≡ (λ u. sets line.now u t) }
 {
     let mut m = 0u32;
-    for j in 0..24 {
-        m = with_if(m, leaf_set::contains(line[j], t), (j % 256) as u8);
+    for (j, &above) in line.iter().enumerate() {
+        m = with_if(m, leaf_set::contains(above, t), j as u8);
     }
     m
 }
@@ -146,28 +147,26 @@ pub fn free_number(parent: &mut [u8; 24], depth: &mut [u8; 24], line: &mut [u32;
 }
 
 // The number j is free again, if gone has it.
-fn free_if(parent: &mut [u8; 24], depth: &mut [u8; 24], line: &mut [u32; 24], gone: u32, j: usize)
+fn free_if(parent: &mut [u8; 24], depth: &mut [u8; 24], line: &mut [u32; 24], gone: u32, j: u8)
     requires { (j < 24) × (length parent.old ≡ 24) × (length depth.old ≡ 24) × (length line.old ≡ 24) }
     ensures { let ends = bits gone j in
         (parent.new ≡ cond ends (set parent.old j 0) parent.old)
         × (depth.new ≡ cond ends (set depth.old j 0) depth.old)
         × (line.new ≡ cond ends (set line.old j 0) line.old) }
 {
-    if leaf_set::contains(gone, (j % 256) as u8) {
-        parent[j] = 0;
-        depth[j] = 0;
-        line[j] = 0;
+    if leaf_set::contains(gone, j) {
+        free_number(parent, depth, line, j);
     }
 }
 
-// The numbers of the transactions in gone are free again.
+// The numbers of the transactions in gone are free again. (j is a transaction's number, and three arrays are written at it.)
 pub fn free_numbers(parent: &mut [u8; 24], depth: &mut [u8; 24], line: &mut [u32; 24], gone: u32)
     requires { (length parent.old ≡ 24) × (length depth.old ≡ 24) × (length line.old ≡ 24) }
     ensures { Cleared (bits gone) parent.old parent.new
         × Cleared (bits gone) depth.old depth.new
         × Cleared (bits gone) line.old line.new }
 {
-    for j in 0..24 {
+    for j in 0..24u8 {
         free_if(parent, depth, line, gone, j);
     }
 }

@@ -1,5 +1,5 @@
 -- The walk up from a transaction to the nearest that has a version: what it reads stays the same at every step.
-use mathlib.Core.Path.{◌≡◌, refl, sym, ap, ap₂, ◌∙◌}
+use mathlib.Core.Path.{◌≡◌, refl, sym, ap, ap₂, subst⁻¹, ◌∙◌}
 use mathlib.Core.Bool.{true, false, true≢false}
 use mathlib.Core.List.{List, [], ◌∷◌}
 use mathlib.Core.Logic.{◌⊎◌, inl, inr}
@@ -16,7 +16,8 @@ use Rattle.rules.specs.Editions.{depths}
 use Rattle.rules.proofs.Bearers.{up_one}
 use Rattle.state_array.specs.View.{bearers_of}
 use Rattle.state_array.proofs.View.{depth_is, parent_is, deep_below}
-use Rattle.state_version.specs.Parts.{Sources, Climbing, ended, found, passed, Climbed}
+use Rattle.std.proofs.Common.{Option as Optional, Some, None, MatchOption, IfSome}
+use Rattle.state_version.specs.Parts.{Sources, Climbing, ended, found, passed, Climbed, climb_told}
 use Rattle.state_version.specs.declared.Climb.{Climb}
 
 -- a walk from t after n steps
@@ -37,6 +38,11 @@ unfolding nearest
 none-nearest ver base r h [] = refl
 none-nearest ver base r h (j ∷ l) = skips (ver j r) (nearest ver base r l) (h j) ∙ none-nearest ver base r h l
 
+-- where it met somebody, somebody is left
+pub walk_left : (o : Optional Climb) (c : Climb) → MatchOption o (c.left ≡ 0) (λ d. (d ≡ c) × (0 < c.left)) → IfSome o (λ d. 0 < d.left)
+walk_left None c e = tt
+walk_left (Some d) c e = subst⁻¹ (λ (x : Climb). 0 < x.left) e.0 e.1
+
 module _ (parent depth : List ℕ) (S : Sources parent depth) (w t : ℕ) where
   pub walk_none : (c : Climb) → c.at ≡ t → c.left ≡ get_or depth t 0 → Walk parent depth w t c 0
   unfolding line_of
@@ -49,6 +55,16 @@ module _ (parent depth : List ℕ) (S : Sources parent depth) (w t : ℕ) where
   -- who is in w needs no walk
   pub walk_own : (c : Climb) → c.at ≡ t → c.left ≡ get_or depth t 0 → bits w t ≡ true → Climbed parent depth w t c
   walk_own c e f h = let W = walk_none c e f in record { stops = inr (ap (bits w) e ∙ h); level = W.level; reads = W.reads }
+
+  -- where a walk has ended with nobody left it met nobody; else it met who it stands at
+  pub walk_told : (o : Optional Climb) (c : Climb) → MatchOption o (c.left ≡ 0) (λ d. (d ≡ c) × (0 < c.left)) → Climbed parent depth w t c → Climbed parent depth w t (climb_told o)
+  unfolding nearest line_from
+  walk_told None c e C = record {
+    stops = inl refl;
+    level = get_or-eq_default depth 0 {n = 31} (let k = S.long in omega arith);
+    reads = λ ver base r h. C.reads ver base r h ∙ ap (λ (n : ℕ). nearest ver base r (line_from (bearers_of parent depth) n c.at)) e;
+  }
+  walk_told (Some d) c e C = subst⁻¹ (λ (x : Climb). Climbed parent depth w t x) e.0 C
 
   -- where w is empty, nobody is left
   pub walk_empty : (c : Climb) → w ≡ 0 → c.at ≡ 31 → c.left ≡ 0 → Climbed parent depth w t c

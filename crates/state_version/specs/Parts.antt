@@ -1,5 +1,5 @@
 -- What the functions over versions promise, each over the arrays that it is lent.
-use Rattle.std.specs.Prelude.{◌≡◌, true, false, cond, ◌&&◌, List, ◌⊎◌, ℕ, suc, ◌+◌, ◌*◌, ◌-◌, ◌/◌, ◌%◌, ◌≤◌, get_or, length}
+use Rattle.std.specs.Prelude.{◌≡◌, true, false, cond, ◌&&◌, List, Option, Some, None, ◌⊎◌, ℕ, suc, ◌+◌, ◌*◌, ◌-◌, ◌/◌, ◌%◌, ◌≤◌, get_or, length}
 use Rattle.laws.specs.Tests.{same}
 use Rattle.laws.specs.Functions.{updated}
 use Rattle.laws.specs.Bits.{bits}
@@ -32,6 +32,11 @@ pub record Climbed (parent depth : List ℕ) (w t : ℕ) (c : Climb) : Type 0 wh
   pub level : get_or depth c.at 0 ≡ c.left
   pub reads : (version : Versions) (home : Page) (r : ℕ) → ((j : ℕ) → is_some (version j r) ≡ bits w j)
       → nearest version home r (line_of (bearers_of parent depth) t) ≡ nearest version home r (line_from (bearers_of parent depth) c.left c.at)
+
+-- a walk that met nobody stands at nobody, with nobody left
+abbrev pub climb_told : Option Climb → Climb
+climb_told None = record { at = nobody; left = 0 }
+climb_told (Some c) = c
 
 -- t is a writer of r, and page n of the working buffer becomes p; nothing else changes
 pub record Written (n t r : ℕ) (p : Page) (writers work writers' work' : List ℕ) : Type 0 where

@@ -2,7 +2,7 @@
 // by `at`, the byte of the store where it begins.
 #![tactic(auto)]
 
-ghost use Rattle.std.specs.Prelude.{◌≡◌, cond, ◌+◌, ◌*◌, ◌-◌, ◌<◌, ◌≤◌, length, get_or, set, take, drop};
+ghost use Rattle.std.specs.Prelude.{◌≡◌, cond, ◌+◌, ◌*◌, ◌-◌, ◌<◌, ◌≤◌, length, get_or, set, take, drop, IfSome, MatchOption};
 ghost use Rattle.laws.specs.Functions.{updated};
 ghost use Rattle.rules.specs.Store.{pages_of};
 ghost use Rattle.rules.specs.Editions.{depths};
@@ -10,12 +10,12 @@ ghost use Rattle.leaf_set.specs.Sets.{sets};
 ghost use Rattle.state_array.specs.View.{slot, seen};
 ghost use Rattle.state_array.specs.Changes.{handed, Rows};
 ghost use Rattle.leaf_number.specs.Named.{transaction_of, record_of};
-ghost use Rattle.state_version.specs.Parts.{Sources, Climbing, Climbed, Written, lifted};
+ghost use Rattle.state_version.specs.Parts.{Sources, Climbing, Climbed, Written, climb_told, lifted};
 
 use leaf_number::{RecordNumber, TransactionNumber};
 
 // A walk up from a transaction: where it stands, and how many there are from there up.
-#[derive(Drop)]
+#[derive(Clone, Copy, Debug, PartialEq, Eq)]
 pub struct Climb {
     pub at: u8,
     pub left: u8,
@@ -40,36 +40,46 @@ fn one_up(parent: &[u8; 24], w: u32, c: Climb) -> Climb
     }
 }
 
-// The nearest of t and its ancestors that is in w, with how many there are from it up; `left` is 0 where none of them is in w.
-fn source(parent: &[u8; 24], depth: &[u8; 24], w: u32, t: TransactionNumber) -> Climb
+// A walk that has ended: at somebody, unless nobody is left.
+fn met(c: Climb) -> Option<Climb>
+    ensures { MatchOption result (c.left ≡ 0) (λ d. (d ≡ c) × (0 < c.left)) }
+{
+    if c.left == 0 { None } else { Some(c) }
+}
+
+// The nearest of t and its ancestors that is in w, with how many there are from it up.
+fn source(parent: &[u8; 24], depth: &[u8; 24], w: u32, t: TransactionNumber) -> Option<Climb>
     requires { Sources parent.now depth.now }
-    ensures { Climbed parent.now depth.now w (transaction_of t) result }
+    ensures climbed { Climbed parent.now depth.now w (transaction_of t) (climb_told result) }
+    ensures left { IfSome result (λ c. 0 < c.left) }
 {
     if w == 0 {
-        return Climb { at: 31, left: 0 };
+        return None;
     }
     let start = t.number();
     let mut c = Climb {
         at: start,
         left: depth[t.index()],
     };
+    // As many steps as there are depths; n counts them, and is no index.
     for n in 0..leaf_page::DEPTHS {
         c = one_up(parent, w, c);
     }
-    c
+    met(c)
 }
 
 // The same, without a walk where t itself is in w.
-fn nearest(parent: &[u8; 24], depth: &[u8; 24], w: u32, t: TransactionNumber) -> Climb
+fn nearest(parent: &[u8; 24], depth: &[u8; 24], w: u32, t: TransactionNumber) -> Option<Climb>
     requires { Sources parent.now depth.now }
-    ensures { Climbed parent.now depth.now w (transaction_of t) result }
+    ensures climbed { Climbed parent.now depth.now w (transaction_of t) (climb_told result) }
+    ensures left { IfSome result (λ c. 0 < c.left) }
 {
     let n = t.number();
     if leaf_set::contains(w, n) {
-        return Climb {
+        return met(Climb {
             at: n,
             left: depth[t.index()],
-        };
+        });
     }
     source(parent, depth, w, t)
 }
@@ -101,12 +111,10 @@ pub fn read(
         result ≡ get_or shown o 0 }
 {
     let i = r.index();
-    let c = nearest(parent, depth, writers[i], t);
-    let level = c.left;
-    if level == 0 {
-        return leaf_page::byte_at(store, at, o);
+    match nearest(parent, depth, writers[i], t) {
+        None => leaf_page::byte_at(store, at, o),
+        Some(c) => leaf_page::get_byte(work, slot_of(i, c.left), o),
     }
-    leaf_page::get_byte(work, slot_of(i, level), o)
 }
 
 // Gives t a version of record r, unless it has one: the slot at t's depth takes the page that t sees, and t counts as a writer.
@@ -133,15 +141,13 @@ fn make_version(
     if leaf_set::contains(w, n) {
         return;
     }
-    let c = source(parent, depth, w, t);
-    let left = c.left;
+    let from = source(parent, depth, w, t);
     let to = slot_of(i, depth[t.index()]);
     writers[i] = leaf_set::with(w, n);
-    if left == 0 {
-        leaf_page::bring(work, to, store, at);
-        return;
+    match from {
+        None => leaf_page::bring(work, to, store, at),
+        Some(c) => leaf_page::copy_page(work, slot_of(i, c.left), to),
     }
-    leaf_page::copy_page(work, slot_of(i, left), to);
 }
 
 // t writes a byte of record r, into its own version.
@@ -184,7 +190,8 @@ fn hand_up_row(writers: &mut [u32], work: &mut [u8], t: u8, p: u8, d: u8, r: usi
     }
 }
 
-// The same for each of the n records.
+// The same for each of the n records. (r is a place in `writers` and gives a slot in `work`, so that there is no one array
+// to go over; must-fail version_from_own_slot, "Last record not lifted", changes the bound.)
 pub fn hand_up(writers: &mut [u32], work: &mut [u8], n: usize, t: u8, p: u8, d: u8)
     requires { (t < 24) × (p < 24) × (1 < d) × (d ≤ depths) × (n ≤ 64) × (length writers.old ≡ n) × (length work.old ≡ 512 * n) }
     ensures { let wrote = sets writers.old in

@@ -2,6 +2,7 @@
 pub mod Rules
 pub mod Steps
 pub mod Ends
+pub mod Parameters
 pub mod Parents
 pub mod Reserves
 pub mod Playing

@@ -1,6 +1,6 @@
 -- What is kept of a prepared transaction, in the rules: which records are reserved, whether one is prepared, and for which identity. On atomic pages and on
 -- pages that can tear, where none is ever prepared.
-use mathlib.Core.Path.{◌≡◌, refl, sym, ap, ap₂, ◌∙◌}
+use mathlib.Core.Path.{◌≡◌, refl, sym, ap, ap₂, subst⁻¹, ◌∙◌}
 use mathlib.Core.Bool.{Bool, true, false, not, cond, ◌&&◌}
 use mathlib.Core.List.{List}
 use mathlib.Core.Logic.{◌≢◌}
@@ -48,6 +48,10 @@ prepared_in true g store = refl
 pub pending_in : (tears : Bool) (g : Geometry) (store : List ℕ) (r : ℕ) → (medium_of tears g).pending ((medium_of tears g).from_bytes store) r ≡ pending g (shown_in tears (store_of tears store)) r
 pending_in false g store r = refl
 pending_in true g store r = refl
+
+-- what is prepared is told by the same numbers
+pub reserves_same : (tears : Bool) (g : Geometry) (store : List ℕ) (m m' i i' : ℕ) → Reserves tears g store m i → m' ≡ m → i' ≡ i → Reserves tears g store m' i'
+reserves_same tears g store m m' i i' H p q = subst⁻¹ (λ (a : ℕ). Reserves tears g store a i') p (subst⁻¹ (λ (b : ℕ). Reserves tears g store m b) q H)
 
 module _ (tears : Bool) (g : Geometry) where
   abbrev f : Form

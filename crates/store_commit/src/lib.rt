@@ -17,33 +17,40 @@ ghost use Rattle.leaf_commit_page.specs.Layout.{Known, Layout};
 ghost use Rattle.store_write.specs.Phase.{WritesPhase, PageWritesDone, store_of, stride_of, shown_in};
 ghost use Rattle.store_commit.specs.Phase.{write_if_picked, sweep, copies, top_slot, versions_in, understood_in};
 
-// How many page writes were made, and whether a crash came before all were.
-#[derive(Drop)]
+// How many page writes were made, and whether a crash came before all were. Both cases have the count, and `PageWritesDone` speaks of the two by name: an enum
+// with it in each variant would say no more.
+#[derive(Clone, Copy, Debug, PartialEq, Eq)]
 pub struct Made {
     pub made: u8,
     pub crashed: bool,
 }
 
 // What the store says before a recovery: whether it can be recovered, and the map in force. It can't where the commit page is damaged, or where some page has no
-// good copy. `joint` tells whether transactions can be prepared.
+// good copy; the map that the commit page shows is told then too (`understood_in`), which an Option would not. `joint` tells whether transactions can be prepared.
 pub fn read_map(store: &[u8], n: usize, joint: bool, tears: bool) -> leaf_commit_page::CommitMap
     requires { Known n × (joint ≡ true → n ≡ 16) × (length store.now ≡ stride_of tears * (1 + (n + n))) }
     ensures { ((g : Geometry) → Layout g n → g.joint ≡ joint → result ≡ understood_in tears g (store_of tears store.now)) × (result.map < 2 ^ n) }
 {
     let c = leaf_commit_page::read_page(store_write::get_page(store, tears, 0), n, joint);
     leaf_commit_page::CommitMap {
-        good: !store_write::any_lost(store, tears, 1 + n + n) & c.good,
-        map: c.map,
+        good: !store_write::any_lost(store, tears, 1 + n + n) & c.is_some(),
+        map: c.unwrap_or(0),
     }
 }
 
-// What the commit page says of a prepared transaction. (Where pages tear none can be prepared: `joint` is false.)
+// What the commit page says of a prepared transaction: map 0 and identity 0 where there is none, as `Reserves` of state_whole speaks of the two numbers. (Where
+// pages tear none can be prepared: `joint` is false.)
 pub fn read_held(store: &[u8], n: usize, joint: bool, tears: bool) -> leaf_commit_page::PreparedMap
     requires { Known n × (joint ≡ true → n ≡ 16) × (length store.now ≡ stride_of tears * (1 + (n + n))) }
     ensures { let page = shown_in tears (store_of tears store.now) 0 in
         ((g : Geometry) → Layout g n → g.joint ≡ joint → result ≡ overheard (read_prepared g page)) × (result.map < 2 ^ n) }
 {
-    leaf_commit_page::read_prepared(store_write::get_page(store, tears, 0), n, joint)
+    let none = leaf_commit_page::PreparedMap {
+        map: 0,
+        identity: 0,
+    };
+    let held = leaf_commit_page::read_prepared(store_write::get_page(store, tears, 0), n, joint);
+    held.unwrap_or(none)
 }
 
 // Writes the commit page for `map`, as far as what is left of the cut allows. Returns what remains of it.
@@ -57,7 +64,7 @@ fn mark(store: &mut [u8], map: u64, n: usize, tears: bool, left: u8) -> u8
 }
 
 // The same for a prepared transaction's commit page, which only sixteen records have room for. It is one of atomic pages, as all that follows of a prepare and
-// of a decision.
+// of a decision. Each of the two is one call: they differ in the page, and so in the clause, and one over the page would say nothing that `write_counted` doesn't.
 fn mark_prepared(store: &mut [u8], map: u64, identity: u8, rest: u8) -> u8
     requires { (map < 65536) × (32 ≤ length store.old) }
     ensures { let before = pages_of store.old in
@@ -134,7 +141,9 @@ fn bring_home(store: &mut [u8], map: u64, n: usize, tears: bool, r: u8, left: u8
     left
 }
 
-// Copies the intention pages of the records that the map names to their home pages, by rising record.
+// Copies the intention pages of the records that the map names to their home pages, by rising record. It is no `write_versions` over a closure that gives a
+// record's page: the pages come from the store that the sweep writes, so the closure would take the store, and its contract would have to speak of each store on
+// the way.
 fn bring_all_home(store: &mut [u8], map: u64, n: usize, tears: bool, left: u8) -> u8
     requires { (n ≤ 64) × (length store.old ≡ stride_of tears * (1 + (n + n))) }
     ensures { let before = store_of tears store.old in

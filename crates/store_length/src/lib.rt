@@ -3,7 +3,7 @@
 #![tactic(auto)]
 
 ghost use Rattle.std.specs.Prelude.{◌≡◌, ◌<◌, ◌≤◌};
-ghost use Rattle.store_length.specs.Lengths.{store_bytes, write_bytes, lengths_refused, question_refused, refusal_number};
+ghost use Rattle.store_length.specs.Lengths.{store_bytes, write_bytes, buffers_refused, lengths_refused, question_refused, length_told};
 
 // The events of the longest list.
 const LONGEST: usize = 4096;
@@ -13,6 +13,26 @@ const PAGE_WRITE: usize = 33;
 
 // A copy write: the page's number, the copy's, and the page.
 const COPY_WRITE: usize = 34;
+
+// A buffer that has a wrong length, by the number that goes out for it. `Events` is also a list that is too long.
+#[derive(Clone, Copy, Debug, PartialEq, Eq)]
+pub enum WrongLength {
+    Events = 20,
+    Answers = 21,
+    Store = 22,
+    Work = 24,
+}
+
+impl From<WrongLength> for u8 {
+    ghost use Rattle.std.specs.Prelude.{◌≡◌};
+    ghost use Rattle.store_length.specs.Lengths.{length_number};
+
+    ghost from_gives = { λ r n. n ≡ length_number r };
+
+    fn from(r: WrongLength) -> u8 {
+        r as u8
+    }
+}
 
 // The bytes of a store with so many records: a commit page and two pages for each record, as they are, or each as a pair of copies.
 pub fn store_size(tears: bool, records: usize) -> usize
@@ -26,7 +46,21 @@ pub fn store_size(tears: bool, records: usize) -> usize
     32 * pages
 }
 
-// The refusal before the first event, by the lengths of the buffers; 0 for none.
+// The refusals that a run and a question have in common: the store's length, then the working buffer's.
+fn buffers(tears: bool, records: usize, store: usize, work: usize) -> Result<(), WrongLength>
+    requires { records ≤ 64 }
+    ensures { length_told result ≡ buffers_refused tears records store work }
+{
+    if store != store_size(tears, records) {
+        return Err(WrongLength::Store);
+    }
+    if work != 512 * records {
+        return Err(WrongLength::Work);
+    }
+    Ok(())
+}
+
+// The refusal before the first event, by the lengths of the buffers.
 pub fn refusal(
     tears: bool,
     records: usize,
@@ -35,26 +69,21 @@ pub fn refusal(
     events: usize,
     work: usize,
     answers: usize,
-) -> u8
+) -> Result<(), WrongLength>
     requires { (records ≤ 64) × (0 < word) × (word ≤ 8) }
-    ensures { result ≡ refusal_number (lengths_refused tears records word store events work answers) }
+    ensures { length_told result ≡ lengths_refused tears records word store events work answers }
 {
-    if store != store_size(tears, records) {
-        return 22;
-    }
-    if work != 512 * records {
-        return 24;
-    }
+    buffers(tears, records, store, work)?;
     if events % word != 0 {
-        return 20;
+        return Err(WrongLength::Events);
     }
     if LONGEST * word < events {
-        return 20;
+        return Err(WrongLength::Events);
     }
     if answers < events / word * 2 {
-        return 21;
+        return Err(WrongLength::Answers);
     }
-    0
+    Ok(())
 }
 
 // The bytes of a write: of a page write, or of a copy write where pages tear.
@@ -67,7 +96,7 @@ pub fn write_size(tears: bool) -> usize
     PAGE_WRITE
 }
 
-// The refusal of a question for a write, by the lengths of the buffers; 0 for none.
+// The refusal of a question for a write, by the lengths of the buffers: the number of the events' length for the one event's, and of the answers' for the write's.
 pub fn question(
     tears: bool,
     records: usize,
@@ -76,21 +105,16 @@ pub fn question(
     event: usize,
     working: usize,
     write: usize,
-) -> u8
+) -> Result<(), WrongLength>
     requires { records ≤ 64 }
-    ensures { result ≡ refusal_number (question_refused tears records word stored event working write) }
+    ensures { length_told result ≡ question_refused tears records word stored event working write }
 {
-    if stored != store_size(tears, records) {
-        return 22;
-    }
-    if working != 512 * records {
-        return 24;
-    }
+    buffers(tears, records, stored, working)?;
     if event != word {
-        return 20;
+        return Err(WrongLength::Events);
     }
     if write != write_size(tears) {
-        return 21;
+        return Err(WrongLength::Answers);
     }
-    0
+    Ok(())
 }

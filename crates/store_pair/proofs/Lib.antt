@@ -1,3 +1,4 @@
 -- The crate's laws
 pub mod Copies
 pub mod Shown
+pub mod Ranges

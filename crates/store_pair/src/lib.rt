@@ -26,9 +26,7 @@ fn write_copy(part: &mut [u8], page: [u8; 32])
     requires { length part.old ≡ 33 }
     ensures { part.new ≡ copy_bytes (good page) }
 {
-    let from = 1usize;
-    let end = COPY;
-    leaf_page::write_page(&mut part[from..end], page);
+    leaf_page::write_page(&mut part[1..COPY], page);
     part[0] = GOOD;
 }
 
@@ -54,7 +52,7 @@ fn write_pair(part: &mut [u8], page: [u8; 32])
 }
 
 // A write that is torn, in one of three ways: 1, the first copy is left bad; 2, the first is new and the second left bad; 3, the first is new and the second
-// old. A copy that is left bad keeps its old page.
+// old. A copy that is left bad keeps its old page. The way stays a number: it is what is left of the cut, as `cut_pairs` has it.
 fn tear_pair(part: &mut [u8], page: [u8; 32], way: u8)
     requires { (length part.old ≡ 66) × (0 < way) × (way < 4) }
     ensures { part.new ≡ pair_bytes (torn way page (pair_in part.old)) }
@@ -128,11 +126,7 @@ pub fn any_lost(bytes: &[u8], n: usize) -> bool
     requires { (n < 4096) × (66 * n ≤ length bytes.now) }
     ensures { result ≡ any n (λ p. all_bad (pairs_of bytes.now p)) }
 {
-    let mut lost = false;
-    for p in 0..n {
-        lost = lost | is_lost(bytes, p);
-    }
-    lost
+    (0..n).any(|p| is_lost(bytes, p))
 }
 
 // What page n shows: the page of its first good copy (of its first copy where both are bad).
@@ -170,7 +164,8 @@ fn mend_pair(bytes: &mut [u8], n: usize)
     put_pair(bytes, n, shown);
 }
 
-// All of the store's n pages are mended.
+// All of the store's n pages are mended. By index: once a loop over `chunks_exact_mut` is over, a proof knows the
+// slice's length and not what was written.
 pub fn mend_all(bytes: &mut [u8], n: usize)
     requires { (n < 4096) × (length bytes.old ≡ 66 * n) }
     ensures { pairs_of bytes.new ≡ mended (pairs_of bytes.old) }

@@ -19,11 +19,12 @@ use Rattle.rules.specs.Age.{Age, refused, judged, stamp, age_refusals, age_by, a
 use Rattle.rules.specs.Pairs.{damaged_pairs}
 use Rattle.rules.specs.Editions.{medium_of, form_in}
 use Rattle.store_write.specs.Phase.{store_of, shown_in, lost_in}
-use denote.Enum.Declared.{tag_of}
-use Rattle.leaf_number.specs.contracts.RecordNamed.{the_type}
+use Rattle.std.specs.Prelude.{Some, None, Ok, Err, is_ok}
+use Rattle.std.specs.Option.{ok_or}
+use Rattle.std.specs.Result.{result_ok}
+use Rattle.std.specs.declared.result.Result.{Result}
 use Rattle.leaf_number.specs.Named.{record_named, record_of}
-use Rattle.leaf_number.specs.declared.RecordNamed.{RecordNamed}
-use Rattle.leaf_number.specs.declared.RecordNamed.TheVariants as R
+use Rattle.std.specs.declared.option.Option.{Option}
 use Rattle.leaf_number.specs.declared.RecordNumber.{RecordNumber}
 use Rattle.store_length.specs.Lengths.{store_bytes}
 use Rattle.store_length.proofs.Sizes.{store_size, pages_are}
@@ -31,9 +32,8 @@ use Rattle.leaf_commit_page.specs.Heard.{understood}
 use Rattle.leaf_commit_page.specs.declared.CommitMap.{CommitMap}
 use Rattle.leaf_age.specs.Meaning.{judged_age}
 use Rattle.leaf_age.specs.declared.Judged.{Judged}
-use Rattle.store_record.specs.Ages.{age_in, told_as, age_number, age_left}
-use Rattle.store_record.specs.declared.Told.{Told}
-use Rattle.store_record.specs.declared.Told.TheVariants as T
+use Rattle.store_record.specs.Ages.{age_in, told_as, age_number, age_left, age_refusal}
+use Rattle.store_record.specs.declared.Refusal.{Refusal}
 
 -- damaged where no copy of some page is good, or the commit page that is shown is damaged; the settled values are those that are shown
 damaged_is : (tears : Bool) (g : Geometry) (bs : List ℕ) → (medium_of tears g).damaged ((medium_of tears g).from_bytes bs) ≡ (lost_in tears (page_count g) (store_of tears bs) || damaged g (shown_in tears (store_of tears bs)))
@@ -117,38 +117,43 @@ module _ (tears : Bool) (g : Geometry) (n : ℕ) (many : records g ≡ n) where
 
 -- what the check of a record's number answers
 module _ (m : ℕ) (few : m ≤ 64) where
-  pub named_small : (n : ℕ) (r : RecordNumber) → record_named m n ≡ R.Number r → (under n m ≡ true) × (record_of r ≡ n)
+  pub named_small : (n : ℕ) (r : RecordNumber) → record_named m n ≡ Some r → (under n m ≡ true) × (record_of r ≡ n)
   unfolding record_named record_of
   named_small n r e = go (under n m) refl e
     where
-      go : (b : Bool) → under n m ≡ b → cond b (R.Number (record { 0 = n })) R.NoSuchRecord ≡ R.Number r → (under n m ≡ true) × (min r.0 63 ≡ n)
+      go : (b : Bool) → under n m ≡ b → cond b (Some (record { 0 = n })) None ≡ Some r → (under n m ≡ true) × (min r.0 63 ≡ n)
       go true u q =
-          let s : n ≡ r.0 = ap (λ (x : RecordNamed). elim x [ R.Number y ↦ y.0 | R.NoSuchRecord ↦ n ]) q in
+          let s : n ≡ r.0 = ap (λ (x : Option RecordNumber). elim x [ Some y ↦ y.0 | None ↦ n ]) q in
           let l : n < m = under-lt n m u in
           (u, let k = few in omega arith)
-      go false u q = absurd (false≢true (ap (λ (x : RecordNamed). elim x [ R.Number y ↦ true | R.NoSuchRecord ↦ false ]) q))
+      go false u q = absurd (false≢true (ap (λ (x : Option RecordNumber). elim x [ Some y ↦ true | None ↦ false ]) q))
 
-  pub named_below : (n : ℕ) (r : RecordNumber) → record_named m n ≡ R.Number r → record_of r < m
+  pub named_below : (n : ℕ) (r : RecordNumber) → record_named m n ≡ Some r → record_of r < m
   named_below n r e = let k = named_small n r e in subst⁻¹ (λ (i : ℕ). i < m) k.1 (under-lt n m k.0)
 
-pub named_none : (m n : ℕ) → record_named m n ≡ R.NoSuchRecord → under n m ≡ false
+pub named_none : (m n : ℕ) → record_named m n ≡ None → under n m ≡ false
 unfolding record_named
 named_none m n e = go (under n m) e
   where
-    go : (b : Bool) → cond b (R.Number (record { 0 = n })) R.NoSuchRecord ≡ R.NoSuchRecord → b ≡ false
-    go true q = absurd (true≢false (ap (λ (x : RecordNamed). elim x [ R.Number y ↦ true | R.NoSuchRecord ↦ false ]) q))
+    go : (b : Bool) → cond {A = Option RecordNumber} b (Some (record { 0 = n })) None ≡ None → b ≡ false
+    go true q = absurd (true≢false (ap (λ (x : Option RecordNumber). elim x [ Some y ↦ true | None ↦ false ]) q))
     go false q = refl
 
-pub tag_none : (x : RecordNamed) → tag_of the_type x ≡ 1 → x ≡ R.NoSuchRecord
-tag_none (R.Number y) e = absurd (omega (arith, e))
-tag_none R.NoSuchRecord e = refl
+-- what `ok_or` made an error of, and what not
+pub some_from_ok : {A E : Type 0} (o : Option A) (e : E) {x : A} → ok_or o e ≡ Ok x → o ≡ Some x
+some_from_ok None e q = absurd (true≢false (sym (ap is_ok q)))
+some_from_ok (Some y) e q = ap result_ok q
+
+pub none_from_err : {A E : Type 0} (o : Option A) (e : E) {x : E} → ok_or o e ≡ Err x → (o ≡ None) × (x ≡ e)
+none_from_err None e q = (refl, ap (λ r. elim r [ Ok y ↦ e | Err z ↦ z ]) (sym q))
+none_from_err (Some y) e q = absurd (true≢false (ap is_ok q))
 
 -- the exported answer, by the case of what was told
-pub answered_judged : (a : Age) (old new : ℤ) (t : Told) (j : Judged) (n : ℕ) → t ≡ T.Judged j → told_as t ≡ a
+pub answered_judged : (a : Age) (old new : ℤ) (t : Result Judged Refusal) (j : Judged) (n : ℕ) → t ≡ Ok j → told_as t ≡ a
     → (n ≡ age_number (judged_age j)) × (new ≡ age_left (judged_age j) old) → (n ≡ age_number a) × (new ≡ age_left a old)
 unfolding told_as
 answered_judged a old new t j n e q h = let is : judged_age j ≡ a = rw e at q in rw (← is) h
 
-pub answered_refused : (a : Age) (old : ℤ) (t : Told) (n : ℕ) → t ≡ T.Refused n → told_as t ≡ a → (n ≡ age_number a) × (old ≡ age_left a old)
+pub answered_refused : (a : Age) (old : ℤ) (t : Result Judged Refusal) (r : Refusal) (n : ℕ) → t ≡ Err r → told_as t ≡ a → n ≡ age_refusal r → (n ≡ age_number a) × (old ≡ age_left a old)
 unfolding told_as age_number age_left
-answered_refused a old t n e q = let is : refused n ≡ a = rw e at q in rw (← is) (refl, refl)
+answered_refused a old t r n e q k = let is : refused (age_refusal r) ≡ a = rw e at q in rw (← is) (k, refl)

@@ -1,18 +1,26 @@
 -- What telling the age of a record answers.
-use Rattle.std.specs.Prelude.{ℕ, Bool, cond, List, ℤ, take}
+use Rattle.std.specs.Prelude.{ℕ, Bool, cond, List, ℤ, take, Ok, Err}
+use Rattle.std.specs.declared.result.Result.{Result}
 use Rattle.std.proofs.Math.IntN.{sub_ℕ}
 use Rattle.laws.specs.Bytes.{number}
 use Rattle.rules.specs.Geometry.{Geometry}
 use Rattle.rules.specs.Age.{Age, ahead, live, stale, refused, judged}
 use Rattle.rules.specs.Editions.{medium_of}
 use Rattle.leaf_age.specs.Meaning.{judged_age}
-use Rattle.store_record.specs.declared.Told.{Told}
-use Rattle.store_record.specs.declared.Told.TheVariants as T
+use Rattle.leaf_age.specs.declared.Judged.{Judged}
+use Rattle.store_record.specs.declared.Refusal.{Refusal}
+use Rattle.store_record.specs.declared.Refusal.TheVariants.{Damaged, Length, NoSuchRecord}
+
+-- the numbers of the refusals
+abbrev pub age_refusal : Refusal → ℕ
+age_refusal Damaged = 4
+age_refusal Length = 22
+age_refusal NoSuchRecord = 23
 
 -- the answer as the rules have it
-unfoldable pub told_as : Told → Age
-told_as (T.Judged j) = judged_age j
-told_as (T.Refused n) = refused n
+unfoldable pub told_as : Result Judged Refusal → Age
+told_as (Ok j) = judged_age j
+told_as (Err r) = refused (age_refusal r)
 
 -- The number of each case: 0 live, 1 ahead, 2 stale, or the number of the refusal.
 unfoldable pub age_number : Age → ℕ

@@ -42,24 +42,38 @@ pub fn lay(store: &mut [u8], tears: bool, n: usize)
     }
 }
 
-// Lays down a fresh store of n records: 0, or 22 where it hasn't the size of a store, and then writes nothing.
+// Lays down a fresh store of n records: 0, or 22 where it hasn't the size of a store, and then writes nothing. The answer is a number, since the calls from C hand
+// it on as it is.
 pub fn lay_fresh(store: &mut [u8], tears: bool, n: usize) -> u8
     requires { Known n }
     ensures { let before = store.old in
         ((g : Geometry) → Layout g n → (result ≡ (lay_fresh (form_in tears g) before).answer) × (store.new ≡ (lay_fresh (form_in tears g) before).store)) }
 {
     if store.len() != store_length::store_size(tears, n) {
-        return 22;
+        return u8::from(Refusal::Length);
     }
     lay(store, tears, n);
     0
 }
 
-// What telling an age answers: the judgement, or a refusal's number.
-#[derive(Drop)]
-pub enum Told {
-    Judged(leaf_age::Judged),
-    Refused(u8),
+// Why no age is told: a page has no good copy or the commit page is damaged; the store hasn't the size of a store; there is no such record. Each by the number that
+// goes out for it.
+#[derive(Clone, Copy, Debug, PartialEq, Eq)]
+pub enum Refusal {
+    Damaged = 4,
+    Length = 22,
+    NoSuchRecord = 23,
+}
+
+impl From<Refusal> for u8 {
+    ghost use Rattle.std.specs.Prelude.{◌≡◌};
+    ghost use Rattle.store_record.specs.Ages.{age_refusal};
+
+    ghost from_gives = { λ r n. n ≡ age_refusal r };
+
+    fn from(r: Refusal) -> u8 {
+        r as u8
+    }
 }
 
 // The stamp that a page begins with: four bytes, as an event word of edition 1 has.
@@ -92,19 +106,17 @@ fn age_in(
     r: leaf_number::RecordNumber,
     clock: leaf_age::Reading,
     limit: leaf_age::Limit,
-) -> Told
+) -> Result<leaf_age::Judged, Refusal>
     requires { Known n × (joint ≡ true → n ≡ 16) × (length store.now ≡ store_bytes tears n) × (record_of r < n) }
     ensures { (g : Geometry) → Layout g n → g.joint ≡ joint → told_as result ≡ age_in tears g store.now (record_of r) clock.0 limit.0 }
 {
     if store_write::any_lost(store, tears, 1 + (n + n)) {
-        return Told::Refused(4);
+        return Err(Refusal::Damaged);
     }
     let c = leaf_commit_page::read_page(store_write::get_page(store, tears, 0), n, joint);
-    if c.good {
-        let stamp = leaf_age::Reading::new(stamp_on(store, tears, settled_page(c.map, n, r)));
-        return Told::Judged(clock.since(stamp).judged_by(limit));
-    }
-    Told::Refused(4)
+    let map = c.ok_or(Refusal::Damaged)?;
+    let stamp = leaf_age::Reading::new(stamp_on(store, tears, settled_page(map, n, r)));
+    Ok(clock.since(stamp).judged_by(limit))
 }
 
 // The age of a record, of n: refused with 22, 23 or 4, in this order, or judged.
@@ -116,18 +128,15 @@ pub fn age_of(
     number: u8,
     clock: leaf_age::Reading,
     limit: leaf_age::Limit,
-) -> Told
+) -> Result<leaf_age::Judged, Refusal>
     requires { Known n × (joint ≡ true → n ≡ 16) }
     ensures { (g : Geometry) → Layout g n → g.joint ≡ joint → told_as result ≡ age_of (form_in tears g) store.now number clock.0 limit.0 }
 {
     if store.len() != store_length::store_size(tears, n) {
-        return Told::Refused(22);
+        return Err(Refusal::Length);
     }
-    let named = leaf_number::RecordNumber::checked(number, n as u8);
-    match named {
-        leaf_number::RecordNamed::Number(r) => age_in(store, tears, n, joint, r, clock, limit),
-        leaf_number::RecordNamed::NoSuchRecord => Told::Refused(23),
-    }
+    let r = leaf_number::RecordNumber::checked(number, n as u8).ok_or(Refusal::NoSuchRecord)?;
+    age_in(store, tears, n, joint, r, clock, limit)
 }
 
 // The judgement's number, with its age left at the given place.
@@ -176,7 +185,7 @@ pub fn tell(
         leaf_age::Limit::new(limit),
     );
     match told {
-        Told::Judged(j) => leave(j, age),
-        Told::Refused(m) => m,
+        Ok(judged) => leave(judged, age),
+        Err(refusal) => u8::from(refusal),
     }
 }

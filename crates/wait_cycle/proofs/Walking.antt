@@ -1,15 +1,18 @@
 -- A path grows by one; the part of a path that comes back is a cycle.
 use mathlib.Core.Path.{◌≡◌, refl, sym, ◌∙◌, ap, ap₂, subst, fun_ext}
-use mathlib.Core.Bool.{Bool, true, false, not, cond, ◌||◌, true≢false, false≢true, or-false}
+use mathlib.Core.Bool.{Bool, true, false, not, ◌||◌, true≢false, false≢true, or-false}
 use mathlib.Core.List.{List, [], ◌∷◌, ◌++◌}
 use mathlib.Core.Logic.{dite}
 use Prim.Native.Nat.{ℕ, zero, suc, ◌+◌, ◌-◌, ◌%◌, ◌<◌, ◌≤◌}
 use native.Mathlib.Omega.{arith}
 use native.Mathlib.Numerals.{add-one}
 use native.Mathlib.Decide.{dec_lt}
-use lib.ListN.{length, get_or, take, drop, set, replicate, length-append, length-drop, length-take, length-set, length-replicate, get_or-eq_default}
-use lib.Seq.{drop-cons, get_or-drop, get_or-take, take-suc-set}
+use lib.ListN.{length, get_or, take, drop, set, replicate, length-drop, length-take, length-set}
+use lib.Seq.{drop-cons, get_or-take, take-suc-set}
 use lib.Bits.{bit_and}
+use lib.Dec.{eqb}
+use Rattle.std.specs.List.{position_or_len}
+use Rattle.std.proofs.lemmas.List.Sums.{passes_at_first, fails_before_first}
 use Rattle.laws.specs.Tests.{same, under}
 use Rattle.laws.specs.Counting.{any, count, lowest}
 use Rattle.laws.specs.Bits.{bits}
@@ -189,42 +192,21 @@ unfolding sets
 next_is l m t u e = let q = sym (bits-and (get_or l t 0) m u) ∙ e in (and_left (bits (get_or l t 0) u) _ q, and_right (bits (get_or l t 0) u) _ q)
 
 -- it is not found yet
-pub not_yet : (path : List ℕ) (n t k : ℕ) → mem t (take n path) ≡ true → n ≤ length path → ((j : ℕ) → j < k → get_or path j 0 ≡ t → ⊥) → k ≤ n → k < n
-not_yet path n t k m h none' w =
+-- who is among the first n of a path stands first at one of these places
+pub first_is : (path : List ℕ) (n t : ℕ) → mem t (take n path) ≡ true → n ≤ length path
+    → (position_or_len (λ u. eqb u t) path < n) × (get_or path (position_or_len (λ u. eqb u t) path) 0 ≡ t)
+unfolding same
+first_is path n t m h =
+    let p : ℕ → Bool = λ u. eqb u t in
     let s = stands t (take n path) m in
     let low : s.at < n = omega (arith, s.low, length-take n path) in
-    let here : get_or path s.at 0 ≡ t = sym (get_or-take n path s.at 0 low) ∙ s.is_so in
-    dite (dec_lt k n) (λ l. l) (λ x. absurd (none' s.at (omega arith) here))
-
--- what is shown
-unfoldable pub shown : List ℕ → ℕ → ℕ → ℕ → ℕ
-shown path k n j = cond (under (k + j) n) (get_or path (k + j) 0) 0
-
-padded : (a : List ℕ) (m j : ℕ) → get_or (a ++ replicate m 0) j 0 ≡ get_or a j 0
-padded [] zero j = refl
-padded [] (suc m) zero = refl
-padded [] (suc m) (suc j) = padded [] m j
-padded (x ∷ a) m zero = refl
-padded (x ∷ a) m (suc j) = padded a m j
-
-pub shown_at : (path : List ℕ) (k n j : ℕ) → n ≤ length path → get_or (drop k (take n path) ++ replicate (24 - (n - k)) 0) j 0 ≡ shown path k n j
-unfolding shown
-shown_at path k n j h = padded (drop k (take n path)) (24 - (n - k)) j ∙ get_or-drop k (take n path) j 0 ∙ go (is_cases (under (k + j) n))
-  where
-    go : Is (under (k + j) n) → get_or (take n path) (k + j) 0 ≡ cond (under (k + j) n) (get_or path (k + j) 0) 0
-    go (yes' e) = get_or-take n path (k + j) 0 (under-lt (k + j) n e) ∙ ap (λ (b : Bool). cond b (get_or path (k + j) 0) 0) (sym e)
-    go (no' e) = get_or-eq_default (take n path) 0 (omega (arith, length-take n path, not-under (k + j) n e)) ∙ ap (λ (b : Bool). cond b (get_or path (k + j) 0) 0) (sym e)
-
-pub shown_long : (path : List ℕ) (k n : ℕ) → k < n → n ≤ 24 → length path ≡ 24 → length (drop k (take n path) ++ replicate (24 - (n - k)) 0) ≡ 24
-shown_long path k n l h e =
-    let a = length-append (drop k (take n path)) (replicate (24 - (n - k)) 0) in
-    let b = length-drop k (take n path) in
-    let c = length-take n path in
-    let d = length-replicate {A = ℕ} (24 - (n - k)) 0 in
-    omega arith
+    let here : p (get_or path s.at 0) ≡ true = ap p (sym (get_or-take n path s.at 0 low) ∙ s.is_so) ∙ same_refl t in
+    let first = position_or_len p path in
+    let below : first < n = dite (dec_lt s.at first) (λ l. clash here (fails_before_first p path s.at 0 l)) (λ g. omega arith) in
+    (below, same-eq (get_or path first 0) t (passes_at_first p path 0 (omega arith)))
 
 -- what the walk found
-pub found_cycle : (p : Pointings) (path ring : List ℕ) (n t k : ℕ) → PathReturns p path n t → k < n → get_or path k 0 ≡ t → ring ≡ drop k (take n path) ++ replicate (24 - (n - k)) 0 → Found p ((n - k) % 256) ring
+pub found_cycle : (p : Pointings) (path ring : List ℕ) (n t k : ℕ) → PathReturns p path n t → k < n → get_or path k 0 ≡ t → ring ≡ drop k (take n path) ++ replicate (24 - (n - k)) 0 → Found p (n - k) ring
 found_cycle p path ring n t k w h e q =
     let a : length (take n path) ≡ n = omega (arith, length-take n path, w.long, w.short) in
     let b : length (drop k (take n path)) ≡ n - k = length-drop k (take n path) ∙ ap (λ (m : ℕ). m - k) a in

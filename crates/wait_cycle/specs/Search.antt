@@ -1,5 +1,5 @@
 -- The search for a cycle, as its functions promise it.
-use Rattle.std.specs.Prelude.{◌≡◌, Bool, true, ◌&&◌, List, [], ◌∷◌, ℕ, ◌<◌, ◌≤◌, length, take}
+use Rattle.std.specs.Prelude.{◌≡◌, Bool, true, ◌&&◌, List, [], ◌∷◌, Option, Some, None, ℕ, ◌<◌, ◌≤◌, length, take}
 use Rattle.laws.specs.Counting.{any}
 use Rattle.rules.specs.Geometry.{transactions}
 use Rattle.rules.specs.State.{mem}
@@ -35,3 +35,8 @@ pub record PathReturns (p : Pointings) (path : List ℕ) (n t : ℕ) : Type 0 wh
   pub long : length path ≡ 24
   pub path_to : Path p (take n path) t
   pub again : mem t (take n path) ≡ true
+
+-- the length of the cycle that was found; 0 where there is none
+unfoldable pub length_of : Option ℕ → ℕ
+length_of None = 0
+length_of (Some n) = n

@@ -1,14 +1,13 @@
 // A cycle of pointings between transactions: whether there is one, and which. Who a transaction points to is a set.
 #![tactic(auto)]
 
-ghost use Rattle.std.specs.Prelude.{◌≡◌, true, cond, ℕ, ◌+◌, ◌-◌, ◌<◌, ◌≤◌, ◌++◌, length, get_or, take, drop, replicate};
-ghost use Rattle.laws.specs.Tests.{under};
+ghost use Rattle.std.specs.Prelude.{◌≡◌, true, ℕ, IfSome, position, ◌==◌, ◌+◌, ◌-◌, ◌<◌, ◌≤◌, ◌++◌, length, get_or, take, drop, replicate};
 ghost use Rattle.laws.specs.Counting.{any};
 ghost use Rattle.laws.specs.Bits.{bits};
 ghost use Rattle.rules.specs.State.{mem};
 ghost use Rattle.leaf_set.specs.Sets.{sets};
 ghost use Rattle.rules.specs.Waiting.{Found};
-ghost use Rattle.wait_cycle.specs.Search.{goes_on, Core, PathReturns};
+ghost use Rattle.wait_cycle.specs.Search.{goes_on, Core, PathReturns, length_of};
 
 // t is in m and points into m.
 fn goes_on(points: &[u32; 24], m: u32, t: u8) -> bool
@@ -20,7 +19,7 @@ fn goes_on(points: &[u32; 24], m: u32, t: u8) -> bool
     leaf_set::contains(m, t) & some
 }
 
-// Those of m that point into m.
+// Those of m that point into m. (t is a transaction's number as well as a place, so a fold over the places would need it too.)
 fn kept(points: &[u32; 24], m: u32) -> u32
     requires { length points.now ≡ 24 }
     ensures { bits result ≡ goes_on (sets points.now) (bits m) }
@@ -32,7 +31,7 @@ fn kept(points: &[u32; 24], m: u32) -> u32
     k
 }
 
-// A set that has every cycle, and whose members all point into it: those that don't are left out, again and again.
+// A set that has every cycle, and whose members all point into it: those that don't are left out, again and again, until none is. (No range bounds that.)
 fn core(points: &[u32; 24]) -> u32
     requires { (length points.now ≡ 24) × ((t u : ℕ) → sets points.now t u ≡ true → u < 24) }
     ensures { Core (sets points.now) (bits result) }
@@ -54,7 +53,7 @@ fn first_of(m: u32) -> u8
     u32::trailing_zeros(m) as u8
 }
 
-// A path: transactions, each of which points to the next, and where the last one points to.
+// A path: the first n of these transactions, each of which points to the next, and where the last one points to. (There is no heap for a list that grows.)
 #[derive(Drop)]
 pub struct Trail {
     pub path: [u8; 24],
@@ -80,27 +79,19 @@ fn walk(points: &[u32; 24], core: u32) -> Trail
     Trail { path, n, t }
 }
 
+// Where t stands first on the path.
+fn first_place(path: &[u8; 24], t: u8) -> Option<usize>
+    ensures { result ≡ position (λ u. u == t) path.now }
+{
+    path.iter().position(|&u| u == t)
+}
+
 // Where t stands in the first n of the path.
 fn place_of(path: &[u8; 24], n: usize, t: u8) -> usize
     requires { (n ≤ 24) × (length path.now ≡ 24) × (mem t (take n path.now) ≡ true) }
     ensures { (result < n) × (get_or path.now result 0 ≡ t) }
 {
-    let mut k: usize = 0;
-    while path[k] != t {
-        k = k + 1;
-    }
-    k
-}
-
-// The path at i, and 0 from n on.
-fn at_or_zero(path: &[u8; 24], n: usize, i: usize) -> u8
-    requires { n ≤ 24 }
-    ensures { result ≡ cond (under i n) (get_or path.now i 0) 0 }
-{
-    if i < n {
-        return path[i];
-    }
-    0
+    first_place(path, t).unwrap_or(n)
 }
 
 // The path from k to n, with zeros after.
@@ -108,35 +99,25 @@ fn show(path: &[u8; 24], k: usize, n: usize, ring: &mut [u8; 24])
     requires { (k < n) × (n ≤ 24) × (length path.now ≡ 24) × (length ring.old ≡ 24) }
     ensures { ring.new ≡ drop k (take n path.now) ++ replicate (24 - (n - k)) 0 }
 {
-    for i in 0..24usize {
-        ring[i] = at_or_zero(path, n, k + i);
-    }
+    ring.fill(0);
+    ring[..n - k].copy_from_slice(&path[k..n]);
 }
 
-// Nothing to show.
-fn clear(ring: &mut [u8; 24])
-    requires { length ring.old ≡ 24 }
-    ensures { ring.new ≡ replicate 24 0 }
-{
-    for i in 0..24usize {
-        ring[i] = 0;
-    }
-}
-
-// A cycle: its length, and its transactions with zeros after; zeros alone where there is none.
-pub fn find(points: &[u32; 24], ring: &mut [u8; 24]) -> u8
+// The length of a cycle, and its transactions with zeros after; zeros alone where there is none.
+pub fn find(points: &[u32; 24], ring: &mut [u8; 24]) -> Option<u8>
     requires { (length points.now ≡ 24) × ((t u : ℕ) → sets points.now t u ≡ true → u < 24) × (length ring.old ≡ 24) }
-    ensures { Found (sets points.now) result ring.new }
+    ensures found { Found (sets points.now) (length_of result) ring.new }
+    ensures some { IfSome result (λ n. 0 < n) }
 {
     let m = core(points);
     if m % 16777216 == 0 {
-        clear(ring);
-        return 0;
+        *ring = [0; 24];
+        return None;
     }
     let w = walk(points, m);
     let path = w.path;
     let n = w.n;
     let k = place_of(&path, n, w.t);
     show(&path, k, n, ring);
-    ((n - k) % 256) as u8
+    Some((n - k) as u8)
 }

@@ -21,7 +21,9 @@ use Rattle.state_array.specs.Kin.{lives_in, child_in}
 use Rattle.state_array.specs.View.{Owners}
 use Rattle.state_array.specs.Changes.{Rows}
 use Rattle.rules.specs.Waiting.{WaitingRow}
-use Rattle.wait_graph.specs.Pointing.{child_points, row_of, row_refusal, rows_refusal, pointed_to, row_in, rows_in}
+use Rattle.wait_graph.specs.Pointing.{child_points, row_of, row_refusal, rows_refusal, pointed_to, row_in, rows_in, number_of_refusal}
+use Rattle.wait_graph.specs.declared.RowRefusal.{RowRefusal}
+use Rattle.wait_graph.specs.declared.RowRefusal.TheVariants.{BadMode, NotLive, NoRecord}
 
 -- what the first j that block reach
 abbrev pub reached_to : ℕ → Owners → (ℕ → Bool) → (ℕ → Bool) → ℕ → Bool
@@ -123,3 +125,10 @@ numbers_stop lives words i n m h e k =
 pub numbers_end : (lives : ℕ → Bool) (words : List ℕ) (i n : ℕ) → n ≤ i → rows_refusal lives words i (n - i) ≡ 0
 unfolding rows_refusal
 numbers_end lives words i n h = let a : n - i ≡ 0 = omega arith in ap (rows_refusal lives words i) a
+
+-- no refusal has the number 0
+pub number_some : (r : RowRefusal) → number_of_refusal r ≢ 0
+unfolding number_of_refusal
+number_some BadMode e = absurd (omega arith)
+number_some NotLive e = absurd (omega arith)
+number_some NoRecord e = absurd (omega arith)

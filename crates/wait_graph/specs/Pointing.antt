@@ -1,5 +1,5 @@
 -- Pointings in the engine's arrays: sets of transactions.
-use Rattle.std.specs.Prelude.{Bool, not, cond, ◌&&◌, ◌||◌, List, ℕ, zero, suc, ◌/◌, ◌%◌, ◌<◌, get_or}
+use Rattle.std.specs.Prelude.{Bool, not, cond, ◌&&◌, ◌||◌, List, Result, Ok, Err, ℕ, zero, suc, ◌/◌, ◌%◌, ◌<◌, get_or}
 use Rattle.laws.specs.Tests.{same, under}
 use Rattle.laws.specs.Counting.{any}
 use Rattle.rules.specs.Geometry.{transactions}
@@ -8,6 +8,8 @@ use Rattle.state_array.specs.View.{Owners}
 use Rattle.state_array.specs.Kin.{child_in}
 use Rattle.state_array.specs.Changes.{barring}
 use Rattle.rules.specs.Waiting.{WaitingRow}
+use Rattle.wait_graph.specs.declared.RowRefusal.{RowRefusal}
+use Rattle.wait_graph.specs.declared.RowRefusal.TheVariants.{BadMode, NotLive, NoRecord}
 
 -- a row in a word: transaction, record and mode, a byte each
 abbrev pub row_of : ℕ → WaitingRow
@@ -51,3 +53,14 @@ row_refusal lives w = cond (not (lives w.transaction)) 5 (cond (not (under w.rec
 unfoldable pub rows_refusal : (ℕ → Bool) → List ℕ → ℕ → ℕ → ℕ
 rows_refusal lives words i zero = 0
 rows_refusal lives words i (suc n) = cond (same (row_refusal lives (row_of (get_or words i 0))) 0) (rows_refusal lives words (suc i) n) (row_refusal lives (row_of (get_or words i 0)))
+
+-- the number of a refusal
+unfoldable pub number_of_refusal : RowRefusal → ℕ
+number_of_refusal BadMode = 1
+number_of_refusal NotLive = 5
+number_of_refusal NoRecord = 23
+
+-- what a check of rows answers: 0 where they are taken
+unfoldable pub refused_with : Result (Unit {0}) RowRefusal → ℕ
+refused_with (Ok u) = 0
+refused_with (Err r) = number_of_refusal r

@@ -1,13 +1,13 @@
 // Who waits for whom, as sets: each transaction points to those that block it, to their ancestors that aren't its own, and to its children.
 #![tactic(auto)]
 
-ghost use Rattle.std.specs.Prelude.{◌≡◌, not, ◌&&◌, ◌||◌, ℕ, ◌/◌, ◌%◌, ◌<◌, ◌≤◌, length, get_or};
+ghost use Rattle.std.specs.Prelude.{◌≡◌, not, ◌&&◌, ◌||◌, ℕ, ◌/◌, ◌%◌, ◌<◌, length, get_or, IfOk};
 ghost use Rattle.laws.specs.Tests.{same};
 ghost use Rattle.laws.specs.Bits.{bits};
 ghost use Rattle.leaf_set.specs.Sets.{sets};
 ghost use Rattle.state_array.specs.Changes.{access_when, Rows};
 ghost use Rattle.state_array.specs.Kin.{lives_in};
-ghost use Rattle.wait_graph.specs.Pointing.{child_points, row_of, row_refusal, rows_refusal, pointed_to, waited_on, row_in, rows_in, RowInRange};
+ghost use Rattle.wait_graph.specs.Pointing.{child_points, row_of, row_refusal, rows_refusal, pointed_to, waited_on, row_in, rows_in, RowInRange, number_of_refusal, refused_with};
 
 // Who blocks t: who holds the lock and isn't t, who retains it and isn't above t.
 fn blockers(held: u32, retained: u32, above: u32, t: u8) -> u32
@@ -33,14 +33,14 @@ fn reach(line: &[u32; 24], by: u32, above: u32) -> u32
     ensures { bits result ≡ pointed_to (sets line.now) (bits above) (bits by) }
 {
     let mut m = 0u32;
-    for b in 0..24u8 {
-        let blocking = leaf_set::contains(by, b);
-        m = reach_one(m, blocking, line[b as usize], above, b);
+    for (b, &own) in line.iter().enumerate() {
+        let blocking = leaf_set::contains(by, b as u8);
+        m = reach_one(m, blocking, own, above, b as u8);
     }
     m
 }
 
-// Those that t points to while it waits for record r.
+// Those that t points to while it waits for record r. (`reading` is a bool for the reason that state_lock gives at `barring_place`.)
 fn awaited(
     line: &[u32; 24],
     held: &[u32; 32],
@@ -79,65 +79,79 @@ fn to_children(parent: &[u8; 24], depth: &[u8; 24]) -> [u32; 24]
 {
     let children = state_tree::children_of(parent, depth);
     let mut points = [0u32; 24];
-    for t in 0..24usize {
-        points[t] = children[t];
-    }
+    points.copy_from_slice(&children[..24]);
     points
 }
 
-// Who each transaction points to: its children, and for each of the first n rows those that its waiter waits for.
+// Who each transaction points to: its children, and for each row those that its waiter waits for.
 pub fn pointings(
     parent: &[u8; 24],
     depth: &[u8; 24],
     line: &[u32; 24],
     held: &[u32; 32],
     retained: &[u32; 32],
-    words: &[u32; 24],
-    n: usize,
+    words: &[u32],
 ) -> [u32; 24]
-    requires { (length parent.now ≡ 24) × (length depth.now ≡ 24) × ((u : ℕ) → get_or parent.now u 0 < 32) × (n ≤ 24)
-        × (length words.now ≡ 24) × ((i : ℕ) → i < n → RowInRange (row_of (get_or words.now i 0))) }
+    requires { (length parent.now ≡ 24) × (length depth.now ≡ 24) × ((u : ℕ) → get_or parent.now u 0 < 32)
+        × ((i : ℕ) → i < length words.now → RowInRange (row_of (get_or words.now i 0))) }
     ensures { let children = child_points parent.now depth.now in
-        Rows 24 (rows_in children (sets line.now) (sets held.now) (sets retained.now) words.now n) result }
+        Rows 24 (rows_in children (sets line.now) (sets held.now) (sets retained.now) words.now (length words.now)) result }
 {
     let mut points = to_children(parent, depth);
-    for i in 0..n {
-        point(&mut points, line, held, retained, words[i]);
+    for &w in words {
+        point(&mut points, line, held, retained, w);
     }
     points
 }
 
-// A row's refusal: 5 for a dead transaction, 23 for a bad record, 1 for a bad mode; else 0.
-fn row_number(depth: &[u8; 24], w: u32) -> u8
+// Why a row is refused, with the number that the report answers: its mode is bad, its transaction isn't live, there is no such record.
+#[derive(Clone, Copy, Debug, PartialEq, Eq)]
+pub enum RowRefusal {
+    BadMode = 1,
+    NotLive = 5,
+    NoRecord = 23,
+}
+
+impl RowRefusal {
+    // The number that the report answers.
+    #[tactic(auto, unfolding(crate::specs::Pointing::number_of_refusal))]
+    pub fn number(self) -> u8
+        ensures { result ≡ number_of_refusal self }
+    {
+        self as u8
+    }
+}
+
+// A row is refused if its transaction is dead, its record bad or its mode bad, in this order.
+fn check_row(depth: &[u8; 24], w: u32) -> Result<(), RowRefusal>
     requires { length depth.now ≡ 24 }
-    ensures { (result ≡ row_refusal (lives_in depth.now) (row_of w)) × (result ≡ 0 → RowInRange (row_of w)) }
+    ensures refusal { refused_with result ≡ row_refusal (lives_in depth.now) (row_of w) }
+    ensures in_range { IfOk result (λ _. RowInRange (row_of w)) }
 {
     let t = (w / 65536) as usize;
     if 24 <= t {
-        return 5;
+        return Err(RowRefusal::NotLive);
     }
     if depth[t] == 0 {
-        return 5;
+        return Err(RowRefusal::NotLive);
     }
     if 15 < w / 256 % 256 {
-        return 23;
+        return Err(RowRefusal::NoRecord);
     }
     if 1 < w % 256 {
-        return 1;
+        return Err(RowRefusal::BadMode);
     }
-    0
+    Ok(())
 }
 
-// The refusal of the first row that has one, or 0.
-pub fn rows_number(depth: &[u8; 24], words: &[u32; 24], n: usize) -> u8
-    requires { (length depth.now ≡ 24) × (n ≤ 24) × (length words.now ≡ 24) }
-    ensures { (result ≡ rows_refusal (lives_in depth.now) words.now 0 n) × (result ≡ 0 → (i : ℕ) → i < n → RowInRange (row_of (get_or words.now i 0))) }
+// Rows are refused as the first of them that is.
+pub fn check_rows(depth: &[u8; 24], words: &[u32]) -> Result<(), RowRefusal>
+    requires { length depth.now ≡ 24 }
+    ensures refusal { refused_with result ≡ rows_refusal (lives_in depth.now) words.now 0 (length words.now) }
+    ensures in_range { IfOk result (λ _. (i : ℕ) → i < length words.now → RowInRange (row_of (get_or words.now i 0))) }
 {
-    for i in 0..n {
-        let m = row_number(depth, words[i]);
-        if m != 0 {
-            return m;
-        }
+    for &w in words {
+        check_row(depth, w)?;
     }
-    0
+    Ok(())
 }

@@ -28,18 +28,23 @@ sixteen : records edition1.geometry ≡ 16
 unfolding records
 sixteen = refl
 
-module _ (x : Arrays) (I : Intact edition1 x) (words : List ℕ) (n : ℕ) (k : n ≤ length words) where
-  pub numbers_are : rows_refusal (lives_in x.depth) words 0 n ≡ refusal_number (first_of (rows_refusals edition1 (view edition1 x) (map row_of (take n words))))
-  unfolding view line_in
-  numbers_are = standing.numbers_are {f = edition1} (view edition1 x) x.parent x.depth x.line x.held x.retained refl refl refl I.form.lines I.form.held_nested I.form.retained_nested I.sound sixteen words n k
+module _ (x : Arrays) (I : Intact edition1 x) (words : List ℕ) where
+  whole : take (length words) words ≡ words
+  whole = take_all (length words) words (omega arith)
 
-  pub points_are : rows_in (child_points x.parent x.depth) (sets x.line) (sets x.held) (sets x.retained) words n ≡ points_to (view edition1 x) (map row_of (take n words))
+  pub numbers_are : rows_refusal (lives_in x.depth) words 0 (length words) ≡ refusal_number (first_of (rows_refusals edition1 (view edition1 x) (map row_of words)))
   unfolding view line_in
-  points_are = standing.points_are {f = edition1} (view edition1 x) x.parent x.depth x.line x.held x.retained refl refl refl I.form.lines I.form.held_nested I.form.retained_nested I.sound words n k
+  numbers_are = standing.numbers_are {f = edition1} (view edition1 x) x.parent x.depth x.line x.held x.retained refl refl refl I.form.lines I.form.held_nested I.form.retained_nested I.sound sixteen words (length words) (omega arith)
+      ∙ ap (λ (l : List ℕ). refusal_number (first_of (rows_refusals edition1 (view edition1 x) (map row_of l)))) whole
 
-  pub points_small : (t u : ℕ) → rows_in (child_points x.parent x.depth) (sets x.line) (sets x.held) (sets x.retained) words n t u ≡ true → u < 24
+  pub points_are : rows_in (child_points x.parent x.depth) (sets x.line) (sets x.held) (sets x.retained) words (length words) ≡ points_to (view edition1 x) (map row_of words)
   unfolding view line_in
-  points_small t u e = standing.points_small {f = edition1} (view edition1 x) x.parent x.depth x.line x.held x.retained refl refl refl I.form.lines I.form.held_nested I.form.retained_nested I.sound words n t u e
+  points_are = standing.points_are {f = edition1} (view edition1 x) x.parent x.depth x.line x.held x.retained refl refl refl I.form.lines I.form.held_nested I.form.retained_nested I.sound words (length words) (omega arith)
+      ∙ ap (λ (l : List ℕ). points_to (view edition1 x) (map row_of l)) whole
+
+  pub points_small : (t u : ℕ) → rows_in (child_points x.parent x.depth) (sets x.line) (sets x.held) (sets x.retained) words (length words) t u ≡ true → u < 24
+  unfolding view line_in
+  points_small t u e = standing.points_small {f = edition1} (view edition1 x) x.parent x.depth x.line x.held x.retained refl refl refl I.form.lines I.form.held_nested I.form.retained_nested I.sound words (length words) t u e
 
 -- a row is told from its word
 row_told : (r : Row) → Small r → row_of (word_of r) ≡ waiting_row r

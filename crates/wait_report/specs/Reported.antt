@@ -1,5 +1,5 @@
 -- The report on transactions that wait for each other (document 02, L8): what it promises of any bytes that come in.
-use Rattle.std.specs.Prelude.{◌≡◌, Bool, true, false, List, map, ◌≢◌, ℕ, ◌<◌, ◌≤◌, take, replicate}
+use Rattle.std.specs.Prelude.{◌≡◌, Bool, true, false, List, map, Result, Ok, Err, ◌≢◌, ℕ, ◌<◌, ◌≤◌, take, replicate}
 use Rattle.rules.specs.Step.{first_of}
 use Rattle.rules.specs.Editions.{edition1, work_bytes}
 use Rattle.rules.specs.Waiting.{WaitingRow, most_rows, points_to, Found, rows_refusals, report_refusals}
@@ -10,7 +10,9 @@ use Rattle.engine_portion.specs.declared.Engine.{Engine}
 use Rattle.store_length.specs.Lengths.{refusal_number}
 use Rattle.wait_row.specs.declared.Row.{Row}
 use Rattle.wait_row.specs.declared.Rows.{Rows}
-use Rattle.wait_graph.specs.Pointing.{row_of}
+use Rattle.wait_graph.specs.Pointing.{row_of, number_of_refusal}
+use Rattle.wait_report.specs.declared.ReportRefusal.{ReportRefusal}
+use Rattle.wait_report.specs.declared.ReportRefusal.TheVariants.{TooManyRows, Row as BadRow}
 use Rattle.wait_report.specs.declared.Ring.{Ring}
 
 -- what is lent as a state, store aside: over a fresh store, and a blank working buffer
@@ -53,3 +55,17 @@ pub record ReportedCopied (e : Engine) (list : Rows) (ring : Ring) (answer : ℕ
   pub refused : sound ≡ false → answer ≡ 25
   pub judged : sound ≡ true → ReportedSound e list ring answer ring'
   pub untouched : answer ≢ 0 → ring' ≡ ring
+
+-- the number of a refusal
+abbrev pub refusal_told : ReportRefusal → ℕ
+refusal_told TooManyRows = 26
+refusal_told (BadRow r) = number_of_refusal r
+
+-- what is answered, and what the ring is then: a refusal leaves it as it was
+abbrev pub number_told : Result Ring ReportRefusal → ℕ
+number_told (Ok ring) = 0
+number_told (Err r) = refusal_told r
+
+abbrev pub ring_told : Ring → Result Ring ReportRefusal → Ring
+ring_told ring (Ok shown) = shown
+ring_told ring (Err r) = ring

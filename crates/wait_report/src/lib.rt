@@ -6,9 +6,11 @@ ghost use Rattle.rules.specs.Editions.{edition1};
 ghost use Rattle.rules.specs.Waiting.{Found};
 ghost use Rattle.leaf_set.specs.Sets.{sets};
 ghost use Rattle.state_whole.specs.Whole.{Intact};
-ghost use Rattle.wait_report.specs.Reported.{aside, ReportedSound};
+ghost use Rattle.wait_report.specs.declared.Ring.{Ring};
+ghost use Rattle.wait_report.specs.Reported.{aside, ReportedSound, refusal_told, number_told, ring_told};
 
 use engine_portion::Engine;
+use wait_graph::RowRefusal;
 use wait_row::Rows;
 
 // A cycle of transactions that point to each other: its length, 0 where there is none, and the transactions in order, with zeros after.
@@ -19,7 +21,7 @@ pub struct Ring {
     pub transactions: [u8; 24],
 }
 
-// A report's answer, and what is shown.
+// A report's answer, and what is shown: a refused one shows what was there, since nekahuiro_waiting answers a number and leaves a ring (`Reported` is of both).
 #[derive(Drop)]
 pub struct Report {
     pub ring: Ring,
@@ -33,28 +35,46 @@ pub fn refused(ring: Ring, n: u8) -> Report
     Report { ring, number: n }
 }
 
-// A cycle of these pointings, or none.
-fn show_cycle(points: &[u32; 24]) -> Report
-    requires { (length points.now ≡ 24) × ((t u : ℕ) → sets points.now t u ≡ true → u < 24) }
-    ensures { (result.number ≡ 0) × Found (sets points.now) result.ring.length result.ring.transactions }
-{
-    let mut transactions = [0u8; 24];
-    let length = wait_cycle::find(points, &mut transactions);
-    let ring = Ring {
-        length,
-        transactions,
-    };
-    Report { ring, number: 0 }
+// Why a report on a sound state is refused: there are too many rows, or a row is refused.
+#[derive(Clone, Copy, Debug, PartialEq, Eq)]
+enum ReportRefusal {
+    TooManyRows,
+    Row(RowRefusal),
 }
 
-// The report on a sound state.
-pub fn report_sound(e: Engine, list: Rows, ring: Ring) -> Report
+impl ReportRefusal {
+    // The number that the report answers.
+    fn number(self) -> u8
+        ensures { result ≡ refusal_told self }
+    {
+        match self {
+            ReportRefusal::TooManyRows => 26,
+            ReportRefusal::Row(refusal) => refusal.number(),
+        }
+    }
+}
+
+// A cycle of these pointings, or none.
+fn show_cycle(points: &[u32; 24]) -> Ring
+    requires { (length points.now ≡ 24) × ((t u : ℕ) → sets points.now t u ≡ true → u < 24) }
+    ensures { Found (sets points.now) result.length result.transactions }
+{
+    let mut transactions = [0u8; 24];
+    let length = wait_cycle::find(points, &mut transactions).unwrap_or(0);
+    Ring {
+        length,
+        transactions,
+    }
+}
+
+// What is shown on a sound state.
+fn ring_of(e: Engine, list: Rows) -> Result<Ring, ReportRefusal>
     requires { Intact edition1 (aside e) }
-    ensures { ReportedSound e list ring result.number result.ring }
+    ensures { (ring : Ring) → ReportedSound e list ring (number_told result) (ring_told ring result) }
 {
     let n = list.count;
     if 24 < n {
-        return refused(ring, 26);
+        return Err(ReportRefusal::TooManyRows);
     }
     let parent = e.parent;
     let depth = e.depth;
@@ -62,10 +82,26 @@ pub fn report_sound(e: Engine, list: Rows, ring: Ring) -> Report
     let held = e.held;
     let retained = e.retained;
     let words = list.words;
-    let m = wait_graph::rows_number(&depth, &words, n);
-    if m != 0 {
-        return refused(ring, m);
+    let rows = &words[..n];
+    match wait_graph::check_rows(&depth, rows) {
+        Err(refusal) => Err(ReportRefusal::Row(refusal)),
+        Ok(()) => {
+            let points = wait_graph::pointings(&parent, &depth, &line, &held, &retained, rows);
+            Ok(show_cycle(&points))
+        }
     }
-    let points = wait_graph::pointings(&parent, &depth, &line, &held, &retained, &words, n);
-    show_cycle(&points)
+}
+
+// The report on a sound state.
+pub fn report_sound(e: Engine, list: Rows, ring: Ring) -> Report
+    requires { Intact edition1 (aside e) }
+    ensures { ReportedSound e list ring result.number result.ring }
+{
+    match ring_of(e, list) {
+        Ok(shown) => Report {
+            ring: shown,
+            number: 0,
+        },
+        Err(refusal) => refused(ring, refusal.number()),
+    }
 }

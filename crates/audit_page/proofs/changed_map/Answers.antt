@@ -23,18 +23,18 @@ pub grown-map-requires : goal.grown-map-requires
 grown-map-requires c =
     let o = c.loop-r in
     let a = c.args in
-    let l = ledger_of (tables a.owner.now a.parent.now a.fate.now [] 0 true) a.events.now a.n in
-    let e = o.invariant.1 l (linked a.owner.now a.parent.now a.fate.now [] a.events.now 0 a.n true) in
-    let k = map_room o.r (λ q. writes_to (λ i. same (stands_with l.story i) a.me) q (writes_up_to a.owner.now a.events.now a.n)) (omega arith) in
+    let l = ledger_of (tables a.view.owner.now a.view.links.now.parent a.view.links.now.fate [] 0 true) a.view.list.events.now a.view.list.n in
+    let e = o.invariant.1 l (linked a.view.owner.now a.view.links.now.parent a.view.links.now.fate [] a.view.list.events.now 0 a.view.list.n true) in
+    let k = map_room o.r (λ q. writes_to (λ i. same (stands_with l.story i) a.view.me) q (writes_up_to a.view.owner.now a.view.list.events.now a.view.list.n)) (omega arith) in
     omega (arith, e, k)
 
 pub loop-r-preserved : goal.loop-r-preserved
 loop-r-preserved c =
     let o = c.loop-r in
     let a = c.args in
-    (omega arith, λ l K. c.grown-map.ensures ∙ ap₂ (λ (x : ℕ) (b : Bool). x * 2 + cond b 1 0) (o.invariant.1 l K) (c.changes.ensures l K) ∙ map_next o.r (λ q. writes_to (λ i. same (stands_with l.story i) a.me) q (writes_up_to a.owner.now a.events.now a.n)))
+    (omega arith, λ l K. c.grown-map.ensures ∙ ap₂ (λ (x : ℕ) (b : Bool). x * 2 + cond b 1 0) (o.invariant.1 l K) (c.changes.ensures l K) ∙ map_next o.r (λ q. writes_to (λ i. same (stands_with l.story i) a.view.me) q (writes_up_to a.view.owner.now a.view.list.events.now a.view.list.n)))
 
 pub returns : goal.returns
 unfolding map_of open_geometry
 returns c =
-    (λ l K. let o = c.loop-r in let a = c.args in let q : o.r ≡ 16 = omega arith in o.invariant.1 l K ∙ ap (λ (m : ℕ). bits_from m (λ q. writes_to (λ i. same (stands_with l.story i) a.me) q (writes_up_to a.owner.now a.events.now a.n))) q, let o = c.loop-r in let a = c.args in let l = ledger_of (tables a.owner.now a.parent.now a.fate.now [] 0 true) a.events.now a.n in let q : o.r ≡ 16 = omega arith in let p : ℕ → Bool = λ q. writes_to (λ i. same (stands_with l.story i) a.me) q (writes_up_to a.owner.now a.events.now a.n) in subst⁻¹ (λ (m : ℕ). m < 65536) (o.invariant.1 l (linked a.owner.now a.parent.now a.fate.now [] a.events.now 0 a.n true) ∙ ap (λ (m : ℕ). bits_from m p) q) (bits-lt 16 p))
+    (λ l K. let o = c.loop-r in let a = c.args in let q : o.r ≡ 16 = omega arith in o.invariant.1 l K ∙ ap (λ (m : ℕ). bits_from m (λ q. writes_to (λ i. same (stands_with l.story i) a.view.me) q (writes_up_to a.view.owner.now a.view.list.events.now a.view.list.n))) q, let o = c.loop-r in let a = c.args in let l = ledger_of (tables a.view.owner.now a.view.links.now.parent a.view.links.now.fate [] 0 true) a.view.list.events.now a.view.list.n in let q : o.r ≡ 16 = omega arith in let p : ℕ → Bool = λ q. writes_to (λ i. same (stands_with l.story i) a.view.me) q (writes_up_to a.view.owner.now a.view.list.events.now a.view.list.n) in subst⁻¹ (λ (m : ℕ). m < 65536) (o.invariant.1 l (linked a.view.owner.now a.view.links.now.parent a.view.links.now.fate [] a.view.list.events.now 0 a.view.list.n true) ∙ ap (λ (m : ℕ). bits_from m p) q) (bits-lt 16 p))

@@ -11,4 +11,4 @@ use Rattle.audit_page.proofs.changed_map.Given as goal
 
 abbrev pub invariant-loop-r : goal.invariant-loop-r
 invariant-loop-r v =
-    (v.r ≤ 16) × ((l : Ledger) → Linked l v.parent v.fate → v.map ≡ bits_from v.r (λ q. writes_to (λ i. same (stands_with l.story i) v.me) q (writes_up_to v.owner v.events v.n)))
+    (v.r ≤ 16) × ((l : Ledger) → Linked l v.view.links.now.parent v.view.links.now.fate → v.map ≡ bits_from v.r (λ q. writes_to (λ i. same (stands_with l.story i) v.view.me) q (writes_up_to v.view.owner.now v.view.list.events.now v.view.list.n)))

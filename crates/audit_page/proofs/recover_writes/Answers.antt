@@ -15,9 +15,11 @@ use Rattle.store_commit.specs.Phase.{sweep}
 use Rattle.store_write.proofs.Phases.{phase_none, as_spent, phase_page}
 use Rattle.store_commit.proofs.Sweeps.{kept-none, kept_then, kept_row, home_more}
 use Rattle.store_commit.proofs.Plans.{recover_none, recover_leaves, by_recovery}
+use Rattle.audit_page.specs.Changed.{made_in, is_cut}
 use Rattle.audit_page.proofs.recover_writes.Goals as goal
 
 pub returns-then-map-eq0 : goal.returns-then-map-eq0
+unfolding made_in is_cut
 returns-then-map-eq0 c =
     let a = c.args in
     by_recovery false geometry1 a.store.now a.store.now a.k 0 _ (recover_none geometry1 16 layout1.many false a.map a.k (pages_of a.store.now) c.requires.1 refl c.if-map-eq0.true)
@@ -43,4 +45,4 @@ returns c =
     let commit_page = c.commit_page in
     let a = c.args in
     let e : loop.r ≡ 16 = omega arith in
-    by_recovery false geometry1 a.store.now c.write_one-d.new.store a.k _ _ (as_spent loop.rest (recover_leaves geometry1 16 layout1.many false a.map a.k (pages_of a.store.now) c.requires.1 refl if1.false (rw e at loop.invariant.3) (phase_page (commit_page.ensures geometry1 layout1) c.write_one-d.ensures)))
+    rw (c.counted.ensures.0, c.counted.ensures.1) (by_recovery false geometry1 a.store.now c.write_one-d.new.store a.k _ _ (as_spent loop.rest (recover_leaves geometry1 16 layout1.many false a.map a.k (pages_of a.store.now) c.requires.1 refl if1.false (rw e at loop.invariant.3) (phase_page (commit_page.ensures geometry1 layout1) c.write_one-d.ensures))))

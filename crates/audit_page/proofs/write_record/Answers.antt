@@ -27,8 +27,8 @@ returns-then-names-left c =
     let if1 = c.if-names-left in
     let settled_page_lem = c.settled_page in
     let page_of = c.page_of-seen in
-    λ l K. let a = c.args in row_written (named geometry1 a.map) a.first (changed_page l a.start.now a.owner.now a.events.now a.n a.me) a.r a.left _ (sym (names.ensures geometry1 layout1.many)) if1.true (c.put_page.ensures ∙ ap (λ (p : Page). updated (a.first + a.r) p (pages_of a.store.now)) (page_of.ensures l K ∙ ap (overlaid (shows_to l a.me) a.r (writes_up_to a.owner.now a.events.now a.n)) settled_page_lem.ensures))
+    λ l K. let a = c.args in row_written (named geometry1 a.map) a.first (changed_page l a.start.now a.view.owner.now a.view.list.events.now a.view.list.n a.view.me) a.r a.left _ (sym (names.ensures geometry1 layout1.many)) if1.true (c.put_page.ensures ∙ ap (λ (p : Page). updated (a.first + a.r) p (pages_of a.store.now)) (page_of.ensures l K ∙ ap (overlaid (shows_to l a.view.me) a.r (writes_up_to a.view.owner.now a.view.list.events.now a.view.list.n)) settled_page_lem.ensures))
 
 pub returns : goal.returns
 returns c =
-    λ l K. let a = c.args in row_left (named geometry1 a.map) a.first (changed_page l a.start.now a.owner.now a.events.now a.n a.me) a.r a.left _ (sym (c.names.ensures geometry1 layout1.many)) c.if-names-left.false
+    λ l K. let a = c.args in row_left (named geometry1 a.map) a.first (changed_page l a.start.now a.view.owner.now a.view.list.events.now a.view.list.n a.view.me) a.r a.left _ (sym (c.names.ensures geometry1 layout1.many)) c.if-names-left.false

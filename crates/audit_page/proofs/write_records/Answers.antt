@@ -19,7 +19,7 @@ pub loop-r-preserved : goal.loop-r-preserved
 loop-r-preserved c =
     let a = c.args in
     let at = c.loop-r in
-    (omega arith, search rules, λ l K. phase_more (named geometry1 a.map) (copies a.first (changed_page l a.start.now a.owner.now a.events.now a.n a.me)) at.r (at.invariant.2 l K) (c.write_record-rest.ensures l K))
+    (omega arith, search rules, λ l K. phase_more (named geometry1 a.map) (copies a.first (changed_page l a.start.now a.view.owner.now a.view.list.events.now a.view.list.n a.view.me)) at.r (at.invariant.2 l K) (c.write_record-rest.ensures l K))
 
 pub returns : goal.returns
 returns c = let e : c.loop-r.r ≡ 16 = omega arith in λ l K. rw e at (c.loop-r.invariant.2 l K)

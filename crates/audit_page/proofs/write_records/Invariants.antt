@@ -14,4 +14,4 @@ use Rattle.audit_page.proofs.write_records.Given as goal
 
 abbrev pub invariant-loop-r : goal.invariant-loop-r
 invariant-loop-r v =
-    (v.r ≤ 16) × (length v.store ≡ 1056) × ((l : Ledger) → Linked l v.parent v.fate → WritesPhase false v.left (sweep (named geometry1 v.map) (copies v.first (changed_page l v.start v.owner v.events v.n v.me)) v.r) (pages_of v.initial.store) (pages_of v.store) v.rest)
+    (v.r ≤ 16) × (length v.store ≡ 1056) × ((l : Ledger) → Linked l v.view.links.now.parent v.view.links.now.fate → WritesPhase false v.left (sweep (named geometry1 v.map) (copies v.first (changed_page l v.start v.view.owner.now v.view.list.events.now v.view.list.n v.view.me)) v.r) (pages_of v.initial.store) (pages_of v.store) v.rest)

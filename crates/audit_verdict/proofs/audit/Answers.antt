@@ -1,79 +1,29 @@
--- A refusal; else the first event that the walk stops at; else the first page that differs; else all is right.
-use mathlib.Core.Path.{◌≡◌, refl}
-use native.Mathlib.Omega.{arith}
+-- The verdict by its number and its place.
+use mathlib.Core.Path.{refl, sym}
 use Rattle.audit_rules.specs.Audit.{belongs, wrong_event, wrong_page, refuses}
-use Rattle.audit_verdict.specs.Codes.{number_in, place_in}
-use Rattle.audit_verdict.proofs.Ending.{verdict_refused, verdict_event, verdict_page, verdict_belongs, told}
-use borrow.Author.Rules.{rules}
+use Rattle.audit_verdict.specs.Codes.{number_in, place_in, audit_refusal, verdict_in}
+use Rattle.audit_verdict.proofs.Ending.{told}
 use Rattle.audit_verdict.proofs.audit.Goals as goal
 
-pub returns-then-refused-ne0 : goal.returns-then-refused-ne0
-unfolding number_in place_in
-returns-then-refused-ne0 c =
-    let a = c.args in
-    told _ (refuses c.refusal-refused.result) _ _ a.place.now (verdict_refused a.start.now a.events.now a.answers.now a.end.now c.refusal-refused.result c.if-refused-ne0.true c.refusal-refused.ensures.0) refl refl
+pub returns-in-Ok-Belongs : goal.returns-in-Ok-Belongs
+unfolding number_in place_in verdict_in
+returns-in-Ok-Belongs c =
+    let i = c.in-Ok-Belongs in
+    told _ belongs _ _ c.args.place.now (sym (rw i.field-0-is at i.ensures)) refl refl
 
-pub copied-store-requires : goal.copied-store-requires
-copied-store-requires c =
-    let a = c.args in
-    let z : c.refusal-refused.result ≡ 0 = omega arith in
-    let F = c.refusal-refused.ensures.1 z in
-    F.starts
+pub returns-in-Ok-WrongEvent : goal.returns-in-Ok-WrongEvent
+unfolding number_in place_in verdict_in
+returns-in-Ok-WrongEvent c =
+    let i = c.in-Ok-WrongEvent in
+    told _ (wrong_event i.k) _ _ c.args.place.now (sym (rw i.field-0-is at i.ensures)) refl refl
 
-pub walk-k-requires : goal.walk-k-requires
-walk-k-requires c =
-    let refusal = c.refusal-refused in
-    let a = c.args in
-    let z : refusal.result ≡ 0 = omega arith in
-    let F = refusal.ensures.1 z in
-    (F.short, F.whole, F.room, F.starts, search rules)
+pub returns-in-Ok-WrongPage : goal.returns-in-Ok-WrongPage
+unfolding number_in place_in verdict_in
+returns-in-Ok-WrongPage c =
+    let i = c.in-Ok-WrongPage in
+    told _ (wrong_page i.p) _ _ c.args.place.now (sym (rw i.field-0-is at i.ensures)) refl refl
 
-pub overflow_cast-place : goal.overflow_cast-place
-overflow_cast-place c =
-    let refusal = c.refusal-refused in
-    let a = c.args in
-    let z : refusal.result ≡ 0 = omega arith in
-    let F = refusal.ensures.1 z in
-    let h = F.short in
-    let g = c.walk-k.ensures.0 in
-    omega (arith, h, g)
-
-pub returns-then-k-n : goal.returns-then-k-n
-unfolding number_in place_in
-returns-then-k-n c =
-    let refusal = c.refusal-refused in
-    let copied = c.copied-store in
-    let a = c.args in
-    let z : refusal.result ≡ 0 = omega arith in
-    let F = refusal.ensures.1 z in
-    told _ (wrong_event c.walk-k.result) _ _ a.place.now (verdict_event a.start.now a.events.now a.answers.now a.end.now copied.result _ refusal.result c.walk-k.result z refusal.ensures.0 copied.ensures c.walk-k.ensures.1 c.if-k-n.true) refl refl
-
-pub first_page-p-requires : goal.first_page-p-requires
-first_page-p-requires c =
-    let refusal = c.refusal-refused in
-    let a = c.args in
-    let z : refusal.result ≡ 0 = omega arith in
-    let F = refusal.ensures.1 z in
-    (F.ends, search rules)
-
-pub returns-then-p-lt33 : goal.returns-then-p-lt33
-unfolding number_in place_in
-returns-then-p-lt33 c =
-    let refusal = c.refusal-refused in
-    let copied = c.copied-store in
-    let walk = c.walk-k in
-    let a = c.args in
-    let z : refusal.result ≡ 0 = omega arith in
-    let F = refusal.ensures.1 z in
-    told _ (wrong_page c.first_page-p.result) _ _ a.place.now (verdict_page a.start.now a.events.now a.answers.now a.end.now copied.result _ refusal.result walk.result z refusal.ensures.0 copied.ensures walk.ensures.1 (omega arith) (search rules) c.first_page-p.result c.first_page-p.ensures.0 c.if-p-lt33.true) refl refl
-
-pub returns : goal.returns
-unfolding number_in place_in
-returns c =
-    let refusal = c.refusal-refused in
-    let copied = c.copied-store in
-    let walk = c.walk-k in
-    let a = c.args in
-    let z : refusal.result ≡ 0 = omega arith in
-    let F = refusal.ensures.1 z in
-    told _ belongs _ _ a.place.now (verdict_belongs a.start.now a.events.now a.answers.now a.end.now copied.result _ refusal.result walk.result z refusal.ensures.0 copied.ensures walk.ensures.1 (omega arith) (search rules) c.first_page-p.result c.first_page-p.ensures.0 (omega arith)) refl refl
+pub returns-in-Err : goal.returns-in-Err
+unfolding number_in place_in verdict_in
+returns-in-Err c =
+    told _ (refuses (audit_refusal c.in-Err.refusal)) _ _ c.args.place.now (sym c.in-Err.ensures) c.from.ensures refl

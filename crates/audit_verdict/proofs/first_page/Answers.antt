@@ -1,28 +1,14 @@
--- Of the last k pages the first that differs.
-use mathlib.Core.Path.{◌≡◌, refl, ap, ◌∙◌}
-use mathlib.Core.Bool.{not}
-use Prim.Native.Nat.{ℕ, ◌-◌}
-use native.Mathlib.Omega.{arith}
+-- The first page that differs.
+use Rattle.std.proofs.Common.{ℕ, Bool, not, refl, rules, tests}
+use Rattle.std.proofs.lemmas.Iterator.{YieldsList-from_range}
+use Rattle.std.proofs.lemmas.Iterator.Search.{position_from_yields_List}
 use Rattle.rules.specs.Editions.{edition1}
-use Rattle.laws.specs.Counting.{lowest, lowest_from}
 use Rattle.audit_rules.specs.Audit.{same_page}
-use Rattle.audit_verdict.proofs.Scanned.{lower_more}
+use Rattle.audit_bearer.proofs.Places.{place_in_range}
 use Rattle.audit_verdict.proofs.first_page.Goals as goal
 
-pub loop-k-init : goal.loop-k-init
-unfolding lowest_from
-loop-k-init c = (omega arith, refl, omega arith)
-
-pub loop-k-preserved : goal.loop-k-preserved
-loop-k-preserved c =
-    let l = c.loop-k in
-    let a = c.args in
-    (omega arith, c.lower-f.ensures.0 ∙ lower_more (λ p. not (same_page edition1 a.a.now a.b.now p)) l.k l.f (omega arith) l.invariant.1, c.lower-f.ensures.1)
-
 pub returns : goal.returns
-unfolding lowest
 returns c =
-    let l = c.loop-k in
-    let a = c.args in
-    let q : l.k ≡ 33 = omega arith in
-    (l.invariant.1 ∙ ap (λ (m : ℕ). lowest_from m (λ p. not (same_page edition1 a.a.now a.b.now p)) (33 - m)) q, l.invariant.2)
+    let differs : ℕ → Bool = λ p. not (same_page edition1 c.args.a.now c.args.b.now p) in
+    rw (position_from_yields_List differs _ _ c.position.result c.position.ensures.ran (YieldsList-from_range 0 33 33 refl refl) (λ x b q k. search (rules, tests)))
+    (place_in_range 33 differs)

@@ -1,19 +1,17 @@
--- What is met so far, or lies ahead, is what lies in the whole list.
+-- Some word's kind is one of two-phase commit.
+use Rattle.std.proofs.Common.{ℕ, Bool, refl, rules, tests}
+use mathlib.Core.Path.{◌∙◌}
 use native.Mathlib.Omega.{arith}
-use Rattle.audit_verdict.proofs.Scanned.{scan_start, scan_more, scan_end}
+use Rattle.std.proofs.lemmas.Iterator.{YieldsList-from_range}
+use Rattle.std.proofs.lemmas.Iterator.Search.{any_from_yields_List}
+use Rattle.rules.specs.Editions.{geometry1}
+use Rattle.audit_rules.specs.Audit.{is_two_phase}
+use Rattle.audit_verdict.proofs.Scanned.{word_of, some_scanned}
 use Rattle.audit_verdict.proofs.two_phase.Goals as goal
-
-pub loop-k-init : goal.loop-k-init
-loop-k-init c = let a = c.args in (omega arith, scan_start a.events.now a.n)
-
-pub loop-k-preserved : goal.loop-k-preserved
-loop-k-preserved c =
-    let l = c.loop-k in
-    let a = c.args in
-    (omega arith, scan_more a.events.now a.n l.k _ l.met c.is_two_phase-met.result _ (omega arith) c.word_at.ensures c.is_two_phase-met.ensures l.invariant.1)
 
 pub returns : goal.returns
 returns c =
-    let l = c.loop-k in
-    let a = c.args in
-    scan_end a.events.now a.n l.k _ l.met (omega arith) l.invariant.1
+    let events = c.args.events.now in
+    let n = c.args.n in
+    let test : ℕ → Bool = λ k. is_two_phase geometry1 (word_of events k) in
+    any_from_yields_List test _ _ c.any.result c.any.ensures.ran (YieldsList-from_range 0 n n refl (omega arith)) (λ x b q k. search (rules, tests)) ∙ some_scanned events n 0

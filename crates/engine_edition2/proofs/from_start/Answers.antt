@@ -23,10 +23,9 @@ pub play-requires : goal.play-requires
 play-requires c =
     let a = c.args in
     let p = c.requires in
-    (begins a.work.now a.store.now p.1 p.0, record { many = layout2.many; two_phase = refl; torn = refl }, bytes2, inr refl, search rules, search rules)
+    (search rules, ((record { many = layout2.many; two_phase = refl; torn = refl }, refl), (begins a.work.now a.store.now p.1 p.0, (bytes2, inr refl, search rules, search rules))))
 
 pub returns : goal.returns
 returns c =
-    let play = c.play in
     let a = c.args in
-    record { before = zeros 64 a.work.now a.store.now; begun = zeros_down edition2 64 a.work.now a.store.now; line = _; held = _; retained = _; leads = play.ensures }
+    record { before = zeros 64 a.work.now a.store.now; begun = zeros_down edition2 64 a.work.now a.store.now; line = _; held = _; retained = _; leads = c.play.ensures }

@@ -1,115 +1,56 @@
--- The loop's invariant: the first k events have been played, their answers stand, the sets of kin are those of the arrays, and what is prepared is what the
+-- The loop's invariant: the first k events have been played, their answers stand, what is derived from the arrays is theirs, and what is prepared is what the
 -- store says.
-use mathlib.Core.Path.{refl, sym, ◌∙◌}
-use Prim.Native.Nat.{◌<◌}
+use mathlib.Core.Path.{refl, sym, ap, ◌∙◌}
+use Prim.Native.Nat.{◌+◌, ◌*◌, ◌<◌}
 use native.Mathlib.Omega.{arith}
-use lib.ListN.{length}
+use lib.ListN.{length, set}
+use Rattle.leaf_event.specs.declared.Answer.{Answer}
 use borrow.Author.Rules.{rules}
-use Rattle.rules.specs.Editions.{geometry_of, form_in, edition_of}
+use Rattle.rules.specs.Editions.{geometry_of, form_in}
 use Rattle.rules.proofs.Editions.{medium_laws}
 use Rattle.state_whole.proofs.Parents.{parent_named}
 use Rattle.state_whole.proofs.Playing.{playing_none, playing_next, playing_all}
 use Rattle.event_crash.proofs.Editions.{layout_of, known_of, joint_of, size_is}
-use Rattle.engine_list.proofs.Words.{some_bytes, counted, within}
+use Rattle.engine_list.proofs.Words.{counted}
 use Rattle.engine_list.proofs.play.Goals as goal
 
-pub live_set-live-requires : goal.live_set-live-requires
-live_set-live-requires c =
-    c.requires.0.form.depths
-
-pub children_of-children-requires : goal.children_of-children-requires
-children_of-children-requires c =
-    let a = c.args in
-    let edition = edition_of a.records a.joint a.tears in
-    let g = geometry_of edition in
-    let f = form_in a.tears g in
-    let I = c.requires.0 in
-    let N = c.requires.1 in
-    (I.form.parents, I.form.depths, parent_named f _ I)
-
 pub read_held-p-requires : goal.read_held-p-requires
-read_held-p-requires c =
-    let a = c.args in
-    let edition = edition_of a.records a.joint a.tears in
-    let g = geometry_of edition in
-    let f = form_in a.tears g in
-    let I = c.requires.0 in
-    let N = c.requires.1 in
-    (known_of edition a.records a.joint a.tears N, joint_of edition a.records a.joint a.tears N, I.form.stores ∙ size_is a.tears g a.records N.many)
+read_held-p-requires g c =
+    let N = c.requires.numbers.0 in
+    (known_of _ _ _ _ N, joint_of _ _ _ _ N, c.requires.intact.form.stores ∙ size_is _ (geometry_of _) _ N.many)
 
-pub nonzero_div-n : goal.nonzero_div-n
-nonzero_div-n c =
-    some_bytes c.requires.3
+pub children_of-requires : goal.children_of-requires
+children_of-requires g c =
+    let I = c.requires.intact in
+    (I.form.parents, I.form.depths, parent_named (form_in _ (geometry_of _)) _ I)
 
 pub loop-k-init : goal.loop-k-init
-loop-k-init c =
-    let live_set = c.live_set-live in
-    let children_of = c.children_of-children in
-    let a = c.args in
-    let edition = edition_of a.records a.joint a.tears in
-    let g = geometry_of edition in
-    let f = form_in a.tears g in
-    let I = c.requires.0 in
-    let N = c.requires.1 in
-    let n = counted (length a.events.now) c.requires.3 c.requires.4 in
-    let h = children_of.ensures in
-    (search rules, refl, n.0, n.1, search rules, playing_none f a.word _ _ _ _ I, record { lives = live_set.ensures; under = h.1; named = parent_named f _ I; long = h.0 }, sym (c.read_held-p.ensures.0 g (layout_of edition a.records a.joint a.tears N) N.two_phase))
-
-pub event_at-requires : goal.event_at-requires
-event_at-requires c =
-    let table = c.table-narrow_table in
-    let table2 = c.table-wide_table in
-    let loop_test = c.loop-k-test in
-    let l = c.loop-k in
-    let a = c.args in
-    let q : l.k < _ = loop_test.true in
-    (table.ensures, table2.ensures, search rules, c.requires.3, within l.k _ (length a.events.now) c.requires.3 q l.invariant.3)
+loop-k-init g c =
+    let I = c.requires.intact in
+    let N = c.requires.numbers.0 in
+    let w = c.requires.words in
+    let n = counted (length c.args.events.now) w.1 w.2 in
+    let h = c.children_of.ensures in
+    (search rules, refl, n.0, n.1, search rules, playing_none (form_in _ (geometry_of _)) c.args.word _ _ _ _ I, record { lives = c.live_set.ensures; under = h.1; named = parent_named (form_in _ (geometry_of _)) _ I; long = h.0 }, sym (c.read_held-p.ensures.0 _ (layout_of _ _ _ _ N) N.two_phase))
 
 pub step-a-requires : goal.step-a-requires
-step-a-requires c =
-    let a = c.args in
-    let edition = edition_of a.records a.joint a.tears in
-    let g = geometry_of edition in
-    let f = form_in a.tears g in
-    let I = c.requires.0 in
-    let N = c.requires.1 in
+step-a-requires g c =
     let l = c.loop-k in
-    let W = (c.event_at.ensures edition c.requires.2 N.torn).1 in
-    (W, l.invariant.5.intact, l.invariant.6, l.invariant.7, N, λ h. sym N.two_phase ∙ W.joint h)
-
-pub put-requires : goal.put-requires
-put-requires c =
-    let loop_test = c.loop-k-test in
-    let l = c.loop-k in
-    let e = l.invariant.5.long in
-    let q : l.k < _ = loop_test.true in
-    let b = l.invariant.2 in
-    let d = l.invariant.4 in
-    (omega arith, omega arith)
+    let N = c.requires.numbers.0 in
+    let W = (c.event_at-e.ensures _ c.requires.words.0 N.torn).1 in
+    (search rules, (c.requires.numbers, ((W, λ h. sym N.two_phase ∙ W.joint h), (l.invariant.5.intact, (l.invariant.6, l.invariant.7)))))
 
 pub loop-k-preserved : goal.loop-k-preserved
-loop-k-preserved c =
-    let loop_test = c.loop-k-test in
-    let event_at_lem = c.event_at in
-    let step = c.step-a in
-    let a = c.args in
-    let edition = edition_of a.records a.joint a.tears in
-    let g = geometry_of edition in
-    let f = form_in a.tears g in
-    let I = c.requires.0 in
-    let N = c.requires.1 in
+loop-k-preserved g c =
+    let w = c.requires.words in
     let l = c.loop-k in
-    let q : l.k < _ = loop_test.true in
+    let q : l.k < _ = c.loop-k-test.true in
     let b = l.invariant.0 in
-    (omega arith, l.invariant.1, l.invariant.2, l.invariant.3, l.invariant.4, playing_next f a.word c.requires.2 _ _ _ a.events.now a.answers.now l.answers _ _ l.k _ _ _ l.invariant.5 q l.invariant.4 refl (event_at_lem.ensures edition c.requires.2 N.torn).0 step.ensures.fact c.put.ensures, step.ensures.derived_sets, step.ensures.reserves)
+    let N = c.requires.numbers.0 in
+    (omega arith, l.invariant.1, l.invariant.2, l.invariant.3, l.invariant.4, playing_next (form_in _ (geometry_of _)) c.args.word w.0 _ _ _ c.args.events.now c.args.answers.now l.answers _ _ l.k _ _ _ l.invariant.5 q l.invariant.4 refl (c.event_at-e.ensures _ w.0 N.torn).0 c.step-a.ensures.fact (c.put.ensures ∙ ap (λ (a : Answer). set (set l.answers (2 * l.k) a.number) (2 * l.k + 1) a.value) c.of.ensures), c.step-a.ensures.derived_sets, c.step-a.ensures.reserves)
 
 pub returns : goal.returns
-returns c =
-    let a = c.args in
-    let edition = edition_of a.records a.joint a.tears in
-    let g = geometry_of edition in
-    let f = form_in a.tears g in
-    let I = c.requires.0 in
-    let N = c.requires.1 in
+returns g c =
     let l = c.loop-k in
-    playing_all f a.word c.requires.2 (medium_laws a.tears g (layout_of edition a.records a.joint a.tears N).proper N.torn).to_from _ _ _ _ _ l.k _ (search rules) l.invariant.1 l.invariant.5
+    let N = c.requires.numbers.0 in
+    playing_all (form_in _ (geometry_of _)) c.args.word c.requires.words.0 (medium_laws _ (geometry_of _) (layout_of _ _ _ _ N).proper N.torn).to_from _ _ _ _ _ l.k _ (search rules) l.invariant.1 l.invariant.5

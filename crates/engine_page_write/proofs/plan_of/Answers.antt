@@ -1,5 +1,5 @@
 -- By the kind of the event.
-use mathlib.Core.Path.{sym, ap, ◌∙◌}
+use mathlib.Core.Path.{refl, sym, ap, ◌∙◌}
 use mathlib.Core.Bool.{Bool}
 use mathlib.Core.Option.{some}
 use native.Mathlib.Omega.{arith}
@@ -11,6 +11,7 @@ use Rattle.event_crash.proofs.Editions.{layout_of}
 use Rattle.leaf_commit_page.proofs.Places.{known_small}
 use Rattle.leaf_event.proofs.Meaning.{means_recover, means_decide}
 use Rattle.engine_step.proofs.Numbers.{transaction_is, no_transaction}
+use Rattle.engine_page_write.specs.Phases.{nothing, plan_told}
 use Rattle.engine_page_write.proofs.Planned.{plans_as, by_number, decision_of_lem, settles, still_plans, unnamed_plans, nothing_small}
 use Rattle.engine_page_write.proofs.plan_of.Goals as goal
 
@@ -46,29 +47,27 @@ unfolding same
 top_plan-requires c =
     ((known_small _ c.requires.0).0, λ q. c.requires.1 (c.requires.2 (let z = same-eq c.args.e.kind 9 q in omega (arith, z))), c.requires.3, c.requires.4, c.requires.5, c.requires.7)
 
-pub returns-in-Number : goal.returns-in-Number
+pub returns-then-kind : goal.returns-then-kind
 unfolding same
-returns-in-Number c =
+returns-then-kind c =
     let read_held = c.read_held-held in
-    let if3 = c.if-kind in
-    let checked = c.checked in record {
-      plans = (λ edition line held retained work N I. let e = c.args.e in plans_as c.args.tears (geometry_of edition) _ N.many _ _ _ _ (settles e if3.true) (by_number c.args.tears (geometry_of edition) _ N.many _ _ e.count _ _ _ _ (transaction_is e.transaction _ (sym c.in-Number.is ∙ checked.ensures)) (c.top_plan.ensures.plans edition _ c.args.tears line held retained work _ e.count _ N I (sym (read_held.ensures.0 (geometry_of edition) (layout_of edition _ _ _ N) N.two_phase)))));
+    let if3 = c.if-kind in record {
+      plans = (λ edition line held retained work N I. let e = c.args.e in plans_as c.args.tears (geometry_of edition) _ N.many _ _ _ _ (settles e if3.true) (by_number c.args.tears (geometry_of edition) _ N.many _ _ e.count _ _ _ _ (transaction_is e.transaction _ c.in_ok-t.ensures) (c.top_plan.ensures.plans edition _ c.args.tears line held retained work _ e.count _ N I (sym (read_held.ensures.0 (geometry_of edition) (layout_of edition _ _ _ N) N.two_phase)))));
       map_bound = c.top_plan.ensures.map_bound;
     }
 
-pub returns-in-NoSuchTransaction : goal.returns-in-NoSuchTransaction
+pub returns-in_err-t : goal.returns-in_err-t
 unfolding same
-returns-in-NoSuchTransaction c =
-    let if3 = c.if-kind in
-    let checked = c.checked in record {
-      plans = (λ edition line held retained work N I. let e = c.args.e in unnamed_plans c.args.tears (geometry_of edition) _ N.many _ I e _ c.none.ensures if3.true (no_transaction e.transaction (sym c.in-NoSuchTransaction.is ∙ checked.ensures)));
-      map_bound = nothing_small _ _ c.none.ensures;
+returns-in_err-t c =
+    let if3 = c.if-kind in record {
+      plans = (λ edition line held retained work N I. let e = c.args.e in unnamed_plans c.args.tears (geometry_of edition) _ N.many _ I e _ (ap plan_told c.from_residual.ensures) if3.true (no_transaction e.transaction c.in_err-t.ensures));
+      map_bound = nothing_small _ (plan_told c.from_residual.result) (ap plan_told c.from_residual.ensures);
     }
 
 pub returns : goal.returns
 unfolding same
 returns c =
     let if1 = c.if-kind-eq8 in record {
-      plans = (λ edition line held retained work N I. let e = c.args.e in still_plans c.args.tears (geometry_of edition) _ N.many _ e _ c.none-2.ensures if1.false c.if-kind-eq10.false c.if-kind.false);
-      map_bound = nothing_small _ _ c.none-2.ensures;
+      plans = (λ edition line held retained work N I. let e = c.args.e in still_plans c.args.tears (geometry_of edition) _ N.many _ e _ refl if1.false c.if-kind-eq10.false c.if-kind.false);
+      map_bound = nothing_small _ nothing refl;
     }

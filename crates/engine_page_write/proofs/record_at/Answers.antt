@@ -1,41 +1,45 @@
--- So far, the record with the number among those below r, and how many of these are named.
-use mathlib.Core.Path.{◌≡◌, refl, ap, ◌∙◌}
-use Prim.Native.Nat.{ℕ}
+-- The count as far as the loop is, and the record that it ends at.
+use mathlib.Core.Path.{◌≡◌, refl, sym, ap, ◌∙◌}
+use mathlib.Core.Bool.{cond}
+use Prim.Native.Nat.{◌+◌}
 use native.Mathlib.Omega.{arith}
-use borrow.Author.Rules.{rules}
-use lib.ListN.{get_or}
-use Rattle.laws.specs.Tests.{same}
-use Rattle.laws.specs.Counting.{count, those}
+use Rattle.laws.specs.Counting.{count}
 use Rattle.rules.specs.Store.{named}
-use Rattle.engine_page_write.proofs.Numbered.{turn_record, turn_count, one_more_least}
+use Rattle.engine_page_write.proofs.Numbered.{picked_at, past_last, named_more}
 use Rattle.engine_page_write.proofs.record_at.Goals as goal
+use Rattle.engine_page_write.proofs.record_at.Goals.{then-names+else-seen-n, else-names}
 
 pub loop-r-init : goal.loop-r-init
-unfolding those count
-loop-r-init c = (search rules, search rules, λ g L. (refl, refl))
+unfolding count
+loop-r-init c = (omega arith, omega arith, omega arith, λ g L. refl)
 
-pub one_more_if-seen-requires : goal.one_more_if-seen-requires
-one_more_if-seen-requires c =
+pub returns-then-seen-n : goal.returns-then-seen-n
+returns-then-seen-n c =
     let l = c.loop-r in
-    let h = c.requires in
-    let q = l.invariant.1 in
-    let z = c.loop-r-test.true in
-    omega arith
+    λ g L. picked_at (named g c.args.map) c.args.records l.r c.args.n c.args.records (sym (c.names.ensures g L.many) ∙ c.if-names.true) (sym (l.invariant.3 g L) ∙ c.if-seen-n.true) c.loop-r-test.true
 
 pub loop-r-preserved : goal.loop-r-preserved
-unfolding same
 loop-r-preserved c =
-    let l = c.loop-r in (
-      search rules,
-      one_more_least c.names-named.result l.seen l.r _ c.one_more_if-seen.ensures l.invariant.1,
-      λ g L. let h = l.invariant.2 g L in let e = c.names-named.ensures g L.many in (
-        turn_record g c.args.records c.args.map c.args.n l.r l.at l.seen c.names-named.result e h.0 h.1 _ c.record_if-at.ensures,
-        turn_count g c.args.records c.args.map c.args.n l.r l.at l.seen c.names-named.result e h.0 h.1 _ c.one_more_if-seen.ensures,
-      ),
-    )
+    let l = c.loop-r in
+    let h = l.invariant in
+    let t = c.loop-r-test.true in
+    elim c.if-names.branch [
+      | then-names+else-seen-n w ↦
+          let s = w.seen-is in
+          let ne = w.if-seen-n.false in
+          let k = h.1 in
+          let m = h.2 in
+          (omega arith, omega arith, omega (arith, s, ne, m), λ g L. s ∙ sym (ap (λ b. cond b (l.seen + 1) l.seen) w.if-names.true) ∙ named_more g c.args.map l.r l.seen c.names.result (c.names.ensures g L.many) (h.3 g L))
+      | else-names w ↦
+          let s = w.seen-is in
+          let k = h.1 in
+          let m = h.2 in
+          (omega arith, omega arith, omega arith, λ g L. s ∙ sym (ap (λ b. cond b (l.seen + 1) l.seen) w.if-names.false) ∙ named_more g c.args.map l.r l.seen c.names.result (c.names.ensures g L.many) (h.3 g L))
+    ]
 
 pub returns : goal.returns
 returns c =
     let l = c.loop-r in
+    let m = l.invariant.2 in
     let e : l.r ≡ c.args.records = omega arith in
-    λ g L. (l.invariant.2 g L).0 ∙ ap (λ (k : ℕ). get_or (those k (named g c.args.map)) c.args.n c.args.records) e
+    λ g L. past_last (named g c.args.map) c.args.records c.args.n c.args.records (rw (← e, ← l.invariant.3 g L) m)

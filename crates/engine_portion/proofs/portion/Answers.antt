@@ -2,12 +2,10 @@
 use mathlib.Core.Path.{refl}
 use mathlib.Core.Logic.{inl}
 use borrow.Author.Rules.{rules}
-use Rattle.rules.specs.Editions.{edition_of}
 use Rattle.engine_list.proofs.Words.{four_of}
 use Rattle.engine_portion.proofs.portion.Goals as goal
 
 pub play-requires : goal.play-requires
-play-requires c =
-    let a = c.args in
+play-requires g c =
     let p = c.requires in
-    (p.0, p.1, four_of (edition_of 16 a.joint a.tears) p.1.many, inl refl, search rules, search rules)
+    (search rules, ((p.1, refl), (p.0, (four_of _ p.1.many, inl refl, search rules, search rules))))

@@ -17,27 +17,22 @@ use Rattle.event_access.proofs.abort_event.Goals as goal
 
 pub inherit_on_abort-requires : goal.inherit_on_abort-requires
 unfolding under
-inherit_on_abort-requires c =
+inherit_on_abort-requires g c =
     let number = c.number-n in
-    let a = c.args in
     let n = number.result in
-    (number.ensures.1, λ e. parent_below _ _ c.requires.7 n (under-lt 1 (get_or a.depth.now n 0) (and_right a.report (under 1 (get_or a.depth.now n 0)) e)), search rules, search rules)
+    (number.ensures.1, λ e. parent_below _ _ c.requires.sources n (under-lt 1 (get_or c.args.s.now.depth n 0) (and_right c.args.report (under 1 (get_or c.args.s.now.depth n 0)) e)), search rules, search rules)
 
-pub leave-requires : goal.leave-requires
-leave-requires c =
-    c.requires.8.long
-
-pub returns : goal.returns
+pub returns-clause-does : goal.returns-clause-does
 unfolding under less
-returns c =
+returns-clause-does g c =
     let number = c.number-n in
-    let inherit_on_abort_lem = c.inherit_on_abort in
-    let descendants = c.descendants-gone in
-    let discard = c.discard in
-    let free_numbers_lem = c.free_numbers in
     let w = c.args.report in
-    let e = free_numbers_lem.ensures in
-    let f = discard.ensures in record {
-      fact = (λ k tears up work store I R. numbered (form_in tears (geometry_of k)) _ _ _ (λ t r. abort t w) (Ready (form_in tears (geometry_of k))) _ _ 0 0 number.ensures.0 refl (λ R. abort_steps_of (form_in tears (geometry_of k)) _ (sym c.requires.6 ∙ I.form.writerss) _ I _ _ w R descendants.ensures _ _ _ _ _ _ _ inherit_on_abort_lem.ensures e.0 e.1 e.2 f.0 f.1 f.2) R);
-      derived_sets = kin_cleared _ _ _ _ _ _ _ _ _ c.requires.8 e.0 e.1 c.minus.ensures c.leave.ensures;
-    }
+    let e = c.free_numbers.ensures in
+    let f = c.discard.ensures in
+    λ k tears work store I R. numbered (form_in tears (geometry_of k)) _ _ _ (λ t r. abort t w) (Ready (form_in tears (geometry_of k))) _ _ 0 0 number.ensures.0 refl (λ R. abort_steps_of (form_in tears (geometry_of k)) _ (sym c.requires.sized.4 ∙ I.form.writerss) _ I _ _ w R c.descendants-gone.ensures _ _ _ _ _ _ _ c.inherit_on_abort.ensures e.0 e.1 e.2 f.0 f.1 f.2) R
+
+pub returns-clause-derived_sets : goal.returns-clause-derived_sets
+unfolding under less
+returns-clause-derived_sets g c =
+    let e = c.free_numbers.ensures in
+    kin_cleared _ _ _ _ _ _ _ _ _ c.requires.derived_sets e.0 e.1 c.minus-d.ensures c.leave.ensures

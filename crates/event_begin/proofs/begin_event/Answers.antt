@@ -1,4 +1,4 @@
--- The refusals 5 and 6 of a begin; then a number is given under the parent.
+-- The refusals of a begin; then a number is given under the parent.
 use mathlib.Core.Path.{refl, sym, ap, ◌∙◌, fun_ext}
 use Prim.Native.Nat.{ℕ}
 use native.Mathlib.Omega.{arith}
@@ -15,36 +15,31 @@ use borrow.Author.Rules.{rules}
 use Rattle.event_begin.proofs.begin_event.Goals as goal
 
 pub begin_under-requires : goal.begin_under-requires
-begin_under-requires c =
-    (search rules, sym (get_or-eq_default c.args.depth.now 0 {n = 31} (let k = c.requires.1 in omega arith)), fun_ext (λ k. bits-zero k ∙ sym (sets_past c.args.line.now 31 k (let m = c.requires.2 in omega arith))), λ z. refl, omega arith, c.requires.4, c.requires.1, c.requires.5)
+begin_under-requires g c =
+    let z = c.requires.sized in
+    let deep = z.6 in
+    let long = z.7 in
+    let above = fun_ext (λ k. bits-zero k ∙ sym (sets_past c.args.s.now.line 31 k (omega (arith, long)))) in
+    (search rules, (z, ((search rules, sym (get_or-eq_default c.args.s.now.depth 0 {n = 31} (omega (arith, deep))), above, λ z. refl, omega arith), c.requires.derived_sets)))
 
-pub returns-then-p-eq31 : goal.returns-then-p-eq31
-returns-then-p-eq31 c =
-    let if1 = c.if-p-eq31 in record {
-      stepped = (λ k tears up held retained writers work store I u. retold (form_in tears (geometry_of k)) _ _ _ _ _ (ap (λ (p : ℕ). some (begin p)) if1.true) (c.begin_under.ensures.stepped k tears up held retained writers work store I u));
-      derived_sets = c.begin_under.ensures.derived_sets;
-    }
+pub returns-then-p-eq31-clause-stepped : goal.returns-then-p-eq31-clause-stepped
+returns-then-p-eq31-clause-stepped g c =
+    λ k tears work store I u. retold (form_in tears (geometry_of k)) _ _ _ _ _ (ap (λ (p : ℕ). some (begin p)) c.if-p-eq31.true) (c.begin_under.ensures.stepped k tears work store I u)
 
-pub returns-then-p-ge24 : goal.returns-then-p-ge24
-returns-then-p-ge24 c = record {
-  stepped = (λ k tears up held retained writers work store I u. begin_refuses_5 (form_in tears (geometry_of k)) _ I u c.args.p c.if-p-eq31.false (get_or-eq_default c.args.depth.now 0 {n = c.args.p} (let k = c.requires.1 in omega arith)));
-  derived_sets = c.requires.5;
-}
+pub returns-then-p-ge24-clause-stepped : goal.returns-then-p-ge24-clause-stepped
+returns-then-p-ge24-clause-stepped g c =
+    let deep = c.requires.sized.6 in
+    λ k tears work store I u. begin_refuses_5 (form_in tears (geometry_of k)) _ I u c.args.p c.if-p-eq31.false (get_or-eq_default c.args.s.now.depth 0 {n = c.args.p} (omega (arith, deep)))
 
-pub returns-then-d-eq0 : goal.returns-then-d-eq0
-returns-then-d-eq0 c =
-    let if1 = c.if-p-eq31 in record {
-      stepped = (λ k tears up held retained writers work store I u. begin_refuses_5 (form_in tears (geometry_of k)) _ I u c.args.p if1.false c.if-d-eq0.true);
-      derived_sets = c.requires.5;
-    }
+pub returns-then-level-eq0-clause-stepped : goal.returns-then-level-eq0-clause-stepped
+returns-then-level-eq0-clause-stepped g c =
+    λ k tears work store I u. begin_refuses_5 (form_in tears (geometry_of k)) _ I u c.args.p c.if-p-eq31.false c.if-level-eq0.true
 
-pub returns-then-d-eq-DEPTH_LIMIT : goal.returns-then-d-eq-DEPTH_LIMIT
-returns-then-d-eq-DEPTH_LIMIT c = record {
-  stepped = (λ k tears up held retained writers work store I u. begin_refuses_6 (form_in tears (geometry_of k)) _ I u c.args.p c.if-d-eq-DEPTH_LIMIT.true);
-  derived_sets = c.requires.5;
-}
+pub returns-then-level-eq-DEPTH_LIMIT-clause-stepped : goal.returns-then-level-eq-DEPTH_LIMIT-clause-stepped
+returns-then-level-eq-DEPTH_LIMIT-clause-stepped g c =
+    λ k tears work store I u. begin_refuses_6 (form_in tears (geometry_of k)) _ I u c.args.p c.if-level-eq-DEPTH_LIMIT.true
 
 pub begin_under-requires-2 : goal.begin_under-requires-2
 unfolding sets
-begin_under-requires-2 c =
-    (let k = c.requires.3 c.args.p in omega arith, refl, refl, λ z. absurd (omega arith), c.requires.0, c.requires.4, c.requires.1, c.requires.5)
+begin_under-requires-2 g c =
+    (search rules, (c.requires.sized, ((let k = c.requires.shallow c.args.p in omega arith, refl, refl, λ z. absurd (omega arith), c.requires.named), c.requires.derived_sets)))

@@ -1,24 +1,25 @@
--- The loop's invariant: the map's last i bytes are laid, and `rest` is what is left of the map before them.
-use mathlib.Core.Path.{sym}
-use native.Mathlib.Nat.{div-one}
+-- The last m of the number's eight bytes stand behind the first.
+use mathlib.Core.Path.{◌≡◌, ap, ap₂, ◌∙◌}
+use mathlib.Core.List.{List, ◌∷◌, ◌++◌}
+use Prim.Native.Nat.{ℕ, ◌+◌, ◌-◌}
 use native.Mathlib.Omega.{arith}
-use Rattle.leaf_commit_page.proofs.Places.{laying_none, laying_more, laying_all, rest_next}
+use lib.ListN.{take, drop, replicate}
+use Rattle.std.proofs.lemmas.List.{take_all, drop-replicate}
+use Rattle.laws.specs.Bytes.{bytes}
+use Rattle.laws.proofs.Bytes.{bytes-length}
+use Rattle.leaf_commit_page.proofs.Places.{last_bytes}
 use Rattle.leaf_commit_page.proofs.lay_map.Goals as goal
-
-pub loop-i-init : goal.loop-i-init
-loop-i-init c = (omega arith, sym (div-one c.args.map), laying_none c.args.m c.args.map c.requires)
-
-pub loop-i-preserved : goal.loop-i-preserved
-loop-i-preserved c =
-    let l = c.loop-i in
-    let a = c.args in (
-      omega arith,
-      rest_next a.map l.i l.rest l.invariant.1,
-      laying_more a.m a.map l.i l.rest l.page (omega arith) l.invariant.1 l.invariant.2,
-    )
 
 pub returns : goal.returns
 returns c =
-    let l = c.loop-i in
-    let a = c.args in
-    laying_all a.m a.map l.i l.page (omega arith) l.invariant.2
+    let m = c.args.m in
+    let x = c.args.map in
+    let few : 8 - (8 - m) ≡ m = omega (arith, c.requires) in
+    let one : 1 + m - 1 ≡ m = omega arith in
+    let laid : c.copy_from_slice.new.self ≡ bytes m x =
+    c.copy_from_slice.ensures.after
+    ∙ ap₂ (λ (k : ℕ) (l : List ℕ). take k (drop (8 - m) l)) few c.to_be_bytes-spelled.ensures
+    ∙ ap (take m) (last_bytes m x c.requires)
+    ∙ take_all m (bytes m x) (omega (arith, bytes-length m x)) in
+    ap₂ (λ (l : List ℕ) (k : ℕ). 0 ∷ (l ++ drop k (replicate 31 0))) laid one
+    ∙ ap (λ (l : List ℕ). 0 ∷ (bytes m x ++ l)) (drop-replicate m 31 0)

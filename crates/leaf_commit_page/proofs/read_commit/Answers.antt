@@ -1,37 +1,30 @@
 -- The page is that of the map that stands in it, or it is damaged.
-use mathlib.Core.Path.{◌≡◌, sym, ap, subst, ◌∙◌}
-use mathlib.Core.Bool.{true, false}
+use mathlib.Core.Path.{◌≡◌, ap, subst, subst⁻¹, ◌∙◌}
+use mathlib.Core.Bool.{Bool, true, false}
 use Prim.Native.Nat.{ℕ, ◌<◌, ◌^◌}
 use lib.Pow.{pow_pos}
+use Rattle.std.specs.Bool.{then_some}
+use Rattle.std.specs.declared.option.Option.{Option as Answered}
 use Rattle.laws.specs.Bytes.{same_list}
 use Rattle.rules.specs.Store.{commit_page}
-use Rattle.leaf_commit_page.specs.Heard.{commit_map}
-use Rattle.leaf_commit_page.proofs.Places.{known_power, read_good, read_bad}
+use Rattle.leaf_commit_page.specs.Heard.{map_told}
+use Rattle.leaf_commit_page.proofs.Places.{known_power, read_said, same_pages}
 use Rattle.leaf_commit_page.proofs.read_commit.Goals as goal
 
-pub returns-then-same_page : goal.returns-then-same_page
-unfolding commit_map
-returns-then-same_page c =
+few : (m n : ℕ) (b : Bool) → m < 2 ^ n → (map_told (then_some b m)).map < 2 ^ n
+unfolding map_told
+few m n true h = h
+few m n false h = pow_pos n
+
+pub returns : goal.returns
+returns c =
     let map_in = c.map_in-map in
     let a = c.args in
     let K = c.requires in
     let m = map_in.result in
     let small : m < 2 ^ a.n = subst (λ (k : ℕ). m < k) (known_power a.n K) map_in.ensures.1 in (
       λ g L.
-          let e : same_list a.page (commit_page g m) ≡ true = sym (c.same_page.ensures ∙ ap (same_list a.page) (c.commit_page.ensures g L)) ∙ c.if-same_page.true in
-          sym (ap commit_map (read_good g a.n L K a.page m small e)),
-      small,
-    )
-
-pub returns-else-same_page : goal.returns-else-same_page
-unfolding commit_map
-returns-else-same_page c =
-    let map_in = c.map_in-map in
-    let a = c.args in
-    let K = c.requires in
-    let m = map_in.result in (
-      λ g L.
-          let e : same_list a.page (commit_page g m) ≡ false = sym (c.same_page.ensures ∙ ap (same_list a.page) (c.commit_page.ensures g L)) ∙ c.if-same_page.false in
-          sym (ap commit_map (read_bad g a.n L K a.page m map_in.ensures.0 e)),
-      pow_pos a.n,
+          let e : c.eq-good.result ≡ same_list a.page (commit_page g m) = c.eq-good.ensures ∙ same_pages _ _ ∙ ap (same_list a.page) (c.commit_page.ensures g L) in
+          ap map_told (c.then_some.ensures ∙ ap (λ (b : Bool). then_some b m) e) ∙ read_said g a.n L K a.page m map_in.ensures.0 small,
+      subst⁻¹ (λ (r : Answered ℕ). (map_told r).map < 2 ^ a.n) c.then_some.ensures (few m a.n c.eq-good.result small),
     )

@@ -10,7 +10,7 @@ use Rattle.rules.specs.Event.{decode}
 use Rattle.rules.specs.Editions.{geometry2, edition2, second}
 use Rattle.leaf_commit_page.proofs.Places.{layout2}
 use Rattle.state_whole.proofs.Parents.{parent_named}
-use Rattle.store_length.proofs.Lengths.{lengths_of, question_of}
+use Rattle.store_length.proofs.Lengths.{lengths_of, question_of, told_ok, told_err}
 use Rattle.engine_page_write.proofs.Numbered.{word_is}
 use Rattle.nekahuiro_edition2.proofs.PageWrites.{list_refused, event_refused, list_asked}
 use Rattle.nekahuiro_edition2.proofs.nekahuiro_page_write_edition2.Goals as goal
@@ -18,32 +18,32 @@ use Rattle.nekahuiro_edition2.proofs.nekahuiro_page_write_edition2.Goals as goal
 pub refusal-unplayed-requires : goal.refusal-unplayed-requires
 refusal-unplayed-requires c = (omega arith, omega arith, omega arith)
 
-pub returns-then-unplayed-ne0 : goal.returns-then-unplayed-ne0
-returns-then-unplayed-ne0 c =
+pub returns-in-Err : goal.returns-in-Err
+returns-in-Err c =
     let a = c.args in
-    list_refused a.store.now a.events.now a.work.now a.answers.now a.event.now a.index a.write.now c.refusal-unplayed.result c.refusal-unplayed.ensures c.if-unplayed-ne0.true
+    let told = told_err c.refusal-unplayed.result c.in-Err.wrong c.in-Err.is c.refusal-unplayed.ensures c.from.ensures in
+    list_refused a.store.now a.events.now a.work.now a.answers.now a.event.now a.index a.write.now c.from.result told.0 told.1
 
-pub question-wrong-requires : goal.question-wrong-requires
-question-wrong-requires c = omega arith
+pub question-asks-requires : goal.question-asks-requires
+question-asks-requires c = omega arith
 
-pub returns-then-wrong-ne0 : goal.returns-then-wrong-ne0
-returns-then-wrong-ne0 c =
+pub returns-in-Err-asks : goal.returns-in-Err-asks
+returns-in-Err-asks c =
     let refusal = c.refusal-unplayed in
     let a = c.args in
-    event_refused a.store.now a.events.now a.work.now a.answers.now a.event.now a.index a.write.now (sym refusal.ensures ∙ c.if-unplayed-ne0.false) c.question-wrong.result c.question-wrong.ensures c.if-wrong-ne0.true
+    let told = told_err c.question-asks.result c.in-Err-asks.wrong c.in-Err-asks.is c.question-asks.ensures c.from-in-Err-asks.ensures in
+    event_refused a.store.now a.events.now a.work.now a.answers.now a.event.now a.index a.write.now (told_ok refusal.result c.in_default.field-0 c.in_default.is refusal.ensures) c.from-in-Err-asks.result told.0 told.1
 
 pub from_start-ended-requires : goal.from_start-ended-requires
 from_start-ended-requires c =
     let refusal = c.refusal-unplayed in
-    let if1 = c.if-unplayed-ne0 in
-    let l = lengths_of false 64 8 _ _ _ _ (sym refusal.ensures ∙ if1.false) in
+    let l = lengths_of false 64 8 _ _ _ _ (told_ok refusal.result c.in_default.field-0 c.in_default.is refusal.ensures) in
     (l.store, l.work, l.short, l.room)
 
 pub word_at-word-requires : goal.word_at-word-requires
 word_at-word-requires c =
-    let question = c.question-wrong in
-    let if2 = c.if-wrong-ne0 in
-    let h = (question_of false 64 8 _ _ _ _ (sym question.ensures ∙ if2.false)).event in
+    let question = c.question-asks in
+    let h = (question_of false 64 8 _ _ _ _ (told_ok question.result c.in_default-asks.field-0 c.in_default-asks.is question.ensures)).event in
     (omega arith, omega (arith, h))
 
 pub slice_bounds-page_write-end : goal.slice_bounds-page_write-end
@@ -61,25 +61,22 @@ of_word-requires c =
 pub page_write-requires : goal.page_write-requires
 unfolding records page_count
 page_write-requires c =
-    let question = c.question-wrong in
-    let if2 = c.if-wrong-ne0 in
+    let question = c.question-asks in
     let from_start = c.from_start-ended in
     let I = from_start.ensures.leads.intact in
-    (inr refl, (λ e. absurd (true≢false (sym e))), c.of_word.ensures.1.joint, I.form.parents, I.form.depths, I.form.writerss, I.form.works, I.form.stores, (question_of false 64 8 _ _ _ _ (sym question.ensures ∙ if2.false)).write, parent_named edition2 _ I)
+    (inr refl, (λ e. absurd (true≢false (sym e))), c.of_word.ensures.1.joint, I.form.parents, I.form.depths, I.form.writerss, I.form.works, I.form.stores, (question_of false 64 8 _ _ _ _ (told_ok question.result c.in_default-asks.field-0 c.in_default-asks.is question.ensures)).write, parent_named edition2 _ I)
 
 pub returns : goal.returns
 unfolding records
 returns c =
     let refusal = c.refusal-unplayed in
-    let if1 = c.if-unplayed-ne0 in
-    let question = c.question-wrong in
-    let if2 = c.if-wrong-ne0 in
+    let question = c.question-asks in
     let from_start = c.from_start-ended in
     let word_at = c.word_at-word in
     let of_word = c.of_word in
     let a = c.args in
-    let fits = sym refusal.ensures ∙ if1.false in
-    let asked = sym question.ensures ∙ if2.false in
+    let fits = told_ok refusal.result c.in_default.field-0 c.in_default.is refusal.ensures in
+    let asked = told_ok question.result c.in_default-asks.field-0 c.in_default-asks.is question.ensures in
     let E = from_start.ensures in
     list_asked a.store.now a.events.now a.work.now a.answers.now a.event.now a.index a.write.now fits asked E.before _ _ E.begun E.leads (E.leads.intact.form.works ∙ sym (lengths_of false 64 8 _ _ _ _ fits).work) _
     (ap (decode geometry2) (sym (word_at.ensures ∙ word_is 8 a.event.now (question_of false 64 8 _ _ _ _ asked).event)) ∙ of_word.ensures.0) _ _

@@ -1,23 +1,12 @@
 -- The list is filled as far as the text is read.
-use mathlib.Core.Path.{◌∙◌}
 use native.Mathlib.Omega.{arith}
-use Rattle.sheet_text.proofs.Turning.{filling_start, filling_room, filling_more, filling_all, filling_length}
+use Rattle.sheet_text.proofs.Turning.{filling_start, filling_room, filling_more, filling_all}
 use Rattle.sheet_list.proofs.fill.Goals as goal
-
-pub event_word-requires : goal.event_word-requires
-event_word-requires c = (omega arith, omega arith, omega arith, omega arith, omega arith)
-
-pub put_word-requires : goal.put_word-requires
-put_word-requires c = (omega arith, omega arith)
 
 pub loop-i-init : goal.loop-i-init
 loop-i-init c =
     let event_word_lem = c.event_word in
     (filling_start c.args.s.now c.requires.0 c.args.list.now _ event_word_lem.result c.requires.1 c.put_word.ensures event_word_lem.ensures, omega arith)
-
-pub next_turn-t-requires : goal.next_turn-t-requires
-next_turn-t-requires c =
-    (c.loop-i-test.true, c.loop-i.invariant.0.place, c.requires.0)
 
 pub put_word-requires-in-loop-i : goal.put_word-requires-in-loop-i
 put_word-requires-in-loop-i c =
@@ -31,23 +20,11 @@ overflow_add-k c =
     let r = filling_room c.args.s.now c.requires.0 loop.invariant.0 next_turn.ensures in
     omega (arith, r.0)
 
-pub loop-i-smaller : goal.loop-i-smaller
-loop-i-smaller c =
-    let next_turn = c.next_turn-t in
-    let n = next_turn.ensures.further in
-    let m = next_turn.ensures.within in
-    omega (arith, n, m)
-
 pub loop-i-preserved : goal.loop-i-preserved
 loop-i-preserved c =
     let loop = c.loop-i in
     let next_turn = c.next_turn-t in
     (filling_more c.args.s.now c.requires.0 loop.invariant.0 next_turn.ensures c.put_word-in-loop-i.ensures, omega arith)
-
-pub shape_of-list : goal.shape_of-list
-shape_of-list c =
-    let put_word = c.put_word in
-    filling_length c.args.s.now c.requires.0 c.loop-i.invariant.0 ∙ put_word.auto.list
 
 pub returns : goal.returns
 returns c =

@@ -11,8 +11,8 @@ decreases-read_step l = (length l.s.now - l.at) + (length l.s.now - l.at)
 abbrev pub decreases-read_transaction : goal.decreases-read_transaction
 decreases-read_transaction l = (length l.s.now - l.at) + (length l.s.now - l.at) + 1
 
-abbrev pub invariant-read_transaction-loop-i : goal.invariant-read_transaction-loop-i
-invariant-read_transaction-loop-i l = (l.i ≤ length l.s) × (l.at ≤ l.i) × Stands l.s l.i (between l.levels l.free)
+abbrev pub invariant-read_transaction-loop-c : goal.invariant-read_transaction-loop-c
+invariant-read_transaction-loop-c l = (l.c.at ≤ length l.s) × (l.at ≤ l.c.at) × Stands l.s l.c.at (between l.levels l.c.room)
 
-abbrev pub decreases-read_transaction-loop-i : goal.decreases-read_transaction-loop-i
-decreases-read_transaction-loop-i l = length l.s - l.i
+abbrev pub decreases-read_transaction-loop-c : goal.decreases-read_transaction-loop-c
+decreases-read_transaction-loop-c l = length l.s - l.c.at

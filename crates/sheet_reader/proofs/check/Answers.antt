@@ -2,8 +2,9 @@
 use mathlib.Core.Path.{◌≡◌, sym, ap, ◌∙◌}
 use native.Mathlib.Omega.{arith}
 use lib.ListN.{length}
-use Rattle.sheet_text.specs.Scan.{level_closed, scan_after}
-use Rattle.sheet_reader.proofs.Scanning.{empty_text, unopened_text, opened_text, trailing, found_next, found_bad, top_left}
+use Rattle.sheet_text.specs.Scan.{scan_after}
+use Rattle.sheet_reader.proofs.Scanning.{empty_text, unopened_text, opened_text, trailing, top_left}
+use borrow.Author.Rules.{rules}
 use Rattle.sheet_text.proofs.Following.{stuck_fault, whole_taken, room_most}
 use Rattle.sheet_reader.proofs.check.Goals as goal
 
@@ -17,31 +18,21 @@ returns-then-s-ne123 c =
 pub read_transaction-requires : goal.read_transaction-requires
 read_transaction-requires c = (omega arith, opened_text (omega arith), omega arith)
 
-pub returns-then-at-s : goal.returns-then-at-s
-returns-then-at-s c =
-    let s = c.args.s.now in
-    let f = c.read_transaction in
-    let h = found_next s 1 (level_closed 15) f.result c.in-Next.c c.in-Next.is f.ensures in
-    stuck_fault s _ (trailing c.if-at-s.true (top_left h.stands))
+pub returns-in_err-c : goal.returns-in_err-c
+returns-in_err-c c = let fails = stuck_fault c.args.s.now c.in_err-c.field-0.0.at c.in_err-c.ensures in search rules
+
+pub returns-then-c-s : goal.returns-then-c-s
+returns-then-c-s c = stuck_fault c.args.s.now _ (trailing c.if-c-s.true (top_left c.in_ok-c.ensures.stands))
 
 pub overflow_sub-result : goal.overflow_sub-result
 overflow_sub-result c =
-    let s = c.args.s.now in
-    let f = c.read_transaction in
-    let h = found_next s 1 (level_closed 15) f.result c.in-Next.c c.in-Next.is f.ensures in
-    omega (arith, room_most s _ _ h.within (top_left h.stands).is)
+    let h = c.in_ok-c.ensures in
+    omega (arith, room_most c.args.s.now _ _ h.within (top_left h.stands).is)
 
-pub returns-else-at-s : goal.returns-else-at-s
-returns-else-at-s c =
+pub returns : goal.returns
+returns c =
     let s = c.args.s.now in
-    let f = c.read_transaction in
-    let h = found_next s 1 (level_closed 15) f.result c.in-Next.c c.in-Next.is f.ensures in
-    let e : c.in-Next.c.at ≡ length s = omega (arith, h.within) in
-    let w = whole_taken s c.in-Next.c.room (ap (scan_after s) (sym e) ∙ (top_left h.stands).is) in
+    let h = c.in_ok-c.ensures in
+    let e : c.in_ok-c.c.at ≡ length s = omega (arith, h.within) in
+    let w = whole_taken s c.in_ok-c.c.room (ap (scan_after s) (sym e) ∙ (top_left h.stands).is) in
     record { sheet = w.sheet; taken = w.taken; long = omega (arith, w.counts) }
-
-pub returns-in-Bad : goal.returns-in-Bad
-returns-in-Bad c =
-    let s = c.args.s.now in
-    let f = c.read_transaction in
-    stuck_fault s c.in-Bad.p (found_bad s 1 (level_closed 15) f.result c.in-Bad.p c.in-Bad.is f.ensures)

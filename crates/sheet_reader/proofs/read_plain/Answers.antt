@@ -1,10 +1,10 @@
 -- By the letter.
 use mathlib.Core.Path.{refl, ap, ◌∙◌}
-use Prim.Native.Nat.{ℕ, ◌+◌}
+use Prim.Native.Nat.{ℕ}
 use native.Mathlib.Omega.{arith}
 use lib.ListN.{get_or}
-use Rattle.sheet_text.specs.Scan.{between, letter_of, stepped}
-use Rattle.sheet_reader.proofs.Scanning.{letter_bad, plain_on, from_before, no_step}
+use Rattle.sheet_text.specs.Scan.{letter_of, stepped}
+use Rattle.sheet_reader.proofs.Scanning.{letter_bad, plain_on, no_step}
 use Rattle.sheet_text.proofs.Letters.{is_lock_lem, is_write, is_read, is_unknown, no_letter}
 use Rattle.sheet_reader.proofs.read_plain.Goals as goal
 
@@ -20,32 +20,17 @@ read_digits-requires c =
     let h = c.requires in
     (omega arith, omega arith, plain_on a.room 0 9 h.1 (is_lock_lem c.if-b-eq76.true) (omega arith))
 
-pub returns-then-b-eq76 : goal.returns-then-b-eq76
-returns-then-b-eq76 c =
-    let a = c.args in
-    from_before a.s.now a.at (a.at + 1) (between a.levels) c.read_digits.result (omega arith) c.read_digits.ensures
-
 pub read_digits-requires-then-b-eq87 : goal.read_digits-requires-then-b-eq87
 read_digits-requires-then-b-eq87 c =
     let a = c.args in
     let h = c.requires in
     (omega arith, omega arith, plain_on a.room 4 3 h.1 (is_write c.if-b-eq87.true) (omega arith))
 
-pub returns-then-b-eq87 : goal.returns-then-b-eq87
-returns-then-b-eq87 c =
-    let a = c.args in
-    from_before a.s.now a.at (a.at + 1) (between a.levels) c.read_digits-then-b-eq87.result (omega arith) c.read_digits-then-b-eq87.ensures
-
 pub read_digits-requires-then-b-eq82 : goal.read_digits-requires-then-b-eq82
 read_digits-requires-then-b-eq82 c =
     let a = c.args in
     let h = c.requires in
     (omega arith, omega arith, plain_on a.room 2 1 h.1 (is_read c.if-b-eq82.true) (omega arith))
-
-pub returns-then-b-eq82 : goal.returns-then-b-eq82
-returns-then-b-eq82 c =
-    let a = c.args in
-    from_before a.s.now a.at (a.at + 1) (between a.levels) c.read_digits-then-b-eq82.result (omega arith) c.read_digits-then-b-eq82.ensures
 
 pub returns : goal.returns
 returns c =

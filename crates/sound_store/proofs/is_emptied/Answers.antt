@@ -1,9 +1,12 @@
 -- The pages, then the commit page that is shown.
-use Prim.Native.Nat.{◌+◌}
+use mathlib.Core.Path.{ap₂, ◌∙◌}
+use mathlib.Core.Bool.{Bool, ◌&&◌}
+use Prim.Native.Nat.{ℕ, ◌+◌}
 use native.Mathlib.Omega.{arith}
 use borrow.Author.Rules.{rules}
 use Rattle.laws.specs.Tests.{same}
-use Rattle.leaf_commit_page.proofs.Places.{known_small}
+use Rattle.leaf_commit_page.proofs.Places.{known_small, told_good, told_map}
+use Rattle.leaf_commit_page.specs.Heard.{map_told}
 use Rattle.sound_store.proofs.Calm.{room, first_page, emptied_by}
 use Rattle.sound_store.proofs.is_emptied.Goals as goal
 
@@ -34,4 +37,6 @@ returns c =
     let pages_whole = c.pages_whole-whole in
     λ g L.
     let a = c.args in
-    emptied_by a.tears g a.n L.many a.store.now _ _ _ pages_whole.ensures c.get_page.ensures (c.read_commit-c.ensures.0 g L)
+    let r = c.read_commit-c.result in
+    ap₂ (λ (b : Bool) (m : ℕ). pages_whole.result && (b && same m 0)) (c.is_some-good.ensures ∙ told_good r) (c.unwrap_or-empty.ensures ∙ told_map r)
+    ∙ emptied_by a.tears g a.n L.many a.store.now _ _ (map_told r) pages_whole.ensures c.get_page.ensures (c.read_commit-c.ensures.0 g L)

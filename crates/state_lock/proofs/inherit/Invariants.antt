@@ -1,5 +1,4 @@
 -- The sweep hands over place after place.
-use mathlib.Core.Path.{◌≡◌}
 use Prim.Native.Nat.{◌≤◌}
 use lib.ListN.{length}
 use Rattle.leaf_set.specs.Sets.{sets}
@@ -9,4 +8,4 @@ use Rattle.state_lock.proofs.inherit.Given as goal
 
 abbrev pub invariant-loop-k : goal.invariant-loop-k
 invariant-loop-k l =
-    (l.k ≤ l.n) × (length l.held ≡ l.n) × Upto l.n (inheriting l.t l.p (sets l.held) (sets l.initial.retained)) l.retained l.initial.retained l.k
+    (l.k ≤ length l.held) × Upto (length l.held) (inheriting l.t l.p (sets l.held) (sets l.initial.retained)) l.retained l.initial.retained l.k

@@ -7,7 +7,7 @@ use Rattle.state_lock.proofs.inherit_on_abort.Goals as goal
 
 pub inherit-requires : goal.inherit-requires
 inherit-requires c =
-    (c.requires.0, c.requires.1 c.if-told.true, c.requires.2, c.requires.3)
+    (c.requires.0, c.requires.1 c.if-told.true, c.requires.2 ∙ sym c.requires.3)
 
 pub returns-then-told : goal.returns-then-told
 unfolding reporting
@@ -16,7 +16,7 @@ returns-then-told c =
     let a = c.args in
     record {
       are = c.inherit.ensures.are ∙ sym (ap (λ (b : Bool). reporting b a.t a.p (sets a.held.now) (sets a.retained.now)) if1.true);
-      long = c.inherit.ensures.long;
+      long = c.inherit.ensures.long ∙ c.requires.3;
     }
 
 pub returns-else-told : goal.returns-else-told

@@ -12,5 +12,5 @@ returns c =
     let single = c.single in
     let a = c.args in (
       record { are = c.leave.ensures.are ∙ ap (λ (f : ℕ → Bool). leaving f (sets a.held.now)) single.ensures; long = c.leave.ensures.long },
-      inherit.ensures,
+      record { are = inherit.ensures.are; long = inherit.ensures.long ∙ c.requires.3 },
     )

@@ -1,7 +1,7 @@
 -- The loop puts number after number into the set of its parent. Seen from one parent, its set is filled in order.
-use mathlib.Core.Path.{◌≡◌, refl, ap, ◌∙◌}
+use mathlib.Core.Path.{◌≡◌, refl, ap}
 use mathlib.Core.Bool.{Bool, not, ◌&&◌, ◌||◌}
-use Prim.Native.Nat.{ℕ, ◌%◌}
+use Prim.Native.Nat.{ℕ}
 use native.Mathlib.Omega.{arith}
 use lib.ListN.{get_or, get_or-eq_default}
 use borrow.Author.Rules.{rules}
@@ -25,13 +25,12 @@ unfolding same sets
 loop-j-preserved c =
     let l = c.loop-j in
     let a = c.args in
-    let e : l.j % 256 ≡ l.j = omega arith in
     let b : ℕ → ℕ → Bool = λ q u. not (same (get_or a.depth.now u 0) 0) && same (get_or a.parent.now u 0) q in
-    let r : sets c.add_child_if.new.children ≡ (λ q k. sets l.children q k || (same k (l.j % 256) && b q l.j)) = c.add_child_if.ensures.are in (
+    let r : sets c.add_child_if.new.children ≡ (λ q k. sets l.children q k || (same k l.j && b q l.j)) = c.add_child_if.ensures.are in (
       search rules,
       c.add_child_if.ensures.long,
       λ q. fills_more (b q) (get_or l.children q 0) _ l.j (b q l.j) (l.invariant.2 q) refl
-          (ap (λ (o : ℕ → ℕ → Bool). o q) r ∙ ap {B = ℕ → Bool} (λ (i : ℕ) k. sets l.children q k || (same k i && b q l.j)) e),
+          (ap (λ (o : ℕ → ℕ → Bool). o q) r),
     )
 
 pub returns : goal.returns

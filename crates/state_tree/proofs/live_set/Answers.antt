@@ -1,7 +1,6 @@
 -- The loop collects, number by number, who is live.
-use mathlib.Core.Path.{◌≡◌, refl, ap, ◌∙◌}
-use mathlib.Core.Bool.{Bool, not, ◌&&◌, ◌||◌}
-use Prim.Native.Nat.{ℕ, ◌%◌}
+use mathlib.Core.Path.{◌≡◌, refl}
+use mathlib.Core.Bool.{not, ◌&&◌, ◌||◌}
 use native.Mathlib.Omega.{arith}
 use lib.ListN.{get_or, get_or-eq_default}
 use borrow.Author.Rules.{rules}
@@ -20,11 +19,9 @@ unfolding same
 loop-j-preserved c =
     let l = c.loop-j in
     let a = c.args in
-    let e : l.j % 256 ≡ l.j = omega arith in
-    let q : bits c.with_if-m.result ≡ (λ k. bits l.m k || (same k (l.j % 256) && not (same (get_or a.depth.now l.j 0) 0))) = c.with_if-m.ensures in (
+    let q : bits c.with_if-m.result ≡ (λ k. bits l.m k || (same k l.j && not (same (get_or a.depth.now l.j 0) 0))) = c.with_if-m.ensures in (
       search rules,
-      fills_more (λ u. not (same (get_or a.depth.now u 0) 0)) l.m _ l.j (not (same (get_or a.depth.now l.j 0) 0)) l.invariant.1 refl
-          (q ∙ ap {B = ℕ → Bool} (λ (i : ℕ) k. bits l.m k || (same k i && not (same (get_or a.depth.now l.j 0) 0))) e),
+      fills_more (λ u. not (same (get_or a.depth.now u 0) 0)) l.m _ l.j (not (same (get_or a.depth.now l.j 0) 0)) l.invariant.1 refl q,
     )
 
 pub returns : goal.returns

@@ -1,5 +1,5 @@
 -- The slot takes the page that is seen from there; a version that is there already stays.
-use mathlib.Core.Path.{◌≡◌, sym, ap, ap₂, subst⁻¹, ◌∙◌}
+use mathlib.Core.Path.{◌≡◌, refl, sym, ap, ap₂, subst⁻¹, ◌∙◌}
 use mathlib.Core.Bool.{Bool, true, ◌||◌}
 use mathlib.Core.List.{List}
 use Prim.Native.Nat.{ℕ, ◌<◌}
@@ -15,6 +15,8 @@ use Rattle.state_version.proofs.Seen.{seen_home, seen_slot, seen_own, written_as
 use borrow.Author.Rules.{rules}
 use Rattle.laws.specs.Tests.{same}
 use Rattle.leaf_number.specs.Named.{transaction_of}
+use Rattle.std.proofs.Common.{None}
+use Rattle.state_version.specs.Parts.{climb_told}
 use Rattle.state_version.proofs.make_version.Goals as goal
 
 pub returns-then-contains : goal.returns-then-contains
@@ -36,16 +38,14 @@ pub slot_of-to-requires : goal.slot_of-to-requires
 slot_of-to-requires c =
     (omega arith, subst⁻¹ (λ (i : ℕ). 0 < get_or c.args.depth.now i 0) c.index.ensures.0 c.requires.4, c.requires.5.shallow c.index.result)
 
-pub returns-then-left-eq0 : goal.returns-then-left-eq0
+pub returns-in-None : goal.returns-in-None
 unfolding sets
-returns-then-left-eq0 c =
+returns-in-None c =
     let number = c.number-n in
     let index = c.index-i in
-    let source = c.source-c in
     let index2 = c.index in
     let slot_of = c.slot_of-to in
     let with = c.with in
-    let if2 = c.if-left-eq0 in
     let a = c.args in
     let t = transaction_of a.t in
     let i = index.result in
@@ -53,24 +53,24 @@ returns-then-left-eq0 c =
     written_as (seen a.parent.now a.depth.now a.writers.now a.work.now (take 32 (drop a.at a.store.now)) t) (get_or a.depth.now t 0) index.ensures.0 (record {
       has = sets_joined a.writers.now t i _ (omega (arith, c.requires.0)) (with.ensures ∙ ap {B = ℕ → Bool} (λ (n : ℕ) (k : ℕ). sets a.writers.now i k || same k n) number.ensures.0);
       page = c.bring.ensures ∙ ap (λ (m : ℕ). updated m (take 32 (drop a.at a.store.now)) (pages_of a.work.now)) (slot_of.ensures.0 ∙ ap (λ (j : ℕ). slot i (get_or a.depth.now j 0)) index2.ensures.0)
-          ∙ ap (λ (p : List ℕ). updated n p (pages_of a.work.now)) (sym (seen_home a.parent.now a.depth.now a.writers.now a.work.now (take 32 (drop a.at a.store.now)) t i source.result source.ensures if2.true));
+          ∙ ap (λ (p : List ℕ). updated n p (pages_of a.work.now)) (sym (seen_home a.parent.now a.depth.now a.writers.now a.work.now (take 32 (drop a.at a.store.now)) t i (climb_told None) c.in-None.ensures.climbed refl));
       long = search rules;
     })
 
 pub slot_of-requires : goal.slot_of-requires
 slot_of-requires c =
     let index = c.index-i in
-    let source = c.source-c in
-    let k = source.ensures.level in
-    let m = c.requires.5.shallow source.result.at in
+    let C = c.in-Some.ensures.climbed in
+    let k = C.level in
+    let m = c.requires.5.shallow c.in-Some.c.at in
+    let below = c.in-Some.ensures.left in
     (omega (arith, index.ensures), omega arith, omega arith)
 
-pub returns : goal.returns
+pub returns-in-Some : goal.returns-in-Some
 unfolding sets
-returns c =
+returns-in-Some c =
     let number = c.number-n in
     let index = c.index-i in
-    let source = c.source-c in
     let index2 = c.index in
     let slot_of = c.slot_of-to in
     let with = c.with in
@@ -82,6 +82,6 @@ returns c =
     written_as (seen a.parent.now a.depth.now a.writers.now a.work.now (take 32 (drop a.at a.store.now)) t) (get_or a.depth.now t 0) index.ensures.0 (record {
       has = sets_joined a.writers.now t i _ (omega (arith, c.requires.0)) (with.ensures ∙ ap {B = ℕ → Bool} (λ (n : ℕ) (k : ℕ). sets a.writers.now i k || same k n) number.ensures.0);
       page = c.copy_page.ensures ∙ ap₂ (λ (i j : ℕ). updated i (pages_of a.work.now j) (pages_of a.work.now)) (slot_of.ensures.0 ∙ ap (λ (j : ℕ). slot i (get_or a.depth.now j 0)) index2.ensures.0) slot_of2.ensures.0
-          ∙ ap (λ (p : List ℕ). updated n p (pages_of a.work.now)) (sym (seen_slot a.parent.now a.depth.now a.writers.now a.work.now (take 32 (drop a.at a.store.now)) t i source.result source.ensures (omega arith)));
+          ∙ ap (λ (p : List ℕ). updated n p (pages_of a.work.now)) (sym (seen_slot a.parent.now a.depth.now a.writers.now a.work.now (take 32 (drop a.at a.store.now)) t i c.in-Some.c c.in-Some.ensures.climbed c.in-Some.ensures.left));
       long = search rules;
     })

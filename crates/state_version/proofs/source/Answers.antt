@@ -6,11 +6,11 @@ use lib.ListN.{get_or}
 use borrow.Author.Rules.{rules}
 use Rattle.state_version.specs.Parts.{Climbed}
 use Rattle.state_array.proofs.View.{deep_below}
-use Rattle.state_version.proofs.Walk.{walk_none, walk_empty, walk_more, walk-all}
+use Rattle.state_version.proofs.Walk.{walk_none, walk_empty, walk_more, walk-all, walk_told, walk_left}
 use Rattle.state_version.proofs.source.Goals as goal
 
-pub returns-then-w-eq0 : goal.returns-then-w-eq0
-returns-then-w-eq0 c = walk_empty _ _ c.requires _ _ _ c.if-w-eq0.true refl refl
+pub returns-then-w-eq0-clause-climbed : goal.returns-then-w-eq0-clause-climbed
+returns-then-w-eq0-clause-climbed c = walk_empty _ _ c.requires _ _ _ c.if-w-eq0.true refl refl
 
 pub loop-n-init : goal.loop-n-init
 loop-n-init c =
@@ -30,4 +30,8 @@ pub returns : goal.returns
 returns c =
     let number = c.number-start in
     let l = c.loop-n in
-    subst (λ (t : ℕ). Climbed c.args.parent.now c.args.depth.now c.args.w t l.c) number.ensures.0 (walk-all _ _ c.requires _ _ _ l.n (omega arith) l.invariant.1)
+    let C = subst (λ (t : ℕ). Climbed c.args.parent.now c.args.depth.now c.args.w t l.c) number.ensures.0 (walk-all _ _ c.requires _ _ _ l.n (omega arith) l.invariant.1) in
+    record {
+      climbed = walk_told _ _ c.requires _ _ c.met.result l.c c.met.ensures C;
+      left = walk_left c.met.result l.c c.met.ensures;
+    }

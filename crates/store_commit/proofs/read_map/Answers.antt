@@ -1,8 +1,10 @@
 -- What the commit page says, as the store shows it, and whether every page has a good copy.
 use borrow.Author.Rules.{rules}
-use mathlib.Core.Path.{ap, ◌∙◌}
-use Rattle.leaf_commit_page.proofs.Places.{known_small}
-use Rattle.leaf_commit_page.specs.Heard.{understood}
+use mathlib.Core.Path.{ap, subst⁻¹, ◌∙◌}
+use mathlib.Core.Bool.{not, ◌&&◌}
+use Prim.Native.Nat.{ℕ, ◌<◌, ◌^◌}
+use Rattle.leaf_commit_page.proofs.Places.{known_small, told_good, told_map}
+use Rattle.leaf_commit_page.specs.Heard.{understood, map_told}
 use Rattle.store_write.specs.Phase.{store_of}
 use native.Mathlib.Omega.{arith}
 use Rattle.store_commit.proofs.Room.{room, no_more}
@@ -32,10 +34,13 @@ any_lost-requires c =
 
 pub returns : goal.returns
 returns c =
-    let get_page_lem = c.get_page in
-    let a = c.args in (
+    let a = c.args in
+    let r = c.read_page-c.result in
+    let good = c.is_some.ensures ∙ told_good r in
+    let map = c.unwrap_or.ensures ∙ told_map r in (
       λ g L j.
-          understood_is g a.n L.many a.tears (store_of a.tears a.store.now) _ _ c.any_lost.ensures
-          (c.read_page-c.ensures.0 g L j ∙ ap (understood g) get_page_lem.ensures),
-      c.read_page-c.ensures.1,
+          (λ i. record { good = not c.any_lost.result && good i; map = map i })
+          ∙ understood_is g a.n L.many a.tears (store_of a.tears a.store.now) (map_told r) _ c.any_lost.ensures
+          (c.read_page-c.ensures.0 g L j ∙ ap (understood g) c.get_page.ensures),
+      subst⁻¹ (λ (k : ℕ). k < 2 ^ a.n) map c.read_page-c.ensures.1,
     )

@@ -1,34 +1,35 @@
 -- The tests in the order of the refusals.
-use mathlib.Core.Path.{sym, ◌∙◌}
-use Rattle.store_length.proofs.Lengths.{asks_store, asks_work, asks_event, asks_write, asks_well}
+use borrow.Author.Rules.{rules}
+use mathlib.Core.Path.{◌≡◌, sym, ap, ◌∙◌}
+use Rattle.std.specs.Prelude.{Err}
+use Rattle.store_length.specs.Lengths.{length_told}
+use Rattle.store_length.proofs.Lengths.{buffers_of, question_by, asks_event, asks_write, asks_well}
 use Rattle.store_length.proofs.question.Goals as goal
 
-pub returns-then-stored-store_size : goal.returns-then-stored-store_size
-returns-then-stored-store_size c = let a = c.args in asks_store a.tears a.records a.word a.stored a.event a.working a.write (λ e. c.if-stored-store_size.true (e ∙ sym c.store_size.ensures))
-
-pub returns-then-working-records : goal.returns-then-working-records
-returns-then-working-records c =
+pub returns-in_err-buffers : goal.returns-in_err-buffers
+unfolding length_told
+returns-in_err-buffers c =
     let a = c.args in
-    asks_work a.tears a.records a.word a.stored a.event a.working a.write (c.if-stored-store_size.false ∙ c.store_size.ensures) c.if-working-records.true
+    let err : c.from_residual.result ≡ Err c.in_err-buffers.field-0.0 = search rules in
+    ap length_told err ∙ question_by a.tears a.records a.word a.stored a.event a.working a.write (sym c.buffers.ensures ∙ ap length_told c.in_err-buffers.was)
 
 pub returns-then-event-word : goal.returns-then-event-word
+unfolding length_told
 returns-then-event-word c =
-    let store_size = c.store_size in
     let a = c.args in
-    asks_event a.tears a.records a.word a.stored a.event a.working a.write (c.if-stored-store_size.false ∙ store_size.ensures) c.if-working-records.false c.if-event-word.true
+    let b = buffers_of a.tears a.records a.stored a.working (sym (ap length_told c.in_ok-buffers.was) ∙ c.buffers.ensures) in
+    asks_event a.tears a.records a.word a.stored a.event a.working a.write b.0 b.1 c.if-event-word.true
 
 pub returns-then-write-write_size : goal.returns-then-write-write_size
+unfolding length_told
 returns-then-write-write_size c =
-    let store_size = c.store_size in
-    let if1 = c.if-stored-store_size in
-    let if2 = c.if-working-records in
     let a = c.args in
-    asks_write a.tears a.records a.word a.stored a.event a.working a.write (if1.false ∙ store_size.ensures) if2.false c.if-event-word.false (λ e. c.if-write-write_size.true (e ∙ sym c.write_size.ensures))
+    let b = buffers_of a.tears a.records a.stored a.working (sym (ap length_told c.in_ok-buffers.was) ∙ c.buffers.ensures) in
+    asks_write a.tears a.records a.word a.stored a.event a.working a.write b.0 b.1 c.if-event-word.false (λ e. c.if-write-write_size.true (e ∙ sym c.write_size.ensures))
 
 pub returns : goal.returns
+unfolding length_told
 returns c =
-    let store_size = c.store_size in
-    let if1 = c.if-stored-store_size in
-    let if2 = c.if-working-records in
     let a = c.args in
-    asks_well a.tears a.records a.word a.stored a.event a.working a.write (if1.false ∙ store_size.ensures) if2.false c.if-event-word.false (c.if-write-write_size.false ∙ c.write_size.ensures)
+    let b = buffers_of a.tears a.records a.stored a.working (sym (ap length_told c.in_ok-buffers.was) ∙ c.buffers.ensures) in
+    asks_well a.tears a.records a.word a.stored a.event a.working a.write b.0 b.1 c.if-event-word.false (c.if-write-write_size.false ∙ c.write_size.ensures)

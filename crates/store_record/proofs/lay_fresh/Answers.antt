@@ -9,7 +9,9 @@ store_size-requires c = (known_small _ c.requires).0
 
 pub returns-then-store-store_size : goal.returns-then-store-store_size
 returns-then-store-store_size c =
-    λ g L. fresh_refused c.args.tears g _ L.many _ (λ e. c.if-store-store_size.true (e ∙ sym c.store_size.ensures))
+    λ g L.
+    let q = fresh_refused c.args.tears g _ L.many _ (λ e. c.if-store-store_size.true (e ∙ sym c.store_size.ensures)) in
+    (c.from.ensures ∙ q.0, q.1)
 
 pub lay-requires : goal.lay-requires
 lay-requires c =

@@ -1,23 +1,23 @@
--- It stands somewhere, and not before.
+-- It stands somewhere among the first n: so it is found there.
+use mathlib.Core.Path.{◌≡◌, subst⁻¹}
+use mathlib.Core.Bool.{Bool}
+use Prim.Native.Nat.{ℕ, ◌<◌}
 use native.Mathlib.Omega.{arith}
-use borrow.Author.Count.{below_more}
-use Rattle.wait_cycle.proofs.Walking.{not_yet}
+use lib.Dec.{eqb}
+use lib.ListN.{get_or, length}
+use Rattle.std.specs.List.{position, position_or_len}
+use Rattle.std.proofs.Common.{Some}
+use Rattle.std.proofs.lemmas.Grind.{common_steps}
+use Rattle.wait_cycle.proofs.Walking.{first_is}
 use Rattle.wait_cycle.proofs.place_of.Goals as goal
 
-pub loop-k-init : goal.loop-k-init
-loop-k-init c = (omega arith, λ j h. absurd (omega arith))
-
-pub bounds-path-k : goal.bounds-path-k
-bounds-path-k c = let l = c.loop-k in let a = c.args in let h = c.requires in omega (arith, not_yet a.path.now a.n a.t l.k h.2 (omega arith) l.invariant.1 l.invariant.0)
-
-pub overflow_add-k : goal.overflow_add-k
-overflow_add-k c = let l = c.loop-k in record { fits = omega arith }
-
-pub loop-k-smaller : goal.loop-k-smaller
-loop-k-smaller c = let l = c.loop-k in let a = c.args in let h = c.requires in omega (arith, not_yet a.path.now a.n a.t l.k h.2 (omega arith) l.invariant.1 l.invariant.0)
-
-pub loop-k-preserved : goal.loop-k-preserved
-loop-k-preserved c = let l = c.loop-k in let a = c.args in let h = c.requires in (omega (arith, not_yet a.path.now a.n a.t l.k h.2 (omega arith) l.invariant.1 l.invariant.0), below_more _ _ l.invariant.1 c.loop-k-test.true)
-
 pub returns : goal.returns
-returns c = let l = c.loop-k in let a = c.args in let h = c.requires in (not_yet a.path.now a.n a.t l.k h.2 (omega arith) l.invariant.1 l.invariant.0, c.loop-k-test.false)
+returns c =
+    let a = c.args in
+    let h = c.requires in
+    let p : ℕ → Bool = λ u. eqb u a.t in
+    let f = first_is a.path.now a.n a.t h.2 (omega arith) in
+    let inside : position_or_len p a.path.now < length a.path.now = omega (arith, f.0) in
+    let found : position p a.path.now ≡ Some (position_or_len p a.path.now) = grind (arith, common_steps) in
+    let e : c.unwrap_or.result ≡ position_or_len p a.path.now = grind (arith, common_steps) in
+    subst⁻¹ (λ (k : ℕ). (k < a.n) × (get_or a.path.now k 0 ≡ a.t)) e f

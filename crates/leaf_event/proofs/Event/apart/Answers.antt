@@ -8,8 +8,8 @@ use Rattle.leaf_event.proofs.Event.apart.Goals as goal
 
 pub returns-then-w-uses-eq0 : goal.returns-then-w-uses-eq0
 unfolding fields field apart same
-returns-then-w-uses-eq0 c = let k = c.narrow.ensures in (rw (← k, c.if-w-uses-eq0.true), search rules)
+returns-then-w-uses-eq0 c = let k = c.from.ensures in (rw (← k, c.if-w-uses-eq0.true), search rules)
 
 pub returns-else-w-uses-eq0 : goal.returns-else-w-uses-eq0
 unfolding fields field apart
-returns-else-w-uses-eq0 c = let k = c.narrow.ensures in (rw (← k, ne_false _ 0 c.if-w-uses-eq0.false), search rules)
+returns-else-w-uses-eq0 c = let k = c.from.ensures in (rw (← k, ne_false _ 0 c.if-w-uses-eq0.false), search rules)

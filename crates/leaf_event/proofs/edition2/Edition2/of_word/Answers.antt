@@ -9,8 +9,8 @@ use Rattle.leaf_event.proofs.edition2.Edition2.of_word.Goals as goal
 
 pub returns-then-w-uses-eq0 : goal.returns-then-w-uses-eq0
 unfolding fields field
-returns-then-w-uses-eq0 c = passes geometry2 flags2 right2 proper2 c.args.w _ _ (omega arith) c.requires c.narrow.ensures c.if-w-uses-eq0.true
+returns-then-w-uses-eq0 c = passes geometry2 flags2 right2 proper2 c.args.w _ _ (omega arith) c.requires c.from.ensures c.if-w-uses-eq0.true
 
 pub returns-else-w-uses-eq0 : goal.returns-else-w-uses-eq0
 unfolding fields field
-returns-else-w-uses-eq0 c = fails geometry2 flags2 right2 proper2 c.args.w _ _ (omega arith) c.requires c.narrow.ensures c.if-w-uses-eq0.false
+returns-else-w-uses-eq0 c = fails geometry2 flags2 right2 proper2 c.args.w _ _ (omega arith) c.requires c.from.ensures c.if-w-uses-eq0.false
