@@ -3,6 +3,7 @@ use mathlib.Core.Path.{◌≡◌, refl, sym, ap, subst, subst⁻¹, ◌∙◌}
 use mathlib.Core.Bool.{Bool, true, false, not, true≢false}
 use mathlib.Core.Logic.{◌≢◌}
 use mathlib.Core.Option.{Option, none, some}
+use mathlib.Core.List.{List}
 use Prim.Native.Nat.{ℕ, zero, suc, ◌^◌, ◌<◌}
 use native.Mathlib.Omega.{arith}
 use lib.Dec.{eqb-suc-zero}
@@ -24,7 +25,9 @@ use Rattle.event_commit.specs.Settling.{settling}
 use Rattle.leaf_event.specs.Meaning.{meaning, fields_of, InWord}
 use Rattle.leaf_event.specs.declared.Event.{Event as Fields}
 use Rattle.leaf_event.proofs.Meaning.{means_begin, means_lock, means_write, means_read, means_commit, means_abort, means_prepare, means_decide, means_query}
-use Rattle.state_whole.specs.Whole.{Arrays, view, Intact, Stepped, Ready, ReadyLeaf, Reserves}
+use Rattle.state_whole.specs.Whole.{Arrays, arrays, view, Intact, Stepped, Ready, ReadyLeaf, Reserves}
+use Rattle.state_whole.specs.Lain.{arrays_in}
+use Rattle.state_whole.specs.declared.State.{State}
 use Rattle.leaf_event.specs.declared.Answer.{Answer}
 use Rattle.state_whole.proofs.Rules.{begin_down, lock_down, write_down, read_down, commit_down, abort_down, prepare_down, decide_down, query_down, lock_unknown, write_unknown, read_unknown, commit_unknown, abort_unknown, prepare_unknown}
 use Rattle.state_whole.proofs.Steps.{answer, unmoved, up_is, down_is, live_is}
@@ -38,6 +41,14 @@ report_is zero = refl
 report_is (suc v) = ap not (sym (eqb-suc-zero v))
 
 module _ (f : Form) where
+  -- an event's clause speaks of the arrays that it touches: the state after it is that of before but for these
+  pub from_rest : {many places : ℕ} (x : Arrays) (e : Option Event) (a : Answer) (s t : State many places) (work store : List ℕ) → s ≡ t → Stepped f x e a (arrays_in t work store) → Stepped f x e a (arrays_in s work store)
+  from_rest {many = many} {places = places} x e a s t work store q T = subst⁻¹ (λ (s : State many places). Stepped f x e a (arrays_in s work store)) q T
+
+  pub same_up : {many places : ℕ} (x : Arrays) (e : Option Event) (a : Answer) (s : State many places) (up : ℕ) (work store : List ℕ) → s.up ≡ up → Stepped f x e a (arrays up s.parent s.depth s.line s.held s.retained s.writers work store)
+      → Stepped f x e a (arrays_in s work store)
+  same_up x e a s up work store q T = subst⁻¹ (λ (up : ℕ). Stepped f x e a (arrays up s.parent s.depth s.line s.held s.retained s.writers work store)) q T
+
   -- down: 2, whatever else
   down_kinds : (s : StateOf f) (e : Fields) (k : ℕ) → e.kind ≡ k → 0 < k → k < 12 → k ≢ 7 → k ≢ 8 → s.up ≡ false → step f s (meaning e) ≡ record { state = s; answer = refused 2 }
   down_kinds s e zero q h g c r d = absurd (omega arith)

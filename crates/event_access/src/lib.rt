@@ -1,5 +1,5 @@
 // Locks, reads, writes and aborts, in place, over the engine's state (crate state_whole tells what each array holds). Each promises, for every edition, on
-// atomic pages or pages that can tear, what the rules say of its event, and says what it leaves.
+// atomic pages or pages that can tear, and for any content of the arrays that its event doesn't touch, what the rules say of its event, and says what it leaves.
 #![tactic(auto)]
 
 ghost use Rattle.std.specs.Prelude.{◌≡◌, Bool, List, ℕ, ◌+◌, ◌*◌, ◌<◌, ◌≤◌, length, get_or, take, drop};
@@ -10,8 +10,8 @@ ghost use Rattle.leaf_number.specs.Named.{transaction_of, record_of};
 ghost use Rattle.state_array.specs.Changes.{access_when};
 ghost use Rattle.state_array.specs.Kin.{DerivedSets};
 ghost use Rattle.state_version.specs.Parts.{Sources};
-ghost use Rattle.state_whole.specs.Lain.{arrays_in, WellSized};
-ghost use Rattle.state_whole.specs.Whole.{Ready, ReadyLeaf, Reserves, Does};
+ghost use Rattle.state_whole.specs.Lain.{WellSized};
+ghost use Rattle.state_whole.specs.Whole.{arrays, Ready, ReadyLeaf, Reserves, Does};
 
 use leaf_event::outcome::{Done, Refusal};
 use leaf_number::{RecordNumber, TransactionNumber};
@@ -30,9 +30,9 @@ pub fn lock_event<const RECORDS: usize, const PLACES: usize>(
 ) -> Result<Done, Refusal>
     requires sized { WellSized s.old }
     requires named { record_of r < RECORDS }
-    ensures does { (k : Edition) (joint tears : Bool) (identity : ℕ) (work store : List ℕ) →
-        let before = arrays_in s.old work store in
-        let after = arrays_in s.new work store in
+    ensures does { (k : Edition) (joint tears : Bool) (up identity : ℕ) (parent depth writers work store : List ℕ) →
+        let before = arrays up parent depth s.old.line s.old.held s.old.retained writers work store in
+        let after = arrays up parent depth s.old.line s.new.held s.old.retained writers work store in
         let form = form_in tears (geometry_of k) in
         InNumbers k RECORDS joint tears → Reserves tears (geometry_of k) store reserved identity
         → Does form (ReadyLeaf form) before (transaction_of t) (lock (transaction_of t) (record_of r) (access_when reading)) (told_answer result) after }
@@ -63,8 +63,8 @@ pub fn read_event<const RECORDS: usize, const PLACES: usize>(
     requires within { (o < 32) × (at + 32 ≤ length store.now) }
     requires slots { length work.now ≡ 512 * RECORDS }
     requires sources { Sources s.now.parent s.now.depth }
-    ensures { (k : Edition) (tears : Bool) →
-        let before = arrays_in s.now work.now store.now in
+    ensures { (k : Edition) (tears : Bool) (up : ℕ) (line retained : List ℕ) →
+        let before = arrays up s.now.parent s.now.depth line s.now.held retained s.now.writers work.now store.now in
         let form = form_in tears (geometry_of k) in
         take 32 (drop at store.now) ≡ form.medium.home (form.medium.from_bytes store.now) (record_of r)
         → Does form (ReadyLeaf form) before (transaction_of t) (read (transaction_of t) (record_of r) o) (told_answer result) before }
@@ -94,9 +94,9 @@ pub fn write_event<const RECORDS: usize, const PLACES: usize>(
     requires slots { length work.old ≡ 512 * RECORDS }
     requires lives { 0 < get_or s.old.depth (transaction_of t) 0 }
     requires sources { Sources s.old.parent s.old.depth }
-    ensures does { (k : Edition) (tears : Bool) →
-        let before = arrays_in s.old work.old store.now in
-        let after = arrays_in s.new work.new store.now in
+    ensures does { (k : Edition) (tears : Bool) (up : ℕ) (line retained : List ℕ) →
+        let before = arrays up s.old.parent s.old.depth line s.old.held retained s.old.writers work.old store.now in
+        let after = arrays up s.old.parent s.old.depth line s.old.held retained s.new.writers work.new store.now in
         let form = form_in tears (geometry_of k) in
         take 32 (drop at store.now) ≡ form.medium.home (form.medium.from_bytes store.now) (record_of r)
         → Does form (ReadyLeaf form) before (transaction_of t) (write (transaction_of t) (record_of r) o v) (told_answer result) after }
@@ -131,9 +131,9 @@ pub fn abort_event<const RECORDS: usize, const PLACES: usize>(
     requires sized { WellSized s.old }
     requires sources { Sources s.old.parent s.old.depth }
     requires derived_sets { DerivedSets s.old.parent s.old.depth d.old.live d.old.children }
-    ensures does { (k : Edition) (tears : Bool) (work store : List ℕ) →
-        let before = arrays_in s.old work store in
-        let after = arrays_in s.new work store in
+    ensures does { (k : Edition) (tears : Bool) (up : ℕ) (work store : List ℕ) →
+        let before = arrays up s.old.parent s.old.depth s.old.line s.old.held s.old.retained s.old.writers work store in
+        let after = arrays up s.new.parent s.new.depth s.new.line s.new.held s.new.retained s.new.writers work store in
         let form = form_in tears (geometry_of k) in
         Does form (Ready form) before (transaction_of t) (abort (transaction_of t) report) (told_answer result) after }
     ensures derived_sets { DerivedSets s.new.parent s.new.depth d.new.live d.new.children }

@@ -10,7 +10,7 @@ ghost use Rattle.state_array.specs.Kin.{DerivedSets};
 ghost use Rattle.leaf_commit_page.specs.Layout.{Known};
 ghost use Rattle.store_write.specs.Phase.{stride_of};
 ghost use Rattle.state_whole.specs.Lain.{arrays_in, WellSized};
-ghost use Rattle.state_whole.specs.Whole.{Intact, Stepped};
+ghost use Rattle.state_whole.specs.Whole.{arrays, Intact, Stepped};
 
 use leaf_event::outcome::{Done, Refusal};
 use state_whole::{Derived, State};
@@ -68,9 +68,9 @@ pub fn recover_event<
 >(s: &mut State<RECORDS, PLACES>, store: &mut [u8], k: u8) -> Result<Done, Refusal>
     requires known { Known RECORDS × (JOINT ≡ true → RECORDS ≡ 16) }
     requires pages { length store.old ≡ stride_of TEARS * (1 + (RECORDS + RECORDS)) }
-    ensures stepped { (edition : Edition) (work : List ℕ) →
-        let before = arrays_in s.old work store.old in
-        let after = arrays_in s.new work store.new in
+    ensures stepped { (edition : Edition) (parent depth line held retained writers work : List ℕ) →
+        let before = arrays s.old.up parent depth line held retained writers work store.old in
+        let after = arrays s.new.up parent depth line held retained writers work store.new in
         let form = form_in TEARS (geometry_of edition) in
         InNumbers edition RECORDS JOINT TEARS → Intact form before → Stepped form before (some (recover k)) (told_answer result) after }
     ensures rest { s.new ≡ record s.old { up = s.new.up } }

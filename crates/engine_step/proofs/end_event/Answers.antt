@@ -8,7 +8,7 @@ use Rattle.laws.specs.Tests.{same}
 use Rattle.rules.specs.Event.{abort}
 use Rattle.event_commit.specs.Settling.{settling}
 use Rattle.leaf_event.proofs.Meaning.{means_abort}
-use Rattle.engine_step.proofs.ByKind.{report_is, means_settling}
+use Rattle.engine_step.proofs.ByKind.{same_up, report_is, means_settling}
 use Rattle.state_whole.proofs.Reserves.{reserves_same}
 use Rattle.state_whole.proofs.Steps.{retold, sources}
 use Rattle.laws.proofs.Tests.{same-eq}
@@ -27,7 +27,7 @@ unfolding same
 returns-then-kind-eq6-clause-fact g c =
     let q = c.requires.event in
     retold (form_in _ (geometry_of _)) _ _ _ _ _ (means_abort c.args.e c.if-kind-eq6.true ∙ ap₂ (λ (t : ℕ) (w : Bool). some (abort t w)) (sym q.0) (report_is c.args.e.value))
-    (c.abort_event.ensures.does _ _ _ _ c.requires.intact (record { up = c.requires.lives.0; live = c.requires.lives.1 }))
+    (same_up (form_in _ (geometry_of _)) {many = g.row.RECORDS} {places = g.row.PLACES} _ _ _ _ _ _ _ c.abort_event.ensures.rest.0 (c.abort_event.ensures.does _ _ _ _ _ c.requires.intact (record { up = c.requires.lives.0; live = c.requires.lives.1 })))
 
 pub returns-then-kind-eq6-clause-reserves : goal.returns-then-kind-eq6-clause-reserves
 returns-then-kind-eq6-clause-reserves g c =

@@ -6,7 +6,7 @@ use native.Mathlib.Omega.{arith}
 use mathlib.Core.Option.{some}
 use Rattle.rules.specs.Event.{decide}
 use Rattle.leaf_event.proofs.Meaning.{means_bad, means_begin, means_crash, means_recover, means_decide, means_query}
-use Rattle.engine_step.proofs.ByKind.{to_abort, to_commit, down_steps, unknown_steps, keeps, keeps_reserved, decided_whole}
+use Rattle.engine_step.proofs.ByKind.{from_rest, to_abort, to_commit, down_steps, unknown_steps, keeps, keeps_reserved, decided_whole}
 use Rattle.engine_step.proofs.Numbers.{transaction_is, no_transaction}
 use Rattle.state_whole.proofs.Reserves.{reserves_same}
 use Rattle.state_whole.proofs.Steps.{retold, unmoved, sources, not_live_past}
@@ -44,11 +44,11 @@ recover_event-requires g c =
 
 pub returns-then-kind-eq8-clause-fact : goal.returns-then-kind-eq8-clause-fact
 returns-then-kind-eq8-clause-fact g c =
-    keeps _ _ _ _ c.requires.numbers.0 _ _ c.args.e _ c.requires.word.1 c.requires.word.0 c.requires.intact (retold (form_in _ (geometry_of _)) _ _ _ _ _ (means_recover c.args.e c.if-kind-eq8.true) (c.recover_event.ensures.stepped _ _ c.requires.numbers.0 c.requires.intact))
+    keeps _ _ _ _ c.requires.numbers.0 _ _ c.args.e _ c.requires.word.1 c.requires.word.0 c.requires.intact (retold (form_in _ (geometry_of _)) _ _ _ _ _ (means_recover c.args.e c.if-kind-eq8.true) (from_rest (form_in _ (geometry_of _)) _ _ _ _ _ _ _ c.recover_event.ensures.rest (c.recover_event.ensures.stepped _ _ _ _ _ _ _ _ c.requires.numbers.0 c.requires.intact)))
 
 pub returns-then-kind-eq8-clause-reserves : goal.returns-then-kind-eq8-clause-reserves
 returns-then-kind-eq8-clause-reserves g c =
-    keeps_reserved _ _ _ _ c.requires.numbers.0 _ _ c.args.e _ _ _ (λ z. omega arith) (λ z. omega arith) c.requires.intact c.requires.reserves (retold (form_in _ (geometry_of _)) _ _ _ _ _ (means_recover c.args.e c.if-kind-eq8.true) (c.recover_event.ensures.stepped _ _ c.requires.numbers.0 c.requires.intact))
+    keeps_reserved _ _ _ _ c.requires.numbers.0 _ _ c.args.e _ _ _ (λ z. omega arith) (λ z. omega arith) c.requires.intact c.requires.reserves (retold (form_in _ (geometry_of _)) _ _ _ _ _ (means_recover c.args.e c.if-kind-eq8.true) (from_rest (form_in _ (geometry_of _)) _ _ _ _ _ _ _ c.recover_event.ensures.rest (c.recover_event.ensures.stepped _ _ _ _ _ _ _ _ c.requires.numbers.0 c.requires.intact)))
 
 pub returns-then-s-ne1-clause-fact : goal.returns-then-s-ne1-clause-fact
 returns-then-s-ne1-clause-fact g c =
@@ -57,11 +57,12 @@ returns-then-s-ne1-clause-fact g c =
 
 pub begin_event-requires : goal.begin_event-requires
 begin_event-requires g c =
-    (search rules, (well_sized _ _ _ c.requires.numbers.0 _ _ _ c.requires.intact.form c.requires.numbers.1, (c.requires.word.0.transaction, ((sources (form_in _ (geometry_of _)) _ c.requires.intact).shallow, c.requires.derived_sets))))
+    let z = well_sized _ _ _ c.requires.numbers.0 _ _ _ c.requires.intact.form c.requires.numbers.1 in
+    (search rules, ((z.5, z.6, z.7), (c.requires.word.0.transaction, ((sources (form_in _ (geometry_of _)) _ c.requires.intact).shallow, c.requires.derived_sets))))
 
 pub returns-then-kind-eq1-clause-fact : goal.returns-then-kind-eq1-clause-fact
 returns-then-kind-eq1-clause-fact g c =
-    keeps _ _ _ _ c.requires.numbers.0 _ _ c.args.e _ c.requires.word.1 c.requires.word.0 c.requires.intact (retold (form_in _ (geometry_of _)) _ _ _ _ _ (means_begin c.args.e c.if-kind-eq1.true) (c.begin_event.ensures.stepped _ _ _ _ c.requires.intact c.if-s-ne1.false))
+    keeps _ _ _ _ c.requires.numbers.0 _ _ c.args.e _ c.requires.word.1 c.requires.word.0 c.requires.intact (retold (form_in _ (geometry_of _)) _ _ _ _ _ (means_begin c.args.e c.if-kind-eq1.true) (from_rest (form_in _ (geometry_of _)) _ _ _ _ _ _ _ c.begin_event.ensures.rest.0 (c.begin_event.ensures.stepped _ _ _ _ _ _ _ _ c.requires.intact c.if-s-ne1.false)))
 
 pub decide_event-requires : goal.decide_event-requires
 decide_event-requires g c =

@@ -29,7 +29,7 @@ returns-clause-does g c =
     let w = c.args.report in
     let e = c.free_numbers.ensures in
     let f = c.discard.ensures in
-    λ k tears work store I R. numbered (form_in tears (geometry_of k)) _ _ _ (λ t r. abort t w) (Ready (form_in tears (geometry_of k))) _ _ 0 0 number.ensures.0 refl (λ R. abort_steps_of (form_in tears (geometry_of k)) _ (sym c.requires.sized.4 ∙ I.form.writerss) _ I _ _ w R c.descendants-gone.ensures _ _ _ _ _ _ _ c.inherit_on_abort.ensures e.0 e.1 e.2 f.0 f.1 f.2) R
+    λ k tears up work store I R. numbered (form_in tears (geometry_of k)) _ _ _ (λ t r. abort t w) (Ready (form_in tears (geometry_of k))) _ _ 0 0 number.ensures.0 refl (λ R. abort_steps_of (form_in tears (geometry_of k)) _ (sym c.requires.sized.4 ∙ I.form.writerss) _ I _ _ w R c.descendants-gone.ensures _ _ _ _ _ _ _ c.inherit_on_abort.ensures e.0 e.1 e.2 f.0 f.1 f.2) R
 
 pub returns-clause-derived_sets : goal.returns-clause-derived_sets
 unfolding under less

@@ -9,21 +9,21 @@ use Rattle.event_access.proofs.lock_event.Goals as goal
 
 pub returns-then-names-clause-does : goal.returns-then-names-clause-does
 returns-then-names-clause-does g c =
-    λ k joint tears identity work store N H I R.
+    λ k joint tears up identity parent depth writers work store N H I R.
     let a = c.args in
     let is = is_reserved_lem tears (geometry_of k) _ _ identity _ N.many H _ _ _ c.number.ensures.0 c.requires.named c.names.ensures in
     reserved_refuses tears (geometry_of k) _ I (transaction_of a.t) (record_of a.r) (access_when a.reading) R (is ∙ c.if-names.true)
 
 pub returns-then-lock-clause-does : goal.returns-then-lock-clause-does
 returns-then-lock-clause-does g c =
-    λ k joint tears identity work store N H I R.
+    λ k joint tears up identity parent depth writers work store N H I R.
     let a = c.args in
     let is = is_reserved_lem tears (geometry_of k) _ _ identity _ N.many H _ _ _ c.number.ensures.0 c.requires.named c.names.ensures in
     lock_steps (form_in tears (geometry_of k)) _ I (access_when a.reading) (transaction_of a.t) (record_of a.r) R (is ∙ c.if-names.false) _ _ c.lock.ensures c.if-lock.true
 
 pub returns-clause-does : goal.returns-clause-does
 returns-clause-does g c =
-    λ k joint tears identity work store N H I R.
+    λ k joint tears up identity parent depth writers work store N H I R.
     let a = c.args in
     let is = is_reserved_lem tears (geometry_of k) _ _ identity _ N.many H _ _ _ c.number.ensures.0 c.requires.named c.names.ensures in
     lock_refuses (form_in tears (geometry_of k)) _ I (access_when a.reading) (transaction_of a.t) (record_of a.r) R (is ∙ c.if-names.false) _ _ c.lock.ensures c.if-lock.false

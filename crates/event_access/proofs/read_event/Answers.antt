@@ -7,12 +7,12 @@ use Rattle.event_access.proofs.read_event.Goals as goal
 
 pub returns-then-holds : goal.returns-then-holds
 returns-then-holds g c =
-    λ k tears h I R.
+    λ k tears up line retained h I R.
     let a = c.args in
     read_steps (form_in tears (geometry_of k)) _ I (transaction_of a.t) (record_of a.r) a.o _ _ h R (sym c.holds.ensures ∙ c.if-holds.true) c.read-read.ensures
 
 pub returns : goal.returns
 returns g c =
-    λ k tears h I R.
+    λ k tears up line retained h I R.
     let a = c.args in
     read_refuses (form_in tears (geometry_of k)) _ I (transaction_of a.t) (record_of a.r) a.o R (sym c.holds.ensures ∙ c.if-holds.false)

@@ -17,27 +17,27 @@ use Rattle.event_begin.proofs.begin_event.Goals as goal
 pub begin_under-requires : goal.begin_under-requires
 begin_under-requires g c =
     let z = c.requires.sized in
-    let deep = z.6 in
-    let long = z.7 in
+    let deep = z.1 in
+    let long = z.2 in
     let above = fun_ext (λ k. bits-zero k ∙ sym (sets_past c.args.s.now.line 31 k (omega (arith, long)))) in
     (search rules, (z, ((search rules, sym (get_or-eq_default c.args.s.now.depth 0 {n = 31} (omega (arith, deep))), above, λ z. refl, omega arith), c.requires.derived_sets)))
 
 pub returns-then-p-eq31-clause-stepped : goal.returns-then-p-eq31-clause-stepped
 returns-then-p-eq31-clause-stepped g c =
-    λ k tears work store I u. retold (form_in tears (geometry_of k)) _ _ _ _ _ (ap (λ (p : ℕ). some (begin p)) c.if-p-eq31.true) (c.begin_under.ensures.stepped k tears work store I u)
+    λ k tears up held retained writers work store I u. retold (form_in tears (geometry_of k)) _ _ _ _ _ (ap (λ (p : ℕ). some (begin p)) c.if-p-eq31.true) (c.begin_under.ensures.stepped k tears up held retained writers work store I u)
 
 pub returns-then-p-ge24-clause-stepped : goal.returns-then-p-ge24-clause-stepped
 returns-then-p-ge24-clause-stepped g c =
-    let deep = c.requires.sized.6 in
-    λ k tears work store I u. begin_refuses_5 (form_in tears (geometry_of k)) _ I u c.args.p c.if-p-eq31.false (get_or-eq_default c.args.s.now.depth 0 {n = c.args.p} (omega (arith, deep)))
+    let deep = c.requires.sized.1 in
+    λ k tears up held retained writers work store I u. begin_refuses_5 (form_in tears (geometry_of k)) _ I u c.args.p c.if-p-eq31.false (get_or-eq_default c.args.s.now.depth 0 {n = c.args.p} (omega (arith, deep)))
 
 pub returns-then-level-eq0-clause-stepped : goal.returns-then-level-eq0-clause-stepped
 returns-then-level-eq0-clause-stepped g c =
-    λ k tears work store I u. begin_refuses_5 (form_in tears (geometry_of k)) _ I u c.args.p c.if-p-eq31.false c.if-level-eq0.true
+    λ k tears up held retained writers work store I u. begin_refuses_5 (form_in tears (geometry_of k)) _ I u c.args.p c.if-p-eq31.false c.if-level-eq0.true
 
 pub returns-then-level-eq-DEPTH_LIMIT-clause-stepped : goal.returns-then-level-eq-DEPTH_LIMIT-clause-stepped
 returns-then-level-eq-DEPTH_LIMIT-clause-stepped g c =
-    λ k tears work store I u. begin_refuses_6 (form_in tears (geometry_of k)) _ I u c.args.p c.if-level-eq-DEPTH_LIMIT.true
+    λ k tears up held retained writers work store I u. begin_refuses_6 (form_in tears (geometry_of k)) _ I u c.args.p c.if-level-eq-DEPTH_LIMIT.true
 
 pub begin_under-requires-2 : goal.begin_under-requires-2
 unfolding sets

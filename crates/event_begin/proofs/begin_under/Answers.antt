@@ -7,7 +7,7 @@ use Rattle.event_begin.proofs.begin_under.Goals as goal
 
 pub returns-then-f-eq24-clause-stepped : goal.returns-then-f-eq24-clause-stepped
 returns-then-f-eq24-clause-stepped g c =
-    λ k tears work store I u. let a = c.args in let depth_at = c.requires.parent.1 in full_steps (form_in tears (geometry_of k)) _ I u a.p _ a.above (omega arith) (named_of (form_in tears (geometry_of k)) _ a.p a.level c.requires.parent.1 c.requires.parent.3) (kin_lowest _ _ _ _ _ c.requires.derived_sets c.first_free-f.ensures) c.requires.parent.2 c.if-f-eq24.true
+    λ k tears up held retained writers work store I u. let a = c.args in let depth_at = c.requires.parent.1 in full_steps (form_in tears (geometry_of k)) _ I u a.p _ a.above (omega arith) (named_of (form_in tears (geometry_of k)) _ a.p a.level c.requires.parent.1 c.requires.parent.3) (kin_lowest _ _ _ _ _ c.requires.derived_sets c.first_free-f.ensures) c.requires.parent.2 c.if-f-eq24.true
 
 pub give_number-requires : goal.give_number-requires
 give_number-requires g c =
@@ -24,7 +24,7 @@ returns-clause-stepped g c =
     let a = c.args in
     let e = c.give_number.ensures in
     let q = kin_lowest _ _ _ _ _ c.requires.derived_sets c.first_free-f.ensures in
-    λ k tears work store I u. begin_placed (form_in tears (geometry_of k)) _ I u a.p a.level _ a.above (omega arith) c.requires.parent.1 c.requires.parent.3 q c.requires.parent.2 c.if-f-eq24.false _ _ _ e.0 e.1 e.2
+    λ k tears up held retained writers work store I u. begin_placed (form_in tears (geometry_of k)) _ I u a.p a.level _ a.above (omega arith) c.requires.parent.1 c.requires.parent.3 q c.requires.parent.2 c.if-f-eq24.false _ _ _ e.0 e.1 e.2
 
 pub returns-clause-derived_sets : goal.returns-clause-derived_sets
 returns-clause-derived_sets g c =
@@ -32,4 +32,4 @@ returns-clause-derived_sets g c =
     let e = c.give_number.ensures in
     let f = c.add_child.ensures in
     let q = kin_lowest _ _ _ _ _ c.requires.derived_sets c.first_free-f.ensures in
-    begin_kin (form_of first) _ _ _ _ _ _ _ _ _ _ a.level c.requires.derived_sets c.requires.sized.5 c.requires.sized.6 q c.if-f-eq24.false c.requires.parent.4 e.0 e.1 f.0 f.1
+    begin_kin (form_of first) _ _ _ _ _ _ _ _ _ _ a.level c.requires.derived_sets c.requires.sized.0 c.requires.sized.1 q c.if-f-eq24.false c.requires.parent.4 e.0 e.1 f.0 f.1
