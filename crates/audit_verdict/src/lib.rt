@@ -127,7 +127,11 @@ fn two_phase(events: &[u8], n: usize) -> bool
     requires { (n ≤ 4096) × (4 * n ≤ length events.now) }
     ensures { result ≡ some_two_phase geometry1 (words geometry1 n events.now) }
 {
-    (0..n).any(|k| is_two_phase(Event::word_at(events, k)))
+    // A fold, and no `any`: without a way out it compiles to steps of several events.
+    (0..n).fold(
+        false,
+        |met, k| met | is_two_phase(Event::word_at(events, k)),
+    )
 }
 
 // A transaction is prepared in a store.
